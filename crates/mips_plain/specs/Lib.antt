@@ -1,0 +1,4 @@
+pub mod Memory
+pub mod Instruction
+pub mod Machine
+pub mod Follows
