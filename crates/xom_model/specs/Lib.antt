@@ -1,0 +1,6 @@
+pub mod State
+pub mod Guest
+pub mod Operation
+pub mod Event
+pub mod Install
+pub mod Holds
