@@ -9,5 +9,5 @@ mod table;
 mod tests;
 
 pub use mask::{owns, with_cell, without_cell};
-pub use session::{Session, SlotState};
+pub use session::{Session, SlotState, SlotView};
 pub use table::{SLOTS, Table};

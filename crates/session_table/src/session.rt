@@ -45,6 +45,27 @@ pub struct Session {
     pub state: SlotState,
 }
 
+/// What a kernel is told of a slot: no key, and not where the guest stands.
+#[derive(Clone, Copy)]
+pub struct SlotView {
+    /// Where the guest stands.
+    pub state: SlotState,
+    /// The number of its install, 0 for a free slot.
+    pub install: u64,
+    /// Whose image it runs.
+    pub id: ImageId,
+    /// The address of its first instruction.
+    pub entry: u32,
+    /// How many lines of 32 bytes its image has.
+    pub lines: u32,
+    /// The cells that it owns: bit r is cell r.
+    pub mask: u64,
+    /// How often it left and came back.
+    pub epoch: u64,
+    /// Whether a signal can be delivered to it.
+    pub signal_ready: bool,
+}
+
 impl SlotState {
     /// Whether the slot holds a guest that may run on.
     pub fn is_live(&self) -> bool
@@ -55,9 +76,7 @@ impl SlotState {
             SlotState::Fresh | SlotState::Running | SlotState::Paused
         )
     }
-}
 
-impl SlotState {
     /// Whether the slot's guest is the one that runs.
     pub fn is_running(&self) -> bool
         ensures { result ≡ is_running self.now }

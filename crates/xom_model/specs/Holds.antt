@@ -21,7 +21,7 @@ use Rattle.xom_model.specs.Install.{lines_of}
 
 -- the recorded steps of an install are those of the plain machine over this owner's image, which is then in state p
 pub record FollowsAlone (owners : List Owner) (entries : List Entry) (install : ℕ) (id : ImageId) (owner : Owner) (p : State) : Type 0 where
-  pub owner : owner_of owners id ≡ Some owner
+  pub whose : owner_of owners id ≡ Some owner
   pub reaches : Reaches (start owner.plain) (steps_of install entries) p
 
 -- an owner and a state of the plain machine are found for an install

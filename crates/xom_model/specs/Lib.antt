@@ -4,3 +4,5 @@ pub mod Operation
 pub mod Event
 pub mod Install
 pub mod Holds
+pub mod Seen
+pub mod Run
