@@ -39,7 +39,7 @@ pub record Owes (owners : List Owner) (core new : CoreState) (slot : ℕ) : Type
   pub memory_places : length new.memories ≡ 17
 
 -- the same steps follow the same program
-FollowsAlone-same : (owners : List Owner) (old new : List Entry) (install : ℕ) (id : ImageId) (owner : Owner) (p : State) → steps_of install new ≡ steps_of install old → FollowsAlone owners old install id owner p → FollowsAlone owners new install id owner p
+pub FollowsAlone-same : (owners : List Owner) (old new : List Entry) (install : ℕ) (id : ImageId) (owner : Owner) (p : State) → steps_of install new ≡ steps_of install old → FollowsAlone owners old install id owner p → FollowsAlone owners new install id owner p
 FollowsAlone-same owners old new install id owner p same alone = record {
   whose = alone.whose;
   reaches = subst (λ steps. Reaches (start owner.plain) steps p) (sym same) alone.reaches;
@@ -50,7 +50,7 @@ IsAlone-same owners old new install id same alone =
     (alone.0, alone.1, FollowsAlone-same owners old new install id alone.0 alone.1 same alone.2)
 
 -- a slot whose session, memory, cells and steps are as they were agrees as it did
-Agrees-same : (core new : CoreState) (slot : ℕ) (owner : Owner) (p : State)
+pub Agrees-same : (core new : CoreState) (slot : ℕ) (owner : Owner) (p : State)
   → session_of new slot ≡ session_of core slot
   → memory_of new slot ≡ memory_of core slot
   → ((reg : ℕ) → 1 ≤ reg → reg < 34 → (cell_at new.cells reg).tag ≡ slot → cell_at new.cells reg ≡ cell_at core.cells reg)
@@ -68,6 +68,7 @@ Agrees-same core new slot owner p session memory cell steps agrees = record {
   cells = λ reg some known tag.
       let same = cell reg some known tag in
       agrees.cells reg some known (sym (ap (λ c. c.tag) same) ∙ tag) ∙ ap (λ c. Own c.value) (sym same);
+  places = agrees.places;
   memory = memory ∙ agrees.memory;
 }
 

@@ -53,6 +53,7 @@ pub record Agrees (core : CoreState) (slot : ℕ) (owner : Owner) (p : State) : 
   -- registers: the mask is what the program owns, and a cell with the slot's tag has the program's value
   pub mask : (reg : ℕ) → 1 ≤ reg → reg < 34 → bit_at (session_of core slot).mask reg ≡ own_bit (plain_cell p.cells reg)
   pub cells : (reg : ℕ) → 1 ≤ reg → reg < 34 → (cell_at core.cells reg).tag ≡ slot → plain_cell p.cells reg ≡ Own (cell_at core.cells reg).value
+  pub places : length p.cells ≡ 34
   -- private memory
   pub memory : memory_of core slot ≡ p.bytes
 
