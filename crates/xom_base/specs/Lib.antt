@@ -1,1 +1,3 @@
 pub mod Padded
+pub mod Steps
+pub mod Entries

@@ -1,4 +1,4 @@
-ghost use Rattle.std.specs.Prelude.{◌≡◌, ◌≤◌, ◌<◌, length};
+ghost use Rattle.std.specs.Prelude.{◌≡◌, ◌≤◌, ◌<◌, ◌==◌, length};
 ghost use Rattle.xom_base.specs.Padded.{filled};
 
 use std::marker::Model;
@@ -46,6 +46,21 @@ impl<const N: usize> Payload<N> {
             bytes: block,
             len: len as u16,
         }
+    }
+
+    /// How many bytes there are.
+    pub fn len(&self) -> usize
+        ensures value { result ≡ length self.now }
+        ensures room { result ≤ N }
+    {
+        usize::from(self.len)
+    }
+
+    /// Whether there is none.
+    pub fn is_empty(&self) -> bool
+        ensures { result ≡ (length self.now == 0) }
+    {
+        self.len == 0
     }
 
     /// The bytes again.

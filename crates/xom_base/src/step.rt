@@ -1,4 +1,5 @@
 ghost use Rattle.std.specs.Prelude.{◌≡◌, ◌↔◌, IsTrue};
+ghost use Rattle.xom_base.specs.Steps.{same_step, same_writes, same_stored, same_received, same_released, same_end};
 
 /// The cells that an instruction writes. HI is cell 32 and LO is cell 33.
 #[derive(Clone, Copy)]
@@ -67,8 +68,10 @@ pub struct Step {
 }
 
 /// Whether two steps are the same in every field.
+#[tactic(auto, unfolding(crate::specs::Steps::same_step))]
 pub fn step_eq(a: &Step, b: &Step) -> bool
-    ensures { IsTrue result ↔ (a.now ≡ b.now) }
+    ensures same { IsTrue result ↔ (a.now ≡ b.now) }
+    ensures value { result ≡ same_step a.now b.now }
 {
     a.pc == b.pc
         && a.npc == b.npc
@@ -80,7 +83,8 @@ pub fn step_eq(a: &Step, b: &Step) -> bool
 }
 
 fn writes_eq(a: Writes, b: Writes) -> bool
-    ensures { IsTrue result ↔ (a ≡ b) }
+    ensures same { IsTrue result ↔ (a ≡ b) }
+    ensures value { result ≡ same_writes a b }
 {
     match (a, b) {
         (Writes::Nothing, Writes::Nothing) => true,
@@ -91,7 +95,8 @@ fn writes_eq(a: Writes, b: Writes) -> bool
 }
 
 fn stored_eq(a: Stored, b: Stored) -> bool
-    ensures { IsTrue result ↔ (a ≡ b) }
+    ensures same { IsTrue result ↔ (a ≡ b) }
+    ensures value { result ≡ same_stored a b }
 {
     match (a, b) {
         (Stored::Nothing, Stored::Nothing) => true,
@@ -112,7 +117,8 @@ fn stored_eq(a: Stored, b: Stored) -> bool
 }
 
 fn received_eq(a: Received, b: Received) -> bool
-    ensures { IsTrue result ↔ (a ≡ b) }
+    ensures same { IsTrue result ↔ (a ≡ b) }
+    ensures value { result ≡ same_received a b }
 {
     match (a, b) {
         (Received::Nothing, Received::Nothing) => true,
@@ -133,7 +139,8 @@ fn received_eq(a: Received, b: Received) -> bool
 }
 
 fn released_eq(a: Released, b: Released) -> bool
-    ensures { IsTrue result ↔ (a ≡ b) }
+    ensures same { IsTrue result ↔ (a ≡ b) }
+    ensures value { result ≡ same_released a b }
 {
     match (a, b) {
         (Released::Nothing, Released::Nothing) => true,
@@ -155,7 +162,8 @@ fn released_eq(a: Released, b: Released) -> bool
 }
 
 fn end_eq(a: StepEnd, b: StepEnd) -> bool
-    ensures { IsTrue result ↔ (a ≡ b) }
+    ensures same { IsTrue result ↔ (a ≡ b) }
+    ensures value { result ≡ same_end a b }
 {
     match (a, b) {
         (StepEnd::Goes, StepEnd::Goes) => true,

@@ -1,0 +1,91 @@
+-- The plain machine: a program run alone, with nothing around it. There are no tags, keys, lines, pages or kernel in it.
+use Rattle.std.specs.Prelude.{ℕ, ◌+◌, ◌==◌, Bool, true, false, List, Result, Ok, Err, replicate, slice_set, slice_index_or, if◌then◌else◌}
+use Rattle.xom_base.specs.Padded.{filled}
+use Rattle.xom_base.specs.declared.event.OwnFault.{OwnFault}
+use Rattle.xom_base.specs.declared.image.PlainImage.{PlainImage}
+use Rattle.xom_base.specs.declared.step.Writes.{Writes}
+use Rattle.xom_base.specs.declared.step.Writes.TheVariants as writes
+use Rattle.xom_base.specs.declared.step.Released.{Released}
+use Rattle.xom_base.specs.declared.step.Released.TheVariants as released
+use Rattle.xom_base.specs.declared.step.StepEnd.{StepEnd}
+use Rattle.xom_base.specs.declared.step.StepEnd.TheVariants as ended
+use Rattle.xom_base.specs.declared.step.Step.{Step}
+use Rattle.mips_effect.specs.declared.effects.Effect.{Effect}
+use Rattle.mips_effect.specs.declared.seen.Seen.{Seen}
+use Rattle.mips_effect.specs.declared.seen.Seen.TheVariants.{Value, Foreign}
+use Rattle.mips_plain.specs.declared.cell.PlainCell.{PlainCell}
+use Rattle.mips_plain.specs.declared.cell.PlainCell.TheVariants.{Own, Lent}
+use Rattle.mips_plain.specs.declared.given.Given.{Given}
+use Rattle.mips_plain.specs.declared.given.Given.TheVariants as given
+use Rattle.mips_plain.specs.declared.given.PlainStep.{PlainStep}
+use Rattle.mips_plain.specs.declared.given.PlainStep.TheVariants.{Did, Fault, Unfit, Over}
+use Rattle.mips_plain.specs.Memory.{private_size, stored_in}
+use Rattle.mips_plain.specs.Instruction.{fetched, tried, receives, step_made}
+
+-- the whole state. Cells have 34 places: $1 to $31, HI at 32 and LO at 33; place 0 isn't used
+pub record State : Type 0 where
+  pub cells : List PlainCell
+  pub pc : ℕ
+  pub npc : ℕ
+  pub bytes : List ℕ
+  pub over : Bool
+
+-- an image's program before its first step
+unfoldable pub start : PlainImage → State
+start image = record { cells = replicate 34 Lent; pc = image.entry; npc = image.entry + 4; bytes = filled private_size image.bytes; over = false }
+
+-- the cell of a register
+abbrev pub cell_at : List PlainCell → ℕ → PlainCell
+cell_at cells reg = slice_index_or cells reg Lent
+
+-- what the program sees in a cell; $0 is zero
+abbrev pub seen_in : PlainCell → Seen
+seen_in (Own value) = Value value
+seen_in Lent = Foreign
+
+abbrev pub seen : List PlainCell → ℕ → Seen
+seen cells reg = if reg == 0 then Value 0 else seen_in (cell_at cells reg)
+
+-- a written cell is owned
+abbrev pub owned : List PlainCell → Writes → List PlainCell
+owned cells writes.Nothing = cells
+owned cells (writes.One reg value) = slice_set cells reg (Own value)
+owned cells (writes.Pair hi lo) = slice_set (slice_set cells 32 (Own hi)) 33 (Own lo)
+
+-- a released cell is lent
+abbrev pub lent : List PlainCell → Released → List PlainCell
+lent cells released.Nothing = cells
+lent cells (released.Cell reg value) = slice_set cells reg Lent
+lent cells (released.Null address value) = cells
+
+abbrev pub is_exit : StepEnd → Bool
+is_exit ended.Exit = true
+is_exit other = false
+
+-- the state after a step of this effect
+abbrev pub stepped : State → Effect → Step → State
+stepped s effect step = record {
+  cells = lent (owned s.cells step.writes) step.released;
+  pc = effect.pc;
+  npc = effect.npc;
+  bytes = stored_in s.bytes step.stored;
+  over = is_exit step.end;
+}
+
+-- the step of an effect is done, where a value was received
+abbrev pub did : State → Effect → ℕ → PlainStep × State
+did s effect got = (Did (step_made s.pc s.npc effect s.bytes got), stepped s effect (step_made s.pc s.npc effect s.bytes got))
+
+-- an own fault comes before what is given is looked at, but for a signal; what is given has to fit
+abbrev pub answered : State → Given → Result Effect OwnFault → PlainStep × State
+answered s (given.Signal n) result = (Unfit, s)
+answered s given.Nothing (Err fault) = (Fault fault, s)
+answered s given.Nothing (Ok effect) = if receives effect.wish then (Unfit, s) else did s effect 0
+answered s (given.Value value) (Err fault) = (Fault fault, s)
+answered s (given.Value value) (Ok effect) = if receives effect.wish then did s effect value else (Unfit, s)
+
+-- one step of the plain machine, given a value, a signal or nothing. No handler can be set yet, so no signal fits
+unfoldable pub plain : State → Given → PlainStep × State
+plain s given =
+    if s.over then (Over, s)
+    else answered s given (tried (seen s.cells) (fetched s.bytes s.pc) s.pc s.npc)

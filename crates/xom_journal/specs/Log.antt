@@ -1,0 +1,19 @@
+-- The journal as a list of entries, with a number of bytes that are spare for more.
+use Rattle.std.specs.Prelude.{ℕ, ◌+◌, ◌-◌, ◌≤◌, List, [], ◌∷◌, ◌++◌, length}
+use Rattle.xom_base.specs.declared.entry.Entry.{Entry}
+use Rattle.xom_base.specs.declared.entry.Entry.TheVariants.{Install, Step, Trap, Seal, Accept, Hash, Stop, Kill, Out}
+
+pub record Log : Type 0 where
+  pub entries : List Entry
+  pub spare : ℕ
+
+-- what an entry costs: its payload bytes, where a digest has 32, and 48 more
+abbrev pub cost : Entry → ℕ
+cost (Seal key message) = 48 + (length key + length message)
+cost (Accept key message place) = 48 + (length key + length message)
+cost (Hash preimage digest) = 48 + (length preimage + 32)
+cost entry = 48
+
+-- the journal with one more entry
+abbrev pub logged : Log → Entry → Log
+logged log entry = record { entries = log.entries ++ entry ∷ []; spare = log.spare - cost entry }

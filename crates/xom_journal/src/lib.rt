@@ -1,0 +1,11 @@
+//! The journal: the machine's one record of what it did, entry by entry.
+//!
+//! Contracts see a list of entries and a number of spare bytes. Room is made by `reserve`, which
+//! may want memory; `push` then can't fail.
+#![tactic(auto)]
+
+mod journal;
+#[cfg(test)]
+mod tests;
+
+pub use journal::{Journal, cost};

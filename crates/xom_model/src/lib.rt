@@ -1,0 +1,9 @@
+//! The machine in definitions: its record, its events, and what it keeps of every guest.
+//!
+//! There is no code here but laws: functions with no parameters, whose contracts are facts about
+//! the definitions.
+#![tactic(auto)]
+
+mod laws;
+
+pub use laws::power_on_holds;
