@@ -1,9 +1,9 @@
 -- The reading of a word is the grammar, both ways.
-use Rattle.std.proofs.Common.{◌≡◌, ℕ, ◌+◌, ◌^◌, ◌<◌, ◌≤◌, ◌==◌, ◌&&◌, not, Bool, true, false, Option, Some, None, IfSome, IsNone, cond, refl, sym, ◌∙◌, arith}
+use Rattle.std.proofs.Common.{◌≡◌, ℕ, ◌+◌, ◌^◌, ◌<◌, ◌≤◌, ◌==◌, ◌&&◌, not, Bool, true, false, Option, Some, None, IfSome, IsNone, cond, refl, sym, ◌∙◌, lit<, arith}
 use Rattle.std.proofs.lemmas.Bool.{cond_both, eqb-true, eqb-false, and_parts, ne_eqb, not-true}
 use Rattle.mips_isa.specs.declared.instruction.Ins.{Ins}
-use Rattle.mips_isa.specs.declared.instruction.Ins.TheVariants.{Sll, Addu, Beq, Addiu, Ori, Lui, Lw, Sw, Syscall, Xmvtn, Xmvfn, Xexit}
-use Rattle.mips_isa.specs.Words.{r_word, i_word, c_word, IsMoved, Fits, Word, IsReserved, op_of, rs_of, rt_of, rd_of, sa_of, function_of, imm_of, code_of, row, read, special_of, compartment_of, immediate_of}
+use Rattle.mips_isa.specs.declared.instruction.Ins.TheVariants.{Sll, Srl, Sra, Sllv, Srlv, Srav, Jr, Jalr, Syscall, Break, Mfhi, Mthi, Mflo, Mtlo, Mult, Multu, Div, Divu, Add, Addu, Sub, Subu, And, Or, Xor, Nor, Slt, Sltu, Bltz, Bgez, Bltzal, Bgezal, J, Jal, Beq, Bne, Blez, Bgtz, Addi, Addiu, Slti, Sltiu, Andi, Ori, Xori, Lui, Lb, Lh, Lwl, Lw, Lbu, Lhu, Lwr, Sb, Sh, Swl, Sw, Swr, Xlwn, Xswn, Xmvtn, Xmvfn, Xexit, Xhand, Xsigret, Xinstall, Xenter, Xresume, Xsave, Xrestore, Xmap, Xunmap, Xkill, Xout, Xhalt, Xstat, Xcause, Xarg, Xwho}
+use Rattle.mips_isa.specs.Words.{r_word, i_word, j_word, c_word, IsMoved, Fits, Word, IsReserved, op_of, rs_of, rt_of, rd_of, sa_of, function_of, imm_of, code_of, index_of, row, read, special_of, branch_of, compartment_of, immediate_of}
 
 -- ---- From the instruction to its reading
 
@@ -38,14 +38,41 @@ read-compartment w rs rt rd sa function rs_fits rt_fits rd_fits sa_fits function
     let function_is : function_of w ≡ function = omega arith in
     rw (op_is, rs_is, rt_is, rd_is, sa_is, function_is) refl
 
-pub read-immediate : (w op rs rt imm : ℕ) → (op == 0) ≡ false → (op == 18) ≡ false → rs < 32 → rt < 32 → imm < 2 ^ 16 → w ≡ i_word op rs rt imm → read w ≡ immediate_of op rs rt imm
+pub read-branch : (w rs rt imm : ℕ) → rs < 32 → rt < 32 → imm < 2 ^ 16 → w ≡ i_word 1 rs rt imm → read w ≡ branch_of rs rt imm
 unfolding read
-read-immediate w op rs rt imm not_special not_compartment rs_fits rt_fits imm_fits is =
+read-branch w rs rt imm rs_fits rt_fits imm_fits is =
+    let op_is : op_of w ≡ 1 = omega arith in
+    let rs_is : rs_of w ≡ rs = omega arith in
+    let rt_is : rt_of w ≡ rt = omega arith in
+    let imm_is : imm_of w ≡ imm = omega arith in
+    rw (op_is, rs_is, rt_is, imm_is) refl
+
+read-j : (w index : ℕ) → index < 2 ^ 26 → w ≡ j_word 2 index → read w ≡ Some (J index)
+unfolding read
+read-j w index index_fits is =
+    let op_is : op_of w ≡ 2 = omega arith in
+    let index_is : index_of w ≡ index = omega arith in
+    rw (op_is, index_is) refl
+
+read-jal : (w index : ℕ) → index < 2 ^ 26 → w ≡ j_word 3 index → read w ≡ Some (Jal index)
+unfolding read
+read-jal w index index_fits is =
+    let op_is : op_of w ≡ 3 = omega arith in
+    let index_is : index_of w ≡ index = omega arith in
+    rw (op_is, index_is) refl
+
+-- an op that has no table of its own
+abbrev IsPlain : ℕ → Type 0
+IsPlain op = ((op == 0) ≡ false) × ((op == 1) ≡ false) × ((op == 2) ≡ false) × ((op == 3) ≡ false) × ((op == 18) ≡ false)
+
+pub read-immediate : (w op rs rt imm : ℕ) → IsPlain op → rs < 32 → rt < 32 → imm < 2 ^ 16 → w ≡ i_word op rs rt imm → read w ≡ immediate_of op rs rt imm
+unfolding read
+read-immediate w op rs rt imm plain rs_fits rt_fits imm_fits is =
     let op_is : op_of w ≡ op = omega arith in
     let rs_is : rs_of w ≡ rs = omega arith in
     let rt_is : rt_of w ≡ rt = omega arith in
     let imm_is : imm_of w ≡ imm = omega arith in
-    rw (op_is, rs_is, rt_is, imm_is, not_special, not_compartment) refl
+    rw (op_is, rs_is, rt_is, imm_is, plain.0, plain.1, plain.2, plain.3, plain.4) refl
 
 -- a register that is moved over the border isn't $0
 moved : (reg : ℕ) → IsMoved reg → (reg == 0) ≡ false
@@ -53,21 +80,86 @@ moved reg is = ne_eqb reg 0 (omega arith)
 
 -- each instruction is read from its word
 pub Word-read : (i : Ins) (w : ℕ) → Word i w → read w ≡ Some i
-unfolding special_of compartment_of immediate_of
-Word-read (Sll rd rt sa) w is = read-special w 0 rt rd sa 0 (omega arith) (omega arith) (omega arith) (omega arith) (omega arith) is.word
-Word-read (Addu rd rs rt) w is = read-special w rs rt rd 0 33 (omega arith) (omega arith) (omega arith) (omega arith) (omega arith) is.word
-Word-read (Beq rs rt imm) w is = read-immediate w 4 rs rt imm refl refl (omega arith) (omega arith) (omega arith) is.word
-Word-read (Addiu rt rs imm) w is = read-immediate w 9 rs rt imm refl refl (omega arith) (omega arith) (omega arith) is.word
-Word-read (Ori rt rs imm) w is = read-immediate w 13 rs rt imm refl refl (omega arith) (omega arith) (omega arith) is.word
-Word-read (Lui rt imm) w is = read-immediate w 15 0 rt imm refl refl (omega arith) (omega arith) (omega arith) is.word
-Word-read (Lw rt imm rs) w is = read-immediate w 35 rs rt imm refl refl (omega arith) (omega arith) (omega arith) is.word
-Word-read (Sw rt imm rs) w is = read-immediate w 43 rs rt imm refl refl (omega arith) (omega arith) (omega arith) is.word
-Word-read (Syscall code) w is = read-code w code 12 (omega arith) (omega arith) is.word
-Word-read (Xmvtn rs) w is =
-    read-compartment w rs 0 0 0 1 (omega arith) (omega arith) (omega arith) (omega arith) (omega arith) is.word ∙ rw (moved rs is.fits) refl
-Word-read (Xmvfn rd rs) w is =
-    read-compartment w rs 0 rd 0 2 (omega arith) (omega arith) (omega arith) (omega arith) (omega arith) is.word ∙ rw (moved rs is.fits.1, moved rd is.fits.0) refl
-Word-read Xexit w is = read-compartment w 0 0 0 0 3 (omega arith) (omega arith) (omega arith) (omega arith) (omega arith) is.word
+unfolding special_of branch_of compartment_of immediate_of
+Word-read (Sll rd rt sa) w is = read-special w 0 rt rd sa 0 (lit< tt) is.fits.1 is.fits.0 is.fits.2 (lit< tt) is.word
+Word-read (Srl rd rt sa) w is = read-special w 0 rt rd sa 2 (lit< tt) is.fits.1 is.fits.0 is.fits.2 (lit< tt) is.word
+Word-read (Sra rd rt sa) w is = read-special w 0 rt rd sa 3 (lit< tt) is.fits.1 is.fits.0 is.fits.2 (lit< tt) is.word
+Word-read (Sllv rd rt rs) w is = read-special w rs rt rd 0 4 is.fits.2 is.fits.1 is.fits.0 (lit< tt) (lit< tt) is.word
+Word-read (Srlv rd rt rs) w is = read-special w rs rt rd 0 6 is.fits.2 is.fits.1 is.fits.0 (lit< tt) (lit< tt) is.word
+Word-read (Srav rd rt rs) w is = read-special w rs rt rd 0 7 is.fits.2 is.fits.1 is.fits.0 (lit< tt) (lit< tt) is.word
+Word-read (Jr rs) w is = read-special w rs 0 0 0 8 is.fits (lit< tt) (lit< tt) (lit< tt) (lit< tt) is.word
+Word-read (Jalr rd rs) w is = read-special w rs 0 rd 0 9 is.fits.1 (lit< tt) is.fits.0 (lit< tt) (lit< tt) is.word
+Word-read (Syscall code) w is = read-code w code 12 is.fits (lit< tt) is.word
+Word-read (Break code) w is = read-code w code 13 is.fits (lit< tt) is.word
+Word-read (Mfhi rd) w is = read-special w 0 0 rd 0 16 (lit< tt) (lit< tt) is.fits (lit< tt) (lit< tt) is.word
+Word-read (Mthi rs) w is = read-special w rs 0 0 0 17 is.fits (lit< tt) (lit< tt) (lit< tt) (lit< tt) is.word
+Word-read (Mflo rd) w is = read-special w 0 0 rd 0 18 (lit< tt) (lit< tt) is.fits (lit< tt) (lit< tt) is.word
+Word-read (Mtlo rs) w is = read-special w rs 0 0 0 19 is.fits (lit< tt) (lit< tt) (lit< tt) (lit< tt) is.word
+Word-read (Mult rs rt) w is = read-special w rs rt 0 0 24 is.fits.0 is.fits.1 (lit< tt) (lit< tt) (lit< tt) is.word
+Word-read (Multu rs rt) w is = read-special w rs rt 0 0 25 is.fits.0 is.fits.1 (lit< tt) (lit< tt) (lit< tt) is.word
+Word-read (Div rs rt) w is = read-special w rs rt 0 0 26 is.fits.0 is.fits.1 (lit< tt) (lit< tt) (lit< tt) is.word
+Word-read (Divu rs rt) w is = read-special w rs rt 0 0 27 is.fits.0 is.fits.1 (lit< tt) (lit< tt) (lit< tt) is.word
+Word-read (Add rd rs rt) w is = read-special w rs rt rd 0 32 is.fits.1 is.fits.2 is.fits.0 (lit< tt) (lit< tt) is.word
+Word-read (Addu rd rs rt) w is = read-special w rs rt rd 0 33 is.fits.1 is.fits.2 is.fits.0 (lit< tt) (lit< tt) is.word
+Word-read (Sub rd rs rt) w is = read-special w rs rt rd 0 34 is.fits.1 is.fits.2 is.fits.0 (lit< tt) (lit< tt) is.word
+Word-read (Subu rd rs rt) w is = read-special w rs rt rd 0 35 is.fits.1 is.fits.2 is.fits.0 (lit< tt) (lit< tt) is.word
+Word-read (And rd rs rt) w is = read-special w rs rt rd 0 36 is.fits.1 is.fits.2 is.fits.0 (lit< tt) (lit< tt) is.word
+Word-read (Or rd rs rt) w is = read-special w rs rt rd 0 37 is.fits.1 is.fits.2 is.fits.0 (lit< tt) (lit< tt) is.word
+Word-read (Xor rd rs rt) w is = read-special w rs rt rd 0 38 is.fits.1 is.fits.2 is.fits.0 (lit< tt) (lit< tt) is.word
+Word-read (Nor rd rs rt) w is = read-special w rs rt rd 0 39 is.fits.1 is.fits.2 is.fits.0 (lit< tt) (lit< tt) is.word
+Word-read (Slt rd rs rt) w is = read-special w rs rt rd 0 42 is.fits.1 is.fits.2 is.fits.0 (lit< tt) (lit< tt) is.word
+Word-read (Sltu rd rs rt) w is = read-special w rs rt rd 0 43 is.fits.1 is.fits.2 is.fits.0 (lit< tt) (lit< tt) is.word
+Word-read (Bltz rs imm) w is = read-branch w rs 0 imm is.fits.0 (lit< tt) is.fits.1 is.word
+Word-read (Bgez rs imm) w is = read-branch w rs 1 imm is.fits.0 (lit< tt) is.fits.1 is.word
+Word-read (Bltzal rs imm) w is = read-branch w rs 16 imm is.fits.0 (lit< tt) is.fits.1 is.word
+Word-read (Bgezal rs imm) w is = read-branch w rs 17 imm is.fits.0 (lit< tt) is.fits.1 is.word
+Word-read (J index) w is = read-j w index is.fits is.word
+Word-read (Jal index) w is = read-jal w index is.fits is.word
+Word-read (Beq rs rt imm) w is = read-immediate w 4 rs rt imm (refl, refl, refl, refl, refl) is.fits.0 is.fits.1 is.fits.2 is.word
+Word-read (Bne rs rt imm) w is = read-immediate w 5 rs rt imm (refl, refl, refl, refl, refl) is.fits.0 is.fits.1 is.fits.2 is.word
+Word-read (Blez rs imm) w is = read-immediate w 6 rs 0 imm (refl, refl, refl, refl, refl) is.fits.0 (lit< tt) is.fits.1 is.word
+Word-read (Bgtz rs imm) w is = read-immediate w 7 rs 0 imm (refl, refl, refl, refl, refl) is.fits.0 (lit< tt) is.fits.1 is.word
+Word-read (Addi rt rs imm) w is = read-immediate w 8 rs rt imm (refl, refl, refl, refl, refl) is.fits.1 is.fits.0 is.fits.2 is.word
+Word-read (Addiu rt rs imm) w is = read-immediate w 9 rs rt imm (refl, refl, refl, refl, refl) is.fits.1 is.fits.0 is.fits.2 is.word
+Word-read (Slti rt rs imm) w is = read-immediate w 10 rs rt imm (refl, refl, refl, refl, refl) is.fits.1 is.fits.0 is.fits.2 is.word
+Word-read (Sltiu rt rs imm) w is = read-immediate w 11 rs rt imm (refl, refl, refl, refl, refl) is.fits.1 is.fits.0 is.fits.2 is.word
+Word-read (Andi rt rs imm) w is = read-immediate w 12 rs rt imm (refl, refl, refl, refl, refl) is.fits.1 is.fits.0 is.fits.2 is.word
+Word-read (Ori rt rs imm) w is = read-immediate w 13 rs rt imm (refl, refl, refl, refl, refl) is.fits.1 is.fits.0 is.fits.2 is.word
+Word-read (Xori rt rs imm) w is = read-immediate w 14 rs rt imm (refl, refl, refl, refl, refl) is.fits.1 is.fits.0 is.fits.2 is.word
+Word-read (Lui rt imm) w is = read-immediate w 15 0 rt imm (refl, refl, refl, refl, refl) (lit< tt) is.fits.0 is.fits.1 is.word
+Word-read (Lb rt imm rs) w is = read-immediate w 32 rs rt imm (refl, refl, refl, refl, refl) is.fits.2 is.fits.0 is.fits.1 is.word
+Word-read (Lh rt imm rs) w is = read-immediate w 33 rs rt imm (refl, refl, refl, refl, refl) is.fits.2 is.fits.0 is.fits.1 is.word
+Word-read (Lwl rt imm rs) w is = read-immediate w 34 rs rt imm (refl, refl, refl, refl, refl) is.fits.2 is.fits.0 is.fits.1 is.word
+Word-read (Lw rt imm rs) w is = read-immediate w 35 rs rt imm (refl, refl, refl, refl, refl) is.fits.2 is.fits.0 is.fits.1 is.word
+Word-read (Lbu rt imm rs) w is = read-immediate w 36 rs rt imm (refl, refl, refl, refl, refl) is.fits.2 is.fits.0 is.fits.1 is.word
+Word-read (Lhu rt imm rs) w is = read-immediate w 37 rs rt imm (refl, refl, refl, refl, refl) is.fits.2 is.fits.0 is.fits.1 is.word
+Word-read (Lwr rt imm rs) w is = read-immediate w 38 rs rt imm (refl, refl, refl, refl, refl) is.fits.2 is.fits.0 is.fits.1 is.word
+Word-read (Sb rt imm rs) w is = read-immediate w 40 rs rt imm (refl, refl, refl, refl, refl) is.fits.2 is.fits.0 is.fits.1 is.word
+Word-read (Sh rt imm rs) w is = read-immediate w 41 rs rt imm (refl, refl, refl, refl, refl) is.fits.2 is.fits.0 is.fits.1 is.word
+Word-read (Swl rt imm rs) w is = read-immediate w 42 rs rt imm (refl, refl, refl, refl, refl) is.fits.2 is.fits.0 is.fits.1 is.word
+Word-read (Sw rt imm rs) w is = read-immediate w 43 rs rt imm (refl, refl, refl, refl, refl) is.fits.2 is.fits.0 is.fits.1 is.word
+Word-read (Swr rt imm rs) w is = read-immediate w 46 rs rt imm (refl, refl, refl, refl, refl) is.fits.2 is.fits.0 is.fits.1 is.word
+Word-read (Xlwn rt imm rs) w is = read-immediate w 50 rs rt imm (refl, refl, refl, refl, refl) is.fits.2 is.fits.0 is.fits.1 is.word
+Word-read (Xswn rt imm rs) w is = read-immediate w 58 rs rt imm (refl, refl, refl, refl, refl) is.fits.2 is.fits.0 is.fits.1 is.word
+Word-read (Xmvtn rs) w is = read-compartment w rs 0 0 0 1 is.fits.1 (lit< tt) (lit< tt) (lit< tt) (lit< tt) is.word ∙ rw (moved rs is.fits) refl
+Word-read (Xmvfn rd rs) w is = read-compartment w rs 0 rd 0 2 is.fits.1.1 (lit< tt) is.fits.0.1 (lit< tt) (lit< tt) is.word ∙ rw (moved rs is.fits.1, moved rd is.fits.0) refl
+Word-read Xexit w is = read-compartment w 0 0 0 0 3 (lit< tt) (lit< tt) (lit< tt) (lit< tt) (lit< tt) is.word
+Word-read (Xhand rs) w is = read-compartment w rs 0 0 0 4 is.fits (lit< tt) (lit< tt) (lit< tt) (lit< tt) is.word
+Word-read Xsigret w is = read-compartment w 0 0 0 0 5 (lit< tt) (lit< tt) (lit< tt) (lit< tt) (lit< tt) is.word
+Word-read (Xinstall rs rt rd) w is = read-compartment w rs rt rd 0 16 is.fits.0 is.fits.1 is.fits.2 (lit< tt) (lit< tt) is.word
+Word-read (Xenter rs) w is = read-compartment w rs 0 0 0 17 is.fits (lit< tt) (lit< tt) (lit< tt) (lit< tt) is.word
+Word-read (Xresume rs rt) w is = read-compartment w rs rt 0 0 18 is.fits.0 is.fits.1 (lit< tt) (lit< tt) (lit< tt) is.word
+Word-read (Xsave rs rt rd) w is = read-compartment w rs rt rd 0 19 is.fits.0 is.fits.1 is.fits.2 (lit< tt) (lit< tt) is.word
+Word-read (Xrestore rs rt rd) w is = read-compartment w rs rt rd 0 20 is.fits.0 is.fits.1 is.fits.2 (lit< tt) (lit< tt) is.word
+Word-read (Xmap rs rt rd) w is = read-compartment w rs rt rd 0 21 is.fits.0 is.fits.1 is.fits.2 (lit< tt) (lit< tt) is.word
+Word-read (Xunmap rs rt) w is = read-compartment w rs rt 0 0 22 is.fits.0 is.fits.1 (lit< tt) (lit< tt) (lit< tt) is.word
+Word-read (Xkill rs) w is = read-compartment w rs 0 0 0 24 is.fits (lit< tt) (lit< tt) (lit< tt) (lit< tt) is.word
+Word-read (Xout rs) w is = read-compartment w rs 0 0 0 25 is.fits (lit< tt) (lit< tt) (lit< tt) (lit< tt) is.word
+Word-read Xhalt w is = read-compartment w 0 0 0 0 26 (lit< tt) (lit< tt) (lit< tt) (lit< tt) (lit< tt) is.word
+Word-read (Xstat rd) w is = read-compartment w 0 0 rd 0 27 (lit< tt) (lit< tt) is.fits (lit< tt) (lit< tt) is.word
+Word-read (Xcause rd) w is = read-compartment w 0 0 rd 0 28 (lit< tt) (lit< tt) is.fits (lit< tt) (lit< tt) is.word
+Word-read (Xarg rd) w is = read-compartment w 0 0 rd 0 29 (lit< tt) (lit< tt) is.fits (lit< tt) (lit< tt) is.word
+Word-read (Xwho rd) w is = read-compartment w 0 0 rd 0 30 (lit< tt) (lit< tt) is.fits (lit< tt) (lit< tt) is.word
 
 -- ---- From the reading to the instruction
 
@@ -109,9 +201,34 @@ module _ (w rs rt rd sa function : ℕ) (rs_fits : rs < 32) (rt_fits : rt < 32) 
   unfolding special_of
   special-sound code code_fits is coded =
       line _ function 0 _ (λ f s. record { fits = (rd_fits, rt_fits, sa_fits); word = omega (arith, zero rs s) }) (
+      line _ function 2 _ (λ f s. record { fits = (rd_fits, rt_fits, sa_fits); word = omega (arith, zero rs s) }) (
+      line _ function 3 _ (λ f s. record { fits = (rd_fits, rt_fits, sa_fits); word = omega (arith, zero rs s) }) (
+      line _ function 4 _ (λ f s. record { fits = (rd_fits, rt_fits, rs_fits); word = omega (arith, zero sa s) }) (
+      line _ function 6 _ (λ f s. record { fits = (rd_fits, rt_fits, rs_fits); word = omega (arith, zero sa s) }) (
+      line _ function 7 _ (λ f s. record { fits = (rd_fits, rt_fits, rs_fits); word = omega (arith, zero sa s) }) (
+      line _ function 8 _ (λ f s. record { fits = rs_fits; word = omega (arith, spare3 rt rd sa s) }) (
+      line _ function 9 _ (λ f s. record { fits = (rd_fits, rs_fits); word = omega (arith, spare2 rt sa s) }) (
       full _ function 12 (λ f. record { fits = code_fits; word = omega arith }) (
+      full _ function 13 (λ f. record { fits = code_fits; word = omega arith }) (
+      line _ function 16 _ (λ f s. record { fits = rd_fits; word = omega (arith, spare3 rs rt sa s) }) (
+      line _ function 17 _ (λ f s. record { fits = rs_fits; word = omega (arith, spare3 rt rd sa s) }) (
+      line _ function 18 _ (λ f s. record { fits = rd_fits; word = omega (arith, spare3 rs rt sa s) }) (
+      line _ function 19 _ (λ f s. record { fits = rs_fits; word = omega (arith, spare3 rt rd sa s) }) (
+      line _ function 24 _ (λ f s. record { fits = (rs_fits, rt_fits); word = omega (arith, spare2 rd sa s) }) (
+      line _ function 25 _ (λ f s. record { fits = (rs_fits, rt_fits); word = omega (arith, spare2 rd sa s) }) (
+      line _ function 26 _ (λ f s. record { fits = (rs_fits, rt_fits); word = omega (arith, spare2 rd sa s) }) (
+      line _ function 27 _ (λ f s. record { fits = (rs_fits, rt_fits); word = omega (arith, spare2 rd sa s) }) (
+      line _ function 32 _ (λ f s. record { fits = (rd_fits, rs_fits, rt_fits); word = omega (arith, zero sa s) }) (
       line _ function 33 _ (λ f s. record { fits = (rd_fits, rs_fits, rt_fits); word = omega (arith, zero sa s) }) (
-      tt)))
+      line _ function 34 _ (λ f s. record { fits = (rd_fits, rs_fits, rt_fits); word = omega (arith, zero sa s) }) (
+      line _ function 35 _ (λ f s. record { fits = (rd_fits, rs_fits, rt_fits); word = omega (arith, zero sa s) }) (
+      line _ function 36 _ (λ f s. record { fits = (rd_fits, rs_fits, rt_fits); word = omega (arith, zero sa s) }) (
+      line _ function 37 _ (λ f s. record { fits = (rd_fits, rs_fits, rt_fits); word = omega (arith, zero sa s) }) (
+      line _ function 38 _ (λ f s. record { fits = (rd_fits, rs_fits, rt_fits); word = omega (arith, zero sa s) }) (
+      line _ function 39 _ (λ f s. record { fits = (rd_fits, rs_fits, rt_fits); word = omega (arith, zero sa s) }) (
+      line _ function 42 _ (λ f s. record { fits = (rd_fits, rs_fits, rt_fits); word = omega (arith, zero sa s) }) (
+      line _ function 43 _ (λ f s. record { fits = (rd_fits, rs_fits, rt_fits); word = omega (arith, zero sa s) }) (
+      tt))))))))))))))))))))))))))))
 
   compartment-sound : w ≡ r_word 18 rs rt rd sa function → IsSound w (compartment_of rs rt rd sa function)
   unfolding compartment_of
@@ -119,27 +236,78 @@ module _ (w rs rt rd sa function : ℕ) (rs_fits : rs < 32) (rt_fits : rt < 32) 
       line _ function 1 _ (λ f s. let reg = other rs (rt == 0 && (rd == 0 && sa == 0)) s in record { fits = (reg.0, rs_fits); word = omega (arith, spare3 rt rd sa reg.1) }) (
       line _ function 2 _ (λ f s. let to = other rd (not (rs == 0) && (rt == 0 && sa == 0)) s in let from = other rs (rt == 0 && sa == 0) to.1 in record { fits = ((to.0, rd_fits), (from.0, rs_fits)); word = omega (arith, spare2 rt sa from.1) }) (
       line _ function 3 _ (λ f s. record { fits = tt; word = omega (arith, spare4 rs rt rd sa s) }) (
-      tt)))
+      line _ function 4 _ (λ f s. record { fits = rs_fits; word = omega (arith, spare3 rt rd sa s) }) (
+      line _ function 5 _ (λ f s. record { fits = tt; word = omega (arith, spare4 rs rt rd sa s) }) (
+      line _ function 16 _ (λ f s. record { fits = (rs_fits, rt_fits, rd_fits); word = omega (arith, zero sa s) }) (
+      line _ function 17 _ (λ f s. record { fits = rs_fits; word = omega (arith, spare3 rt rd sa s) }) (
+      line _ function 18 _ (λ f s. record { fits = (rs_fits, rt_fits); word = omega (arith, spare2 rd sa s) }) (
+      line _ function 19 _ (λ f s. record { fits = (rs_fits, rt_fits, rd_fits); word = omega (arith, zero sa s) }) (
+      line _ function 20 _ (λ f s. record { fits = (rs_fits, rt_fits, rd_fits); word = omega (arith, zero sa s) }) (
+      line _ function 21 _ (λ f s. record { fits = (rs_fits, rt_fits, rd_fits); word = omega (arith, zero sa s) }) (
+      line _ function 22 _ (λ f s. record { fits = (rs_fits, rt_fits); word = omega (arith, spare2 rd sa s) }) (
+      line _ function 24 _ (λ f s. record { fits = rs_fits; word = omega (arith, spare3 rt rd sa s) }) (
+      line _ function 25 _ (λ f s. record { fits = rs_fits; word = omega (arith, spare3 rt rd sa s) }) (
+      line _ function 26 _ (λ f s. record { fits = tt; word = omega (arith, spare4 rs rt rd sa s) }) (
+      line _ function 27 _ (λ f s. record { fits = rd_fits; word = omega (arith, spare3 rs rt sa s) }) (
+      line _ function 28 _ (λ f s. record { fits = rd_fits; word = omega (arith, spare3 rs rt sa s) }) (
+      line _ function 29 _ (λ f s. record { fits = rd_fits; word = omega (arith, spare3 rs rt sa s) }) (
+      line _ function 30 _ (λ f s. record { fits = rd_fits; word = omega (arith, spare3 rs rt sa s) }) (
+      tt)))))))))))))))))))
+
+branch-sound : (w rs rt imm : ℕ) → rs < 32 → imm < 2 ^ 16 → w ≡ i_word 1 rs rt imm → IsSound w (branch_of rs rt imm)
+unfolding branch_of
+branch-sound w rs rt imm rs_fits imm_fits is =
+    full _ rt 0 (λ f. record { fits = (rs_fits, imm_fits); word = omega arith }) (
+    full _ rt 1 (λ f. record { fits = (rs_fits, imm_fits); word = omega arith }) (
+    full _ rt 16 (λ f. record { fits = (rs_fits, imm_fits); word = omega arith }) (
+    full _ rt 17 (λ f. record { fits = (rs_fits, imm_fits); word = omega arith }) (
+    tt))))
 
 immediate-sound : (w op rs rt imm : ℕ) → rs < 32 → rt < 32 → imm < 2 ^ 16 → w ≡ i_word op rs rt imm → IsSound w (immediate_of op rs rt imm)
 unfolding immediate_of
 immediate-sound w op rs rt imm rs_fits rt_fits imm_fits is =
-    full _ op 4 (λ o. record { fits = (rs_fits, rt_fits, imm_fits); word = omega arith }) (
-    full _ op 9 (λ o. record { fits = (rt_fits, rs_fits, imm_fits); word = omega arith }) (
-    full _ op 13 (λ o. record { fits = (rt_fits, rs_fits, imm_fits); word = omega arith }) (
-    line _ op 15 _ (λ o s. record { fits = (rt_fits, imm_fits); word = omega (arith, zero rs s) }) (
-    full _ op 35 (λ o. record { fits = (rt_fits, imm_fits, rs_fits); word = omega arith }) (
-    full _ op 43 (λ o. record { fits = (rt_fits, imm_fits, rs_fits); word = omega arith }) (
-    tt))))))
+    full _ op 4 (λ f. record { fits = (rs_fits, rt_fits, imm_fits); word = omega arith }) (
+    full _ op 5 (λ f. record { fits = (rs_fits, rt_fits, imm_fits); word = omega arith }) (
+    line _ op 6 _ (λ f s. record { fits = (rs_fits, imm_fits); word = omega (arith, zero rt s) }) (
+    line _ op 7 _ (λ f s. record { fits = (rs_fits, imm_fits); word = omega (arith, zero rt s) }) (
+    full _ op 8 (λ f. record { fits = (rt_fits, rs_fits, imm_fits); word = omega arith }) (
+    full _ op 9 (λ f. record { fits = (rt_fits, rs_fits, imm_fits); word = omega arith }) (
+    full _ op 10 (λ f. record { fits = (rt_fits, rs_fits, imm_fits); word = omega arith }) (
+    full _ op 11 (λ f. record { fits = (rt_fits, rs_fits, imm_fits); word = omega arith }) (
+    full _ op 12 (λ f. record { fits = (rt_fits, rs_fits, imm_fits); word = omega arith }) (
+    full _ op 13 (λ f. record { fits = (rt_fits, rs_fits, imm_fits); word = omega arith }) (
+    full _ op 14 (λ f. record { fits = (rt_fits, rs_fits, imm_fits); word = omega arith }) (
+    line _ op 15 _ (λ f s. record { fits = (rt_fits, imm_fits); word = omega (arith, zero rs s) }) (
+    full _ op 32 (λ f. record { fits = (rt_fits, imm_fits, rs_fits); word = omega arith }) (
+    full _ op 33 (λ f. record { fits = (rt_fits, imm_fits, rs_fits); word = omega arith }) (
+    full _ op 34 (λ f. record { fits = (rt_fits, imm_fits, rs_fits); word = omega arith }) (
+    full _ op 35 (λ f. record { fits = (rt_fits, imm_fits, rs_fits); word = omega arith }) (
+    full _ op 36 (λ f. record { fits = (rt_fits, imm_fits, rs_fits); word = omega arith }) (
+    full _ op 37 (λ f. record { fits = (rt_fits, imm_fits, rs_fits); word = omega arith }) (
+    full _ op 38 (λ f. record { fits = (rt_fits, imm_fits, rs_fits); word = omega arith }) (
+    full _ op 40 (λ f. record { fits = (rt_fits, imm_fits, rs_fits); word = omega arith }) (
+    full _ op 41 (λ f. record { fits = (rt_fits, imm_fits, rs_fits); word = omega arith }) (
+    full _ op 42 (λ f. record { fits = (rt_fits, imm_fits, rs_fits); word = omega arith }) (
+    full _ op 43 (λ f. record { fits = (rt_fits, imm_fits, rs_fits); word = omega arith }) (
+    full _ op 46 (λ f. record { fits = (rt_fits, imm_fits, rs_fits); word = omega arith }) (
+    full _ op 50 (λ f. record { fits = (rt_fits, imm_fits, rs_fits); word = omega arith }) (
+    full _ op 58 (λ f. record { fits = (rt_fits, imm_fits, rs_fits); word = omega arith }) (
+    tt))))))))))))))))))))))))))
 
 read-sound : (w : ℕ) → IsSound w (read w)
 unfolding read
 read-sound w =
     cond_both (op_of w == 0) _ _ (IsSound w)
     (λ o. let e = zero (op_of w) o in special-sound w (rs_of w) (rt_of w) (rd_of w) (sa_of w) (function_of w) (omega arith) (omega arith) (omega arith) (omega arith) (code_of w) (omega arith) (omega arith) (omega arith))
+    (λ _. cond_both (op_of w == 1) _ _ (IsSound w)
+    (λ o. let e = eqb-true (op_of w) 1 o in branch-sound w (rs_of w) (rt_of w) (imm_of w) (omega arith) (omega arith) (omega arith))
+    (λ _. cond_both (op_of w == 2) _ _ (IsSound w)
+    (λ o. let e = eqb-true (op_of w) 2 o in record { fits = omega arith; word = omega arith })
+    (λ _. cond_both (op_of w == 3) _ _ (IsSound w)
+    (λ o. let e = eqb-true (op_of w) 3 o in record { fits = omega arith; word = omega arith })
     (λ _. cond_both (op_of w == 18) _ _ (IsSound w)
     (λ o. let e = eqb-true (op_of w) 18 o in compartment-sound w (rs_of w) (rt_of w) (rd_of w) (sa_of w) (function_of w) (omega arith) (omega arith) (omega arith) (omega arith) (omega arith))
-    (λ _. immediate-sound w (op_of w) (rs_of w) (rt_of w) (imm_of w) (omega arith) (omega arith) (omega arith) (omega arith)))
+    (λ _. immediate-sound w (op_of w) (rs_of w) (rt_of w) (imm_of w) (omega arith) (omega arith) (omega arith) (omega arith))))))
 
 -- what is read from a word has that word
 pub read-Word : (i : Ins) (w : ℕ) → read w ≡ Some i → Word i w

@@ -1,5 +1,5 @@
 ghost use Rattle.std.specs.Prelude.{◌≡◌};
-ghost use Rattle.mips_isa.specs.Words.{op_of, rs_of, rt_of, rd_of, sa_of, function_of, imm_of, code_of};
+ghost use Rattle.mips_isa.specs.Words.{op_of, rs_of, rt_of, rd_of, sa_of, function_of, imm_of, code_of, index_of};
 
 /// Bits 31 to 26.
 pub fn op(word: u32) -> u8
@@ -55,4 +55,11 @@ pub fn code(word: u32) -> u32
     ensures { result ≡ code_of word }
 {
     word >> 6 & 0xf_ffff
+}
+
+/// Bits 25 to 0.
+pub fn index(word: u32) -> u32
+    ensures { result ≡ index_of word }
+{
+    word & 0x3ff_ffff
 }
