@@ -1,23 +1,32 @@
-ghost use Rattle.std.specs.Prelude.{◌≡◌, ◌<◌};
-ghost use Rattle.mips_effect.specs.Effects.{set, goes_on, sets, wishes, branches, is_open, size_of, loads, stores};
+ghost use Rattle.std.specs.Prelude.{◌≡◌};
+ghost use Rattle.mips_effect.specs.Effects.{set, goes_on, writes_only, sets, sets_or_overflows, wishes, jumps, way, branches, branches_linked};
 
 use crate::effects::Effect;
 use crate::sums::{after, target};
-use crate::{LoadKind, Mode, Wish};
-use xom_base::{OwnFault, Writes};
-
-/// The bytes of private memory.
-const PRIVATE_BYTES: u32 = 1 << 20;
+use crate::{Asked, Wish};
+use xom_base::{Op, OwnFault, Writes};
 
 /// Only a register is set, $0 to no effect.
 pub fn sets(reg: u8, value: u32, following: u32) -> Result<Effect, OwnFault>
     ensures { result ≡ sets reg value following }
 {
-    let writes = if reg == 0 {
-        Writes::Nothing
-    } else {
-        Writes::One { reg, value }
-    };
+    goes_on(set(reg, value), Wish::Nothing, following)
+}
+
+/// A register is set, or the sum overflowed.
+pub fn sets_or_overflows(reg: u8, value: Option<u32>, following: u32) -> Result<Effect, OwnFault>
+    ensures { result ≡ sets_or_overflows reg value following }
+{
+    match value {
+        Some(value) => sets(reg, value, following),
+        None => Err(OwnFault::Overflow),
+    }
+}
+
+/// Only cells are written.
+pub fn writes_only(writes: Writes, following: u32) -> Result<Effect, OwnFault>
+    ensures { result ≡ writes_only writes following }
+{
     goes_on(writes, Wish::Nothing, following)
 }
 
@@ -28,65 +37,67 @@ pub fn wishes(wish: Wish, following: u32) -> Result<Effect, OwnFault>
     goes_on(Writes::Nothing, wish, following)
 }
 
+/// Null code wishes an operation.
+pub fn does(op: Op, following: u32) -> Result<Effect, OwnFault>
+    ensures { result ≡ wishes (Wish.Do op) following }
+{
+    wishes(Wish::Do(op), following)
+}
+
+/// Null code asks for what a register is told.
+pub fn asks(reg: u8, what: Asked, following: u32) -> Result<Effect, OwnFault>
+    ensures { result ≡ wishes (Wish.Ask reg what) following }
+{
+    wishes(Wish::Ask { reg, what }, following)
+}
+
+/// Cells are written, and behind the instruction that follows comes this address.
+pub fn jumps(writes: Writes, to: u32, following: u32) -> Result<Effect, OwnFault>
+    ensures { result ≡ jumps writes to following }
+{
+    Ok(Effect {
+        writes,
+        wish: Wish::Nothing,
+        pc: following,
+        npc: to,
+    })
+}
+
 /// A branch, to its target where it is taken.
 pub fn branches(taken: bool, imm: u16, following: u32) -> Result<Effect, OwnFault>
     ensures { result ≡ branches taken imm following }
 {
-    Ok(Effect {
-        writes: Writes::Nothing,
-        wish: Wish::Nothing,
-        pc: following,
-        npc: if taken {
-            target(following, imm)
-        } else {
-            after(following)
-        },
-    })
+    jumps(Writes::Nothing, way(taken, imm, following), following)
 }
 
-/// A load, of an address that is aligned and, for a guest, private.
-pub fn loads(
-    mode: Mode,
-    kind: LoadKind,
-    reg: u8,
-    address: u32,
-    old: u32,
-    following: u32,
-) -> Result<Effect, OwnFault>
-    ensures { result ≡ loads mode kind reg address old following }
+/// A branch with its link in $31, taken or not.
+pub fn branches_linked(taken: bool, imm: u16, following: u32) -> Result<Effect, OwnFault>
+    ensures { result ≡ branches_linked taken imm following }
 {
-    if !is_open(mode, size(kind), address) {
-        return Err(OwnFault::Address);
-    }
-    let load = Wish::Load {
-        reg,
-        address,
-        kind,
-        old,
-    };
-    wishes(load, following)
+    let link = set(31, after(following));
+    jumps(link, way(taken, imm, following), following)
 }
 
-/// A store of 1, 2 or 4 bytes, at an address that is aligned and, for a guest, private.
-pub fn stores(
-    mode: Mode,
-    count: u8,
-    address: u32,
-    value: u32,
-    following: u32,
-) -> Result<Effect, OwnFault>
-    requires { 0 < count }
-    ensures { result ≡ stores mode count address value following }
+/// The write of a register, where one to $0 is dropped.
+pub fn set(reg: u8, value: u32) -> Writes
+    ensures { result ≡ set reg value }
 {
-    if !is_open(mode, count, address) {
-        return Err(OwnFault::Address);
+    if reg == 0 {
+        Writes::Nothing
+    } else {
+        Writes::One { reg, value }
     }
-    let store = Wish::Store {
-        address,
-        count,
-        value,
-    };
-    wishes(store, following)
+}
+
+/// Where a branch goes behind the instruction that follows.
+fn way(taken: bool, imm: u16, following: u32) -> u32
+    ensures { result ≡ way taken imm following }
+{
+    if taken {
+        target(following, imm)
+    } else {
+        after(following)
+    }
 }
 
 /// The pair goes on.
@@ -99,26 +110,4 @@ fn goes_on(writes: Writes, wish: Wish, following: u32) -> Result<Effect, OwnFaul
         pc: following,
         npc: after(following),
     })
-}
-
-/// Whether an access is aligned to so many bytes and, for a guest, private.
-fn is_open(mode: Mode, size: u8, address: u32) -> bool
-    requires { 0 < size }
-    ensures { result ≡ is_open mode size address }
-{
-    let aligned = address % u32::from(size) == 0;
-    match mode {
-        Mode::Guest => aligned && address < PRIVATE_BYTES,
-        Mode::Null => aligned,
-    }
-}
-
-/// What an address of this kind is a multiple of.
-fn size(kind: LoadKind) -> u8
-    ensures value { result ≡ size_of kind }
-    ensures some { 0 < result }
-{
-    match kind {
-        LoadKind::Word => 4,
-    }
 }

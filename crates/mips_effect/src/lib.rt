@@ -6,11 +6,13 @@
 //! `sources` names, and carries the answer of `effect` out.
 #![tactic(auto)]
 
+mod accesses;
 mod acts;
 mod cells;
 pub mod effects;
 mod kinds;
 mod loads;
+mod products;
 mod seen;
 mod sums;
 #[cfg(test)]
@@ -21,4 +23,4 @@ pub use acts::effect;
 pub use cells::sources;
 pub use loads::merge;
 pub use seen::{Mode, Seen};
-pub use wish::{LoadKind, Wish};
+pub use wish::{Asked, LoadKind, Wish};

@@ -1,8 +1,35 @@
+use xom_base::Op;
+
 /// What a load takes from the aligned word around its address.
 #[derive(Clone, Copy)]
 pub enum LoadKind {
-    /// All of it.
+    /// The byte, extended by its sign.
+    Byte,
+    /// The byte, extended by zeros.
+    ByteU,
+    /// The half-word, extended by its sign. Its address is a multiple of 2.
+    Half,
+    /// The half-word, extended by zeros. Its address is a multiple of 2.
+    HalfU,
+    /// All of it. Its address is a multiple of 4.
     Word,
+    /// `lwl`: the bytes from the address to the word's end, for the register's high end.
+    Left,
+    /// `lwr`: the bytes from the word's start through the address, for the register's low end.
+    Right,
+}
+
+/// What null code may be told of the machine.
+#[derive(Clone, Copy)]
+pub enum Asked {
+    /// `xstat`: the status of the last operation or kernel write.
+    Status,
+    /// `xcause`: why a guest left last.
+    Cause,
+    /// `xarg`: the number of that cause.
+    Arg,
+    /// `xwho`: the slot that left last.
+    Who,
 }
 
 /// What an instruction wants beside the cells that it writes. The caller does it, or refuses.
@@ -17,7 +44,8 @@ pub enum Wish {
         kind: LoadKind,
         old: u32,
     },
-    /// A store of the 1 to 4 bytes of `value`, big-endian, from `address` on.
+    /// A store of the 1 to 4 bytes of `value`, big-endian, from `address` on. It lies within one
+    /// word.
     Store {
         address: u32,
         count: u8,
@@ -38,4 +66,11 @@ pub enum Wish {
     Exit,
     /// `syscall`, with its code below 2^20.
     Call(u32),
+    /// A privileged operation of null code.
+    Do(Op),
+    /// Register `reg`, 0 to 31, of null code is told this.
+    Ask {
+        reg: u8,
+        what: Asked,
+    },
 }
