@@ -46,7 +46,7 @@ receives other = false
 abbrev pub loaded : List ℕ → LoadKind → ℕ → ℕ → ℕ
 loaded bytes kind old address = merge_of kind old address (word_at bytes (address - address % 4))
 
--- the step of a wish at a pair, over private memory, where a value was received
+-- the step of a wish at a pair, over private memory, where a value was received; a wish that never comes to a guest makes the step of none
 abbrev pub made : ℕ → ℕ → Writes → Wish → List ℕ → ℕ → Step
 made pc npc written wish.Nothing bytes got = record { pc = pc; npc = npc; writes = written; stored = stored.Nothing; received = received.Nothing; released = released.Nothing; end = ended.Goes }
 made pc npc written (wish.Load reg address kind old) bytes got = record { pc = pc; npc = npc; writes = set reg (loaded bytes kind old address); stored = stored.Nothing; received = received.Nothing; released = released.Nothing; end = ended.Goes }
@@ -55,6 +55,8 @@ made pc npc written (wish.Release reg value) bytes got = record { pc = pc; npc =
 made pc npc written (wish.Receive reg from) bytes got = record { pc = pc; npc = npc; writes = set reg got; stored = stored.Nothing; received = received.Cell got; released = released.Nothing; end = ended.Goes }
 made pc npc written wish.Exit bytes got = record { pc = pc; npc = npc; writes = written; stored = stored.Nothing; received = received.Nothing; released = released.Nothing; end = ended.Exit }
 made pc npc written (wish.Call code) bytes got = record { pc = pc; npc = npc; writes = written; stored = stored.Nothing; received = received.Nothing; released = released.Nothing; end = ended.Call code }
+made pc npc written (wish.Do operation) bytes got = record { pc = pc; npc = npc; writes = written; stored = stored.Nothing; received = received.Nothing; released = released.Nothing; end = ended.Goes }
+made pc npc written (wish.Ask reg what) bytes got = record { pc = pc; npc = npc; writes = written; stored = stored.Nothing; received = received.Nothing; released = released.Nothing; end = ended.Goes }
 
 -- the step that an effect makes
 unfoldable pub step_made : ℕ → ℕ → Effect → List ℕ → ℕ → Step

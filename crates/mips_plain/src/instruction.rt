@@ -74,6 +74,8 @@ pub fn step_made(pc: u32, npc: u32, effect: &Effect, memory: &Memory, got: u32) 
             end: StepEnd::Call(code),
             ..plain
         },
+        // These never come to a guest.
+        Wish::Do(_) | Wish::Ask { .. } => plain,
     }
 }
 

@@ -46,6 +46,8 @@ made-AreCells pc npc written (wish.Release reg value) bytes got cells range = ce
 made-AreCells pc npc written (wish.Receive reg from) bytes got cells range = set-AreCells reg got range.0.1
 made-AreCells pc npc written wish.Exit bytes got cells range = cells
 made-AreCells pc npc written (wish.Call code) bytes got cells range = cells
+made-AreCells pc npc written (wish.Do operation) bytes got cells range = cells
+made-AreCells pc npc written (wish.Ask reg what) bytes got cells range = cells
 
 pub step_made-AreCells : (pc npc : ℕ) (effect : Effect) (bytes : List ℕ) (got : ℕ) → Ranged effect → AreCells (step_made pc npc effect bytes got).writes
 unfolding step_made
@@ -60,6 +62,8 @@ made-IsKnown pc npc written (wish.Release reg value) bytes got range = (range.0,
 made-IsKnown pc npc written (wish.Receive reg from) bytes got range = tt
 made-IsKnown pc npc written wish.Exit bytes got range = tt
 made-IsKnown pc npc written (wish.Call code) bytes got range = tt
+made-IsKnown pc npc written (wish.Do operation) bytes got range = tt
+made-IsKnown pc npc written (wish.Ask reg what) bytes got range = tt
 
 pub step_made-IsKnown : (pc npc : ℕ) (effect : Effect) (bytes : List ℕ) (got : ℕ) → Ranged effect → IsKnown (step_made pc npc effect bytes got).released
 unfolding step_made
@@ -76,6 +80,8 @@ answered-made p cells pc npc next after written (wish.Release reg value) bytes =
 answered-made p cells pc npc next after written (wish.Receive reg from) bytes = refl
 answered-made p cells pc npc next after written wish.Exit bytes = refl
 answered-made p cells pc npc next after written (wish.Call code) bytes = refl
+answered-made p cells pc npc next after written (wish.Do operation) bytes = refl
+answered-made p cells pc npc next after written (wish.Ask reg what) bytes = refl
 
 answered-step : (p : State) (cells : List Cell) (pc npc : ℕ) (effect : Effect) (bytes : List ℕ)
   → answered p (given_of (step_made pc npc effect bytes (received_by cells effect.wish)).received) (Ok effect) ≡ did p effect (received_by cells effect.wish)
