@@ -3,6 +3,7 @@ use Rattle.std.proofs.Common.{◌≡◌, ◌≢◌, ◌⊎◌, inl, inr, ℕ, �
 use Rattle.std.proofs.lemmas.List.{get_or-set_same, get_or-set_other, get_or-replicate, length-replicate}
 use Rattle.std.proofs.lemmas.List.{get_or_past}
 use Rattle.std.proofs.lemmas.Bool.Decides.{eqb_tells}
+use Rattle.std.proofs.Math.Decide.{dec_lt}
 use Rattle.std.specs.Int.{bit_at}
 use Rattle.std.proofs.lemmas.Nat.Bits.{bit_at-zero}
 use Rattle.xom_base.specs.Entries.{steps_of}
@@ -23,6 +24,10 @@ use Rattle.session_table.specs.Sessions.{free, fresh, is_live, none_held, sessio
 use Rattle.xom_model.specs.State.{CoreState, all_blank, core_at_start, session_of, memory_of}
 use Rattle.xom_model.specs.Install.{installed, lines_of}
 use Rattle.xom_model.specs.Holds.{Agrees, Holds, IsAlone, IsHeld, IsInstalled, IsLive, IsRunning, RunningHolds, SlotsHold, own_bit, was_entered}
+
+-- a number is below another, or isn't
+less : (a b : ℕ) → (a < b) ⊎ (b ≤ a)
+less a b = elim (dec_lt a b) [ yes low ↦ inl low | no high ↦ inr (omega arith) ]
 
 -- at power-on each place of the table is free
 free_at : (slot : ℕ) → session_at none_held slot ≡ free
