@@ -7,3 +7,4 @@ pub mod Holds
 pub mod Seen
 pub mod Run
 pub mod Epochs
+pub mod Laws
