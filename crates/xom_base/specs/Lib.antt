@@ -1,1 +1,5 @@
+pub mod Hex
+pub mod Lines
+pub mod Numbers
 pub mod Padded
+pub mod Words
