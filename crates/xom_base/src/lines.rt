@@ -1,4 +1,4 @@
-ghost use Rattle.std.specs.Prelude.{◌≡◌, ◌<◌, ◌∷◌, ℕ, List, Option, Ok, length, MatchResult};
+ghost use Rattle.std.specs.Prelude.{◌≡◌, ◌<◌, ◌∷◌, ℕ, List, Option, Ok, length, map, IfOk, MatchResult};
 ghost use Rattle.xom_base.specs.Lines.{AnswersLine, Faults, lines_of, read_from};
 
 use crate::NoMemory;
@@ -79,6 +79,21 @@ pub fn read_lines<R: LineReader>(
     Ok(values)
 }
 
+/// The lines of a text, each without its line end.
+pub fn split_lines(alloc: Global, text: &[u8]) -> Result<Vec<&[u8]>, NoMemory>
+    ensures { IfOk result (λ lines. map (λ line. line.now) lines.items ≡ lines_of text.now) }
+{
+    let mut lines = Vec::new(alloc);
+    let mut rest = text;
+    while !rest.is_empty() {
+        let (line, after) = first_line(rest);
+        lines.push(line)?;
+        rest = after;
+    }
+    Ok(lines)
+}
+
+/// The first line of a text that isn't empty, and what stands behind its line end.
 fn first_line(text: &[u8]) -> (&[u8], &[u8])
     requires { 0 < length text.now }
     ensures lines { lines_of text.now ≡ result.0.now ∷ lines_of result.1.now }

@@ -1,6 +1,6 @@
 -- Run files in their strict form: eight lines in one order, one space between words, no comment.
-use Rattle.std.specs.Prelude.{◌≡◌, ℕ, ◌+◌, ◌^◌, ◌<◌, ◌≤◌, ◌&&◌, ◌==◌, nat_lt, nat_le, Bool, true, if◌then◌else◌, List, [], ◌∷◌, length, map, codes, Option, Some, None, option_map, option_and_then, not}
-use Rattle.std.specs.List.{AllZip, slice_split, join_with_byte, list_all, list_any}
+use Rattle.std.specs.Prelude.{◌≡◌, ℕ, ◌+◌, ◌^◌, ◌<◌, ◌≤◌, ◌&&◌, ◌||◌, ◌==◌, nat_lt, nat_le, nat_eq, Bool, true, not, if◌then◌else◌, List, [], ◌∷◌, length, map, drop, codes, Option, Some, None, option_and_then}
+use Rattle.std.specs.List.{AllZip, after_first, before_first, slice_split, starts_with, join_with_byte, list_all, list_any}
 use Rattle.std.specs.Str.{IsUtf8, bytes_eq, is_utf8}
 use Rattle.xom_base.specs.Hex.{IsHex, hex_of}
 use Rattle.xom_base.specs.Lines.{lines_of}
@@ -16,9 +16,13 @@ use Rattle.xom_script.specs.declared.run_file.RunFile.{RunFile}
 
 -- ---- the form
 
--- a word is one byte or more, of which none is blank and none begins a comment
+-- a byte that stands in words: not blank, and it begins no comment
+abbrev pub is_word_byte : ℕ → Bool
+is_word_byte byte = not (is_blank byte || begins_comment byte)
+
+-- a word is one such byte or more
 abbrev pub is_word : List ℕ → Bool
-is_word word = has_bytes word && not (list_any is_blank word) && not (list_any begins_comment word)
+is_word word = has_bytes word && list_all is_word_byte word
 
 -- a file name is a word in UTF-8
 pub record IsName (word : List ℕ) : Type 0 where
@@ -78,67 +82,57 @@ o >>= f = option_and_then f o
 abbrev pub where_holds : {A : Type 0} → Bool → A → Option A
 where_holds test x = if test then Some x else None
 
--- the words of a line that has one space between them and nothing else beside them
-unfoldable pub strict_words_of : List ℕ → Option (List (List ℕ))
-strict_words_of line = let parts = slice_split (λ byte. byte == 32) line in where_holds (list_all is_word parts) parts
+abbrev pub is_space : ℕ → Bool
+is_space byte = byte == 32
 
--- the words of each line
-abbrev pub all_words_of : List (List ℕ) → Option (List (List (List ℕ)))
-all_words_of [] = Some []
-all_words_of (line ∷ lines) = do
-  words ← strict_words_of line
-  more ← all_words_of lines
-  Some (words ∷ more)
+-- what stands behind these bytes at the front of the line
+unfoldable pub behind : List ℕ → List ℕ → Option (List ℕ)
+behind front line = where_holds (starts_with nat_eq line front) (drop (length front) line)
 
--- what follows the first word, where it is this one
-unfoldable pub behind : List ℕ → List (List ℕ) → Option (List (List ℕ))
-behind name [] = None
-behind name (word ∷ words) = where_holds (bytes_eq word name) words
+-- what stands before the first space, and what behind it
+unfoldable pub cut_of : List ℕ → Option (List ℕ × List ℕ)
+cut_of bytes = where_holds (list_any is_space bytes) (before_first is_space bytes, after_first is_space bytes)
 
--- the one word
-unfoldable pub lone : List (List ℕ) → Option (List ℕ)
-lone (word ∷ []) = Some word
-lone _ = None
-
--- what follows the name of a line of two words
-unfoldable pub field : List ℕ → List (List ℕ) → Option (List ℕ)
-field name words = behind name words >>= lone
-
+-- a file name
 unfoldable pub name_of : List ℕ → Option (List ℕ)
-name_of word = where_holds (is_utf8 word) word
+name_of word = where_holds (is_word word && is_utf8 word) word
 
-unfoldable pub machine_of : List (List ℕ) → Option Key256
-machine_of words = do
-  word ← field (codes "machine") words
+unfoldable pub machine_of : List ℕ → Option Key256
+machine_of line = do
+  word ← behind (codes "machine ") line
   bytes ← hex_of 32 word
   Some (record { 0 = bytes })
 
-unfoldable pub boot_of : List (List ℕ) → Option ℕ
-boot_of words = field (codes "boot") words >>= number_below_of (2 ^ 63)
+unfoldable pub boot_of : List ℕ → Option ℕ
+boot_of line = behind (codes "boot ") line >>= number_below_of (2 ^ 63)
 
-unfoldable pub frames_of : List (List ℕ) → Option ℕ
-frames_of words = do
-  word ← field (codes "frames") words
+unfoldable pub frames_of : List ℕ → Option ℕ
+frames_of line = do
+  word ← behind (codes "frames ") line
   n ← number_below_of 8193 word
   where_holds (nat_le 4 n) n
 
-unfoldable pub budget_of : List (List ℕ) → Option ℕ
-budget_of words = field (codes "budget") words >>= number_below_of 1048577
+unfoldable pub budget_of : List ℕ → Option ℕ
+budget_of line = behind (codes "budget ") line >>= number_below_of 1048577
 
-unfoldable pub owner_of : List (List ℕ) → Option OwnerFile
-owner_of (name ∷ plain ∷ key ∷ id ∷ []) = do
-  here ← where_holds (bytes_eq name (codes "owner")) plain
-  plain ← name_of plain
-  key ← hex_of 32 key
-  id ← hex_of 16 id
+unfoldable pub owner_of : List ℕ → Option OwnerFile
+owner_of line = do
+  words ← behind (codes "owner ") line
+  first ← cut_of words
+  plain ← name_of first.0
+  second ← cut_of first.1
+  key ← hex_of 32 second.0
+  id ← hex_of 16 second.1
   Some (record { plain = plain; key = record { 0 = key }; id = record { 0 = id } })
-owner_of _ = None
 
-unfoldable pub guest_of : List (List ℕ) → Option (List ℕ)
-guest_of words = field (codes "guest") words
+-- the guest is the owner's image
+unfoldable pub guest_of : List ℕ → List ℕ → Option (List ℕ)
+guest_of plain line = do
+  word ← behind (codes "guest ") line
+  where_holds (bytes_eq word plain) word
 
-unfoldable pub kernel_of : List (List ℕ) → Option (List ℕ)
-kernel_of words = behind (codes "kernel") words >>= field (codes "script") >>= name_of
+unfoldable pub kernel_of : List ℕ → Option (List ℕ)
+kernel_of line = behind (codes "kernel script ") line >>= name_of
 
 -- the numbers of the words, each above the one before
 unfoldable pub times_of : ℕ → List (List ℕ) → Option (List ℕ)
@@ -149,31 +143,29 @@ times_of last (word ∷ words) = do
   more ← times_of n words
   Some (n ∷ more)
 
-unfoldable pub at_of : List (List ℕ) → Option Interrupts
-at_of [] = None
-at_of (word ∷ words) = option_map At (times_of 0 (word ∷ words))
+unfoldable pub at_of : List ℕ → Option Interrupts
+at_of words = do
+  numbers ← behind (codes "at ") words
+  times ← times_of 0 (slice_split is_space numbers)
+  Some (At times)
 
-unfoldable pub interrupts_of : List (List ℕ) → Option Interrupts
-interrupts_of [] = None
-interrupts_of (word ∷ words) =
-    if bytes_eq word (codes "never") then where_holds (length words == 0) Never
-    else (if bytes_eq word (codes "at") then at_of words else None)
+unfoldable pub interrupts_of : List ℕ → Option Interrupts
+interrupts_of words = if bytes_eq words (codes "never") then Some Never else at_of words
 
-unfoldable pub schedule_of : List (List ℕ) → Option Schedule
-schedule_of words = do
-  more ← behind (codes "interrupt") words
-  interrupts ← interrupts_of more
+unfoldable pub schedule_of : List ℕ → Option Schedule
+schedule_of line = do
+  words ← behind (codes "interrupt ") line
+  interrupts ← interrupts_of words
   Some (record { interrupts = interrupts })
 
-unfoldable pub rows_of : List (List (List ℕ)) → Option RunFile
+unfoldable pub rows_of : List (List ℕ) → Option RunFile
 rows_of (machine ∷ boot ∷ frames ∷ budget ∷ owner ∷ guest ∷ kernel ∷ interrupt ∷ []) = do
   machine ← machine_of machine
   boot ← boot_of boot
   frames ← frames_of frames
   budget ← budget_of budget
   owner ← owner_of owner
-  guest ← guest_of guest
-  same ← where_holds (bytes_eq guest owner.plain) guest
+  guest ← guest_of owner.plain guest
   kernel ← kernel_of kernel
   schedule ← schedule_of interrupt
   Some (record { machine = machine; boot = boot; frames = frames; budget = budget; owner = owner; kernel = kernel; schedule = schedule })
@@ -181,4 +173,4 @@ rows_of _ = None
 
 -- the run file that a text is, or none
 unfoldable pub run_file_at : List ℕ → Option RunFile
-run_file_at text = all_words_of (lines_of text) >>= rows_of
+run_file_at text = rows_of (lines_of text)

@@ -37,4 +37,11 @@ impl Name {
     {
         self.text.as_str()
     }
+
+    /// The bytes of the text.
+    pub fn as_bytes(&self) -> &[u8]
+        ensures { result.now ≡ self.now }
+    {
+        self.text.as_bytes()
+    }
 }

@@ -1,10 +1,16 @@
-ghost use Rattle.std.specs.Prelude.{◌≡◌, ◌↔◌, IfOk, IfErr, IsErrOf, IsOkUnless};
-ghost use Rattle.xom_script.specs.RunFiles.{IsRunFile, run_file_at};
+ghost use Rattle.std.specs.Prelude.{◌≡◌, ◌+◌, Some, IfOk, IsErrOf, map, option_copied, option_map};
+ghost use Rattle.std.specs.List.{slice_split};
+ghost use Rattle.xom_base.specs.Lines.{lines_of};
+ghost use Rattle.xom_base.specs.Numbers.{number_below_of};
+ghost use Rattle.xom_script.specs.Forms.{AnswersForm};
+ghost use Rattle.xom_script.specs.RunFiles.{IsRunFile, run_file_at, rows_of, machine_of, boot_of, frames_of, budget_of, owner_of, guest_of, kernel_of, schedule_of, interrupts_of, at_of, times_of, name_of, behind, cut_of, is_space, is_word, is_word_byte};
 ghost use Rattle.xom_script.specs.declared.run_file.RunFile.{RunFile as RunFileValue};
 
 use crate::{FormFault, Name};
 use std::alloc::Global;
-use xom_base::{ImageId, Key256, Schedule};
+use xom_base::{
+    ImageId, Interrupts, Key256, NumberList, Schedule, hex16, hex32, number, number_below, split_lines,
+};
 
 /// The owner of an image: its plain file, the key that seals it, and its public name.
 #[derive(Drop)]
@@ -45,4 +51,205 @@ pub fn read_run(alloc: Global, text: &[u8]) -> Result<RunFile, FormFault>
     ensures value { AnswersForm (run_file_at text.now) result }
 {
     run_file(alloc, text)
+}
+
+#[tactic(auto, unfolding(crate::specs::RunFiles::run_file_at))]
+fn run_file(alloc: Global, text: &[u8]) -> Result<RunFile, FormFault>
+    ensures { AnswersForm (run_file_at text.now) result }
+{
+    let lines = split_lines(alloc, text)?;
+    rows(alloc, lines.as_slice())
+}
+
+#[tactic(auto, unfolding(crate::specs::RunFiles::rows_of))]
+fn rows(alloc: Global, lines: &[&[u8]]) -> Result<RunFile, FormFault>
+    ensures { AnswersForm (rows_of (map (λ line. line.now) lines.now)) result }
+{
+    let [
+        machine,
+        boot,
+        frames,
+        budget,
+        owner,
+        guest,
+        kernel,
+        interrupt,
+    ] = lines
+    else {
+        return Err(FormFault::NotBuilt);
+    };
+    let machine = machine_in(machine).ok_or(FormFault::NotBuilt)?;
+    let boot = boot_in(boot).ok_or(FormFault::NotBuilt)?;
+    let frames = frames_in(frames).ok_or(FormFault::NotBuilt)?;
+    let budget = budget_in(budget).ok_or(FormFault::NotBuilt)?;
+    let owner = owner_in(alloc, owner)?;
+    guest_in(owner.plain.as_bytes(), guest).ok_or(FormFault::NotBuilt)?;
+    let kernel = kernel_in(alloc, kernel)?;
+    let schedule = schedule_in(alloc, interrupt)?;
+    Ok(RunFile {
+        machine,
+        boot,
+        frames,
+        budget,
+        owner,
+        kernel,
+        schedule,
+    })
+}
+
+#[tactic(auto, unfolding(crate::specs::RunFiles::machine_of))]
+fn machine_in(line: &[u8]) -> Option<Key256>
+    ensures { result ≡ machine_of line.now }
+{
+    let word = rest_behind(b"machine ", line)?;
+    Some(Key256(hex32(word)?))
+}
+
+#[tactic(auto, unfolding(crate::specs::RunFiles::boot_of))]
+fn boot_in(line: &[u8]) -> Option<u64>
+    ensures { result ≡ boot_of line.now }
+{
+    number_below(rest_behind(b"boot ", line)?, 1 << 63)
+}
+
+#[tactic(auto, unfolding(crate::specs::RunFiles::frames_of))]
+fn frames_in(line: &[u8]) -> Option<u32>
+    ensures { result ≡ frames_of line.now }
+{
+    let frames = number_below(rest_behind(b"frames ", line)?, 8193)?;
+    (frames >= 4).then_some(frames as u32)
+}
+
+#[tactic(auto, unfolding(crate::specs::RunFiles::budget_of))]
+fn budget_in(line: &[u8]) -> Option<u64>
+    ensures { result ≡ budget_of line.now }
+{
+    number_below(rest_behind(b"budget ", line)?, 1_048_577)
+}
+
+#[tactic(auto, unfolding(crate::specs::RunFiles::owner_of))]
+fn owner_in(alloc: Global, line: &[u8]) -> Result<OwnerFile, FormFault>
+    ensures { AnswersForm (owner_of line.now) result }
+{
+    let words = rest_behind(b"owner ", line).ok_or(FormFault::NotBuilt)?;
+    let (plain, more) = cut(words).ok_or(FormFault::NotBuilt)?;
+    let plain = name_in(alloc, plain)?;
+    let (key, id) = cut(more).ok_or(FormFault::NotBuilt)?;
+    let key = hex32(key).ok_or(FormFault::NotBuilt)?;
+    let id = hex16(id).ok_or(FormFault::NotBuilt)?;
+    Ok(OwnerFile {
+        plain,
+        key: Key256(key),
+        id: ImageId(id),
+    })
+}
+
+#[tactic(auto, unfolding(crate::specs::RunFiles::guest_of))]
+fn guest_in<'a>(plain: &[u8], line: &'a [u8]) -> Option<&'a [u8]>
+    ensures { option_copied result ≡ guest_of plain.now line.now }
+{
+    let word = rest_behind(b"guest ", line)?;
+    (word == plain).then_some(word)
+}
+
+#[tactic(auto, unfolding(crate::specs::RunFiles::kernel_of))]
+fn kernel_in(alloc: Global, line: &[u8]) -> Result<Name, FormFault>
+    ensures { AnswersForm (kernel_of line.now) result }
+{
+    let word = rest_behind(b"kernel script ", line).ok_or(FormFault::NotBuilt)?;
+    name_in(alloc, word)
+}
+
+#[tactic(auto, unfolding(crate::specs::RunFiles::schedule_of))]
+fn schedule_in(alloc: Global, line: &[u8]) -> Result<Schedule, FormFault>
+    ensures { AnswersForm (schedule_of line.now) result }
+{
+    let words = rest_behind(b"interrupt ", line).ok_or(FormFault::NotBuilt)?;
+    let interrupts = interrupts_in(alloc, words)?;
+    Ok(Schedule { interrupts })
+}
+
+#[tactic(auto, unfolding(crate::specs::RunFiles::interrupts_of))]
+fn interrupts_in(alloc: Global, words: &[u8]) -> Result<Interrupts, FormFault>
+    ensures { AnswersForm (interrupts_of words.now) result }
+{
+    if words == b"never" {
+        Ok(Interrupts::Never)
+    } else {
+        at_in(alloc, words)
+    }
+}
+
+#[tactic(auto, unfolding(crate::specs::RunFiles::at_of))]
+fn at_in(alloc: Global, words: &[u8]) -> Result<Interrupts, FormFault>
+    ensures { AnswersForm (at_of words.now) result }
+{
+    let numbers = rest_behind(b"at ", words).ok_or(FormFault::NotBuilt)?;
+    let words = spaced(alloc, numbers)?;
+    Ok(Interrupts::At(times(alloc, words.as_slice())?))
+}
+
+fn spaced(alloc: Global, words: &[u8]) -> Result<Vec<&[u8]>, FormFault>
+    ensures { AnswersForm (Some (slice_split is_space words.now)) (result_map (map (λ word. word.now)) result) }
+{
+    Ok(words.split(|byte| *byte == b' ').collect(alloc)?)
+}
+
+/// The numbers of these words, which ascend strictly from at least 1.
+fn times(alloc: Global, words: &[&[u8]]) -> Result<NumberList, FormFault>
+    ensures { AnswersForm (times_of 0 (map (λ word. word.now) words.now)) result }
+{
+    let mut times = NumberList::new(alloc);
+    let mut last = 0;
+    for word in words {
+        let time = number(word).ok_or(FormFault::NotBuilt)?;
+        if time <= last {
+            return Err(FormFault::NotBuilt);
+        }
+        times.push(time)?;
+        last = time;
+    }
+    Ok(times)
+}
+
+/// A file name: a word in UTF-8.
+#[tactic(auto, unfolding(crate::specs::RunFiles::name_of))]
+fn name_in(alloc: Global, word: &[u8]) -> Result<Name, FormFault>
+    ensures { AnswersForm (name_of word.now) result }
+{
+    if !is_word(word) {
+        return Err(FormFault::NotBuilt);
+    }
+    let Ok(text) = str::from_utf8(word) else {
+        return Err(FormFault::NotBuilt);
+    };
+    Ok(Name::new(String::from_str(alloc, text)?))
+}
+
+fn is_word(word: &[u8]) -> bool
+    ensures { result ≡ is_word word.now }
+{
+    !word.is_empty() && word.iter().all(|byte| is_word_byte(*byte))
+}
+
+fn is_word_byte(byte: u8) -> bool
+    ensures { result ≡ is_word_byte byte }
+{
+    byte != b' ' && byte != b'\t' && byte != b'\r' && byte != b'#'
+}
+
+#[tactic(auto, unfolding(crate::specs::RunFiles::behind))]
+fn rest_behind<'a>(front: &[u8], line: &'a [u8]) -> Option<&'a [u8]>
+    ensures { option_copied result ≡ behind front.now line.now }
+{
+    line.strip_prefix(front)
+}
+
+/// What stands before the first space, and what behind it.
+#[tactic(auto, unfolding(crate::specs::RunFiles::cut_of))]
+fn cut(bytes: &[u8]) -> Option<(&[u8], &[u8])>
+    ensures { option_map (λ parts. (parts.0.now, parts.1.now)) result ≡ cut_of bytes.now }
+{
+    let end = bytes.iter().position(|byte| *byte == b' ')?;
+    Some((&bytes[..end], &bytes[end + 1..]))
 }
