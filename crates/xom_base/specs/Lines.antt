@@ -55,15 +55,15 @@ Rows row = OfWords (λ s n words value next. row words value)
 abbrev pub Step : Type 0 → Type 0 → Type 0
 Step S X = S → ℕ → List ℕ → Option (Option X × S)
 
--- the value, in front of those of the lines behind it
-abbrev pub with_value : {S X : Type 0} → Option X → Result (List X × S) ℕ → Result (List X × S) ℕ
-with_value value (Ok more) = Ok (option_to_list value ++ more.0, more.1)
-with_value value (Err bad) = Err bad
+-- values, in front of those of the lines behind them
+abbrev pub with_front : {S X : Type 0} → List X → Result (List X × S) ℕ → Result (List X × S) ℕ
+with_front front (Ok more) = Ok (front ++ more.0, more.1)
+with_front front (Err bad) = Err bad
 
 -- what follows of one line
 abbrev pub go_on : {S X : Type 0} → ℕ → Option (Option X × S) → (S → Result (List X × S) ℕ) → Result (List X × S) ℕ
 go_on n None more = Err n
-go_on n (Some read) more = with_value read.0 (more read.1)
+go_on n (Some read) more = with_front (option_to_list read.0) (more read.1)
 
 -- What lines give, of which the first has this number: their values and the last state, or the number
 -- of the first bad one.

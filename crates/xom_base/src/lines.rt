@@ -1,8 +1,11 @@
-ghost use Rattle.std.specs.Prelude.{◌≡◌, ◌<◌, ◌∷◌, ℕ, List, Option, Ok, length, map, IfOk, MatchResult};
+ghost use Rattle.std.specs.Prelude.{◌≡◌, ◌<◌, ◌∷◌, ◌++◌, ℕ, List, Option, Ok, length, map, IfOk, MatchResult, OnOk};
+ghost use Rattle.std.specs.Option.{option_to_list};
+ghost use Rattle.xom_base.specs.declared.lines.LineFault.TheVariants as line_fault;
+ghost use Rattle.xom_base.specs.declared.lines.TextFault.TheVariants as text_fault;
 ghost use Rattle.xom_base.specs.Lines.{AnswersLine, Faults, lines_of, read_from};
 
-use crate::NoMemory;
-use std::alloc::{AllocFailed, Global};
+use crate::{NoMemory, cut};
+use std::alloc::Global;
 
 /// Why a text isn't read.
 #[derive(Clone, Copy, Debug, PartialEq, Eq)]
@@ -14,13 +17,19 @@ pub enum TextFault {
     NoMemory,
 }
 
-impl<T: Drop> From<AllocFailed<T>> for TextFault {
-    ghost use Rattle.xom_base.specs.declared.lines.TextFault.TheVariants.{NoMemory};
+impl From<NoMemory> for TextFault {
+    ghost from_gives = { λ _ e. e ≡ text_fault.NoMemory };
 
-    ghost from_gives = { λ _ e. e ≡ NoMemory };
-
-    fn from(_: AllocFailed<T>) -> TextFault {
+    fn from(_: NoMemory) -> TextFault {
         TextFault::NoMemory
+    }
+}
+
+impl From<NoMemory> for LineFault {
+    ghost from_gives = { λ _ e. e ≡ line_fault.NoMemory };
+
+    fn from(_: NoMemory) -> LineFault {
+        LineFault::NoMemory
     }
 }
 
@@ -67,16 +76,26 @@ pub fn read_lines<R: LineReader>(
     let mut number = 1;
     while !rest.is_empty() {
         let (line, after) = first_line(rest);
-        match reader.read(alloc, number, line) {
-            Ok(None) => {}
-            Ok(Some(value)) => values.push(value)?,
+        let value = match reader.read(alloc, number, line) {
+            Ok(value) => value,
             Err(LineFault::Bad) => return Err(TextFault::Line(number)),
             Err(LineFault::NoMemory) => return Err(TextFault::NoMemory),
-        }
+        };
+        push_value(&mut values, value)?;
         rest = after;
         number += 1;
     }
     Ok(values)
+}
+
+/// Adds a value, if there is one.
+fn push_value<X: Drop>(values: &mut Vec<X>, value: Option<X>) -> Result<(), NoMemory>
+    ensures { OnOk result (values.new.items ≡ values.old.items ++ option_to_list value) }
+{
+    match value {
+        None => Ok(()),
+        Some(value) => Ok(values.push(value)?),
+    }
 }
 
 /// The lines of a text, each without its line end.
@@ -99,8 +118,8 @@ fn first_line(text: &[u8]) -> (&[u8], &[u8])
     ensures lines { lines_of text.now ≡ result.0.now ∷ lines_of result.1.now }
     ensures shorter { length result.1.now < length text.now }
 {
-    match text.iter().position(|byte| *byte == b'\n') {
-        Some(end) => (&text[..end], &text[end + 1..]),
+    match cut(text, b'\n') {
+        Some(parts) => parts,
         None => (text, &[]),
     }
 }

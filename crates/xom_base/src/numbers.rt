@@ -51,6 +51,8 @@ fn numeral(word: &[u8], base: u32) -> Option<u64>
     if word.starts_with(b"+") {
         return None;
     }
-    let text = str::from_utf8(word).ok()?;
+    let Ok(text) = str::from_utf8(word) else {
+        return None;
+    };
     u64::from_str_radix(text, base).ok()
 }
