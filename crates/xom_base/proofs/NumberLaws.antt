@@ -9,7 +9,7 @@ use Rattle.std.proofs.lemmas.Option.{cond_some, same_Some, none-some, option_and
 use Rattle.std.proofs.lemmas.Slice.Eq.{bytes_eq-Decides}
 use Rattle.std.proofs.lemmas.Str.{IsUtf8-from_ascii}
 use Rattle.std.proofs.lemmas.Str.Ascii.{IsAscii-nil, IsAscii-cons}
-use Rattle.std.specs.Prelude.{◌↔◌, IsNone, codes, option_and_then}
+use Rattle.std.specs.Prelude.{◌↔◌, IfSome, IsNone, codes, option_and_then}
 use Rattle.std.proofs.lemmas.Str.Parse.{without_leading_plus_none}
 use Rattle.std.specs.Cmp.Lexicographic.{pointwise}
 use Rattle.std.specs.Char.{digit_value, is_digit}
@@ -202,3 +202,8 @@ number_below_of-exact bound word n = (
       ((number_of-exact word n).0 (is ∙ ap Some c.1), rw (sym c.1) small)),
   λ h. rw ((number_of-exact word n).1 h.0, lt-ltb n bound h.1) refl,
 )
+
+-- what the relation says of each value
+pub some_by_exact : {A : Type 0} (P Q : A → Type 0) (o : Option A) → ((x : A) → (o ≡ Some x) ↔ P x) → ((x : A) → P x → Q x) → IfSome o Q
+some_by_exact P Q None exact gives = tt
+some_by_exact P Q (Some x) exact gives = gives x ((exact x).0 refl)

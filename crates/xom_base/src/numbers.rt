@@ -14,6 +14,7 @@ pub fn number(word: &[u8]) -> Option<u64>
 /// The number of a word, where it is below a bound.
 pub fn number_below(word: &[u8], bound: u64) -> Option<u64>
     ensures exact { (n : ℕ) → (result ≡ Some n) ↔ Writes bound word.now n }
+    ensures small { IfSome result (λ n. n < bound) }
     ensures none { IsNone result ↔ ((n : ℕ) → ¬ Writes bound word.now n) }
     ensures value { result ≡ number_below_of bound word.now }
 {

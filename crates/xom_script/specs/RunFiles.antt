@@ -1,11 +1,11 @@
 -- Run files in their strict form: eight lines in one order, one space between words, no comment.
 use Rattle.std.specs.Prelude.{◌≡◌, ℕ, ◌+◌, ◌^◌, ◌<◌, ◌≤◌, ◌&&◌, ◌||◌, ◌==◌, nat_lt, nat_le, nat_eq, Bool, true, not, if◌then◌else◌, List, [], ◌∷◌, length, map, drop, codes, Option, Some, None, option_and_then}
-use Rattle.std.specs.List.{AllZip, after_first, before_first, slice_split, starts_with, join_with_byte, list_all, list_any}
+use Rattle.std.specs.List.{AllZip, slice_split, starts_with, join_with_byte, list_all}
 use Rattle.std.specs.Str.{IsUtf8, bytes_eq, is_utf8}
 use Rattle.xom_base.specs.Hex.{IsHex, hex_of}
 use Rattle.xom_base.specs.Lines.{lines_of}
 use Rattle.xom_base.specs.Numbers.{Writes, IsNumber, number_of, number_below_of}
-use Rattle.xom_base.specs.Words.{has_bytes, is_blank, begins_comment}
+use Rattle.xom_base.specs.Words.{begins_comment, cut_of, has_bytes, is_blank}
 use Rattle.xom_base.specs.declared.key.Key256.{Key256}
 use Rattle.xom_base.specs.declared.key.ImageId.{ImageId}
 use Rattle.xom_base.specs.declared.schedule.Interrupts.{Interrupts}
@@ -89,10 +89,6 @@ is_space byte = byte == 32
 unfoldable pub behind : List ℕ → List ℕ → Option (List ℕ)
 behind front line = where_holds (starts_with nat_eq line front) (drop (length front) line)
 
--- what stands before the first space, and what behind it
-unfoldable pub cut_of : List ℕ → Option (List ℕ × List ℕ)
-cut_of bytes = where_holds (list_any is_space bytes) (before_first is_space bytes, after_first is_space bytes)
-
 -- a file name
 unfoldable pub name_of : List ℕ → Option (List ℕ)
 name_of word = where_holds (is_word word && is_utf8 word) word
@@ -118,9 +114,9 @@ budget_of line = behind (codes "budget ") line >>= number_below_of 1048577
 unfoldable pub owner_of : List ℕ → Option OwnerFile
 owner_of line = do
   words ← behind (codes "owner ") line
-  first ← cut_of words
+  first ← cut_of 32 words
   plain ← name_of first.0
-  second ← cut_of first.1
+  second ← cut_of 32 first.1
   key ← hex_of 32 second.0
   id ← hex_of 16 second.1
   Some (record { plain = plain; key = record { 0 = key }; id = record { 0 = id } })

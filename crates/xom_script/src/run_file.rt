@@ -1,15 +1,15 @@
-ghost use Rattle.std.specs.Prelude.{◌≡◌, ◌+◌, Some, IfOk, IsErrOf, map, option_copied, option_map};
+ghost use Rattle.std.specs.Prelude.{◌≡◌, ◌+◌, Some, IfOk, IsErrOf, map, option_copied};
 ghost use Rattle.std.specs.List.{slice_split};
 ghost use Rattle.xom_base.specs.Lines.{lines_of};
 ghost use Rattle.xom_base.specs.Numbers.{number_below_of};
 ghost use Rattle.xom_script.specs.Forms.{AnswersForm};
-ghost use Rattle.xom_script.specs.RunFiles.{IsRunFile, run_file_at, rows_of, machine_of, boot_of, frames_of, budget_of, owner_of, guest_of, kernel_of, schedule_of, interrupts_of, at_of, times_of, name_of, behind, cut_of, is_space, is_word, is_word_byte};
+ghost use Rattle.xom_script.specs.RunFiles.{IsRunFile, run_file_at, rows_of, machine_of, boot_of, frames_of, budget_of, owner_of, guest_of, kernel_of, schedule_of, interrupts_of, at_of, times_of, name_of, behind, is_space, is_word, is_word_byte};
 ghost use Rattle.xom_script.specs.declared.run_file.RunFile.{RunFile as RunFileValue};
 
 use crate::{FormFault, Name};
-use std::alloc::Global;
+use std::alloc::{AllocError, Global};
 use xom_base::{
-    ImageId, Interrupts, Key256, NumberList, Schedule, hex16, hex32, number, number_below, split_lines,
+    ImageId, Interrupts, Key256, NumberList, Schedule, cut, hex16, hex32, number, number_below, split_lines,
 };
 
 /// The owner of an image: its plain file, the key that seals it, and its public name.
@@ -50,11 +50,11 @@ pub fn read_run(alloc: Global, text: &[u8]) -> Result<RunFile, FormFault>
     ensures bad { IsErrOf result FormFault.NotBuilt → (file : RunFileValue) → ¬ IsRunFile text.now file }
     ensures value { AnswersForm (run_file_at text.now) result }
 {
-    run_file(alloc, text)
+    run_file_in(alloc, text)
 }
 
 #[tactic(auto, unfolding(crate::specs::RunFiles::run_file_at))]
-fn run_file(alloc: Global, text: &[u8]) -> Result<RunFile, FormFault>
+fn run_file_in(alloc: Global, text: &[u8]) -> Result<RunFile, FormFault>
     ensures { AnswersForm (run_file_at text.now) result }
 {
     let lines = split_lines(alloc, text)?;
@@ -132,9 +132,9 @@ fn owner_in(alloc: Global, line: &[u8]) -> Result<OwnerFile, FormFault>
     ensures { AnswersForm (owner_of line.now) result }
 {
     let words = rest_behind(b"owner ", line).ok_or(FormFault::NotBuilt)?;
-    let (plain, more) = cut(words).ok_or(FormFault::NotBuilt)?;
+    let (plain, more) = cut(words, b' ').ok_or(FormFault::NotBuilt)?;
     let plain = name_in(alloc, plain)?;
-    let (key, id) = cut(more).ok_or(FormFault::NotBuilt)?;
+    let (key, id) = cut(more, b' ').ok_or(FormFault::NotBuilt)?;
     let key = hex32(key).ok_or(FormFault::NotBuilt)?;
     let id = hex16(id).ok_or(FormFault::NotBuilt)?;
     Ok(OwnerFile {
@@ -173,7 +173,7 @@ fn schedule_in(alloc: Global, line: &[u8]) -> Result<Schedule, FormFault>
 fn interrupts_in(alloc: Global, words: &[u8]) -> Result<Interrupts, FormFault>
     ensures { AnswersForm (interrupts_of words.now) result }
 {
-    if words == b"never" {
+    if words == b"never".as_slice() {
         Ok(Interrupts::Never)
     } else {
         at_in(alloc, words)
@@ -189,10 +189,11 @@ fn at_in(alloc: Global, words: &[u8]) -> Result<Interrupts, FormFault>
     Ok(Interrupts::At(times(alloc, words.as_slice())?))
 }
 
-fn spaced(alloc: Global, words: &[u8]) -> Result<Vec<&[u8]>, FormFault>
-    ensures { AnswersForm (Some (slice_split is_space words.now)) (result_map (map (λ word. word.now)) result) }
+/// The parts between spaces.
+fn spaced(alloc: Global, words: &[u8]) -> Result<Vec<&[u8]>, AllocError>
+    ensures { IfOk result (λ parts. map (λ part. part.now) parts.items ≡ slice_split is_space words.now) }
 {
-    Ok(words.split(|byte| *byte == b' ').collect(alloc)?)
+    words.split(|byte| *byte == b' ').collect(alloc)
 }
 
 /// The numbers of these words, which ascend strictly from at least 1.
@@ -243,13 +244,4 @@ fn rest_behind<'a>(front: &[u8], line: &'a [u8]) -> Option<&'a [u8]>
     ensures { option_copied result ≡ behind front.now line.now }
 {
     line.strip_prefix(front)
-}
-
-/// What stands before the first space, and what behind it.
-#[tactic(auto, unfolding(crate::specs::RunFiles::cut_of))]
-fn cut(bytes: &[u8]) -> Option<(&[u8], &[u8])>
-    ensures { option_map (λ parts. (parts.0.now, parts.1.now)) result ≡ cut_of bytes.now }
-{
-    let end = bytes.iter().position(|byte| *byte == b' ')?;
-    Some((&bytes[..end], &bytes[end + 1..]))
 }

@@ -44,11 +44,11 @@ pub fn read_script(alloc: Global, text: &[u8]) -> Result<Script, FormFault>
     ensures bad { IsErrOf result FormFault.NotBuilt → (ops : List OpValue) → ¬ IsScript text.now ops }
     ensures value { AnswersForm (script_at text.now) result }
 {
-    script(alloc, text)
+    script_in(alloc, text)
 }
 
 #[tactic(auto, unfolding(crate::specs::Scripts::script_at))]
-fn script(alloc: Global, text: &[u8]) -> Result<Script, FormFault>
+fn script_in(alloc: Global, text: &[u8]) -> Result<Script, FormFault>
     ensures { AnswersForm (script_at text.now) result }
 {
     let mut lines = OpLines;
@@ -89,7 +89,7 @@ impl LineReader for OpLines {
         if words.is_empty() {
             return Ok(None);
         }
-        match op(words.as_slice()) {
+        match op_in(words.as_slice()) {
             Some(op) => Ok(Some(op)),
             None => Err(LineFault::Bad),
         }
@@ -97,14 +97,14 @@ impl LineReader for OpLines {
 }
 
 #[tactic(auto, unfolding(crate::specs::Scripts::op_of))]
-fn op(words: &[&[u8]]) -> Option<Op>
+fn op_in(words: &[&[u8]]) -> Option<Op>
     ensures { result ≡ op_of (map (λ word. word.now) words.now) }
 {
     match words {
-        [name] if *name == b"halt" => Some(Op::Halt),
-        [name, slot] if *name == b"enter" => enter(slot),
-        [name, slot, signal] if *name == b"resume" => resume(slot, signal),
-        [name, reg, value] if *name == b"setreg" => setreg(reg, value),
+        [name] if *name == b"halt".as_slice() => Some(Op::Halt),
+        [name, slot] if *name == b"enter".as_slice() => enter(slot),
+        [name, slot, signal] if *name == b"resume".as_slice() => resume(slot, signal),
+        [name, reg, value] if *name == b"setreg".as_slice() => setreg(reg, value),
         _ => None,
     }
 }
