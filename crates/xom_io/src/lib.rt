@@ -1,0 +1,12 @@
+//! The outside: named files, and a sink for what is printed.
+//!
+//! `Files` and `Sink` say what may be relied on, whoever carries them out. `MemFiles` and `MemSink`
+//! keep everything in memory, tell all that they hold, and fail at the calls that they are told to.
+//! `DiskFiles` and `StdSink` are the real ones: they tell nothing of content, and count each fault.
+#![tactic(auto)]
+
+mod files;
+mod sink;
+
+pub use files::{FileFault, Files};
+pub use sink::{Sink, SinkFault, put_all};
