@@ -5,8 +5,13 @@
 //! `DiskFiles` and `StdSink` are the real ones: they tell nothing of content, and count each fault.
 #![tactic(auto)]
 
+mod calls;
+mod disk;
 mod files;
 mod sink;
+mod std_sink;
 
+pub use disk::DiskFiles;
 pub use files::{FileFault, Files};
 pub use sink::{Sink, SinkFault, put_all};
+pub use std_sink::StdSink;

@@ -1,0 +1,39 @@
+-- What the files and the sink in memory hold, as values. They are this project's own.
+use Rattle.std.specs.Prelude.{◌≡◌, ℕ, ◌+◌, ◌-◌, ◌^◌, ◌<◌, min, nat_lt, if◌then◌else◌, List, [], ◌∷◌, ◌++◌, Option, Some, None, IsSomeAnd, Contains}
+
+-- A plan of the calls that are to fail: their numbers, and the number of the next call. There is none once every number below 2^64 was used, and no later call fails.
+pub record Plan : Type 0 where
+  pub failing : List ℕ
+  pub next : Option ℕ
+
+-- no call is to fail, and the next one is the first
+abbrev pub fresh : Plan
+fresh = record { failing = []; next = Some 1 }
+
+-- the next call is to fail
+abbrev pub Fails : Plan → Type 0
+Fails plan = IsSomeAnd plan.next (Contains plan.failing)
+
+-- one more call is to fail
+abbrev pub listed : Plan → ℕ → Plan
+listed plan call = record { failing = plan.failing ++ call ∷ []; next = plan.next }
+
+-- the number after this one
+abbrev pub after : Option ℕ → Option ℕ
+after None = None
+after (Some call) = if nat_lt call (2 ^ 64 - 1) then Some (call + 1) else None
+
+-- the next call was made
+abbrev pub passed : Plan → Plan
+passed plan = record { failing = plan.failing; next = after plan.next }
+
+-- A count after one more fault. It stops at its top.
+abbrev pub raised : ℕ → ℕ
+raised count = min (count + 1) (2 ^ 64 - 1)
+
+-- The sink: the bytes written, for how many more there is room, the plan, and the count of faults.
+pub record Sunk : Type 0 where
+  pub bytes : List ℕ
+  pub room : ℕ
+  pub plan : Plan
+  pub faults : ℕ
