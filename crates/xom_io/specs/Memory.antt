@@ -1,5 +1,5 @@
 -- What the files and the sink in memory hold, as values. They are this project's own.
-use Rattle.std.specs.Prelude.{◌≡◌, ℕ, ◌+◌, ◌-◌, ◌^◌, ◌<◌, min, nat_lt, if◌then◌else◌, List, [], ◌∷◌, ◌++◌, Option, Some, None, IsSomeAnd, Contains}
+use Rattle.std.specs.Prelude.{◌≡◌, ℕ, ◌+◌, ◌-◌, ◌^◌, ◌<◌, min, ◌==◌, nat_lt, if◌then◌else◌, List, [], ◌∷◌, ◌++◌, length, Option, Some, None, IsSomeAnd, Contains}
 
 -- A plan of the calls that are to fail: their numbers, and the number of the next call. There is none once every number below 2^64 was used, and no later call fails.
 pub record Plan : Type 0 where
@@ -37,3 +37,11 @@ pub record Sunk : Type 0 where
   pub room : ℕ
   pub plan : Plan
   pub faults : ℕ
+
+-- How many bytes of a piece the sink takes: those for which there is room, and all of them where it has to grow.
+abbrev pub part_of : ℕ → List ℕ → ℕ
+part_of room piece = if room == 0 then length piece else min (length piece) room
+
+-- the plan after a put of a piece: one that is empty isn't counted
+abbrev pub after_put : Plan → List ℕ → Plan
+after_put plan piece = if length piece == 0 then plan else passed plan

@@ -8,10 +8,13 @@
 mod calls;
 mod disk;
 mod files;
+mod mem_sink;
+mod shelf;
 mod sink;
 mod std_sink;
 
 pub use disk::DiskFiles;
 pub use files::{FileFault, Files};
+pub use mem_sink::MemSink;
 pub use sink::{Sink, SinkFault, put_all};
 pub use std_sink::StdSink;
