@@ -1,8 +1,9 @@
 ghost use Rattle.std.specs.Prelude.{◌≡◌, ℕ, List, Option, string_bytes};
+ghost use Rattle.xom_io.specs.declared.files.FileFault.TheVariants.{NoMemory as OutOfMemory};
 ghost use Rattle.xom_io.specs.Answers.{Gets, Puts, KeepsOthers};
 
 use thiserror::Error;
-use xom_base::ByteList;
+use xom_base::{ByteList, NoMemory};
 
 /// Why a file was not read or written.
 #[derive(Clone, Copy, Debug, PartialEq, Error)]
@@ -16,6 +17,14 @@ pub enum FileFault {
     /// Want of memory.
     #[error("out of memory")]
     NoMemory,
+}
+
+impl From<NoMemory> for FileFault {
+    ghost from_gives = { λ _ fault. fault ≡ OutOfMemory };
+
+    fn from(_: NoMemory) -> FileFault {
+        FileFault::NoMemory
+    }
 }
 
 /// Named files. They mean a map from names to bytes, where they tell it, and two counts of faults

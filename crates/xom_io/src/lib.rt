@@ -8,6 +8,7 @@
 mod calls;
 mod disk;
 mod files;
+mod mem_files;
 mod mem_sink;
 mod shelf;
 mod sink;
@@ -15,6 +16,7 @@ mod std_sink;
 
 pub use disk::DiskFiles;
 pub use files::{FileFault, Files};
+pub use mem_files::MemFiles;
 pub use mem_sink::MemSink;
 pub use sink::{Sink, SinkFault, put_all};
 pub use std_sink::StdSink;

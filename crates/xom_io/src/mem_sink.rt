@@ -75,6 +75,7 @@ impl MemSink {
     fn append(&mut self, bytes: &[u8])
         requires { length bytes.now ≤ self.old.room }
         ensures bytes { self.new.bytes ≡ self.old.bytes ++ bytes.now }
+        ensures room { self.old.room ≤ self.new.room + length bytes.now }
         ensures plan { self.new.plan ≡ self.old.plan }
         ensures faults { self.new.faults ≡ self.old.faults }
     {
@@ -94,6 +95,8 @@ impl Sink for MemSink {
         ensures raised { result ≡ Err SinkFault.Failed → self.new.faults ≡ raised self.old.faults }
         ensures no_memory { result ≡ Err SinkFault.NoMemory → self.old.room ≡ 0 }
         ensures plan { self.new.plan ≡ after_put self.old.plan bytes.now }
+        ensures room_after { IfOk result (λ n. self.old.room ≤ self.new.room + n) }
+        ensures room_left { OnErr result (self.old.room ≤ self.new.room) }
     {
         if bytes.is_empty() {
             return Ok(0);
@@ -103,10 +106,7 @@ impl Sink for MemSink {
             return Err(SinkFault::Failed);
         }
         if self.room() == 0 {
-            match self.reserve(bytes.len()) {
-                Ok(()) => {}
-                Err(NoMemory) => return Err(SinkFault::NoMemory),
-            }
+            self.reserve(bytes.len())?;
         }
         let n = bytes.len().min(self.room());
         self.append(&bytes[..n]);

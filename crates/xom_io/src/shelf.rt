@@ -1,4 +1,4 @@
-ghost use Rattle.std.specs.Prelude.{◌≡◌, OnOk, OnErr, option_copied, string_bytes};
+ghost use Rattle.std.specs.Prelude.{◌≡◌, OnOk, OnErr, IfOk, option_copied, string_bytes};
 ghost use Rattle.std.specs.FinMap as map;
 
 use std::alloc::Global;
@@ -49,8 +49,15 @@ impl Shelf {
         ensures err { OnErr result (self.new ≡ self.old) }
     {
         let key = name.clone()?;
-        let copy = ByteList::from_vec(Vec::from_slice(self.alloc, bytes)?);
+        let copy = copied(self.alloc, bytes)?;
         let _ = self.files.insert(key, copy)?;
         Ok(())
     }
+}
+
+/// A list of these bytes.
+pub fn copied(alloc: Global, bytes: &[u8]) -> Result<ByteList, NoMemory>
+    ensures { IfOk result (λ list. list ≡ bytes.now) }
+{
+    Ok(ByteList::from_vec(Vec::from_slice(alloc, bytes)?))
 }

@@ -1,7 +1,9 @@
 ghost use Rattle.std.specs.Prelude.{◌≡◌, ℕ, List, Option};
+ghost use Rattle.xom_io.specs.declared.sink.SinkFault.TheVariants.{NoMemory as OutOfMemory};
 ghost use Rattle.xom_io.specs.Answers.{Takes, TakesAll};
 
 use thiserror::Error;
+use xom_base::NoMemory;
 
 /// Why a sink took nothing.
 #[derive(Clone, Copy, Debug, PartialEq, Error)]
@@ -12,6 +14,14 @@ pub enum SinkFault {
     /// Want of memory.
     #[error("out of memory")]
     NoMemory,
+}
+
+impl From<NoMemory> for SinkFault {
+    ghost from_gives = { λ _ fault. fault ≡ OutOfMemory };
+
+    fn from(_: NoMemory) -> SinkFault {
+        SinkFault::NoMemory
+    }
 }
 
 /// Where bytes are written one after another. It means the bytes written, where it tells them, and
