@@ -31,10 +31,6 @@ after (Some call) = if nat_lt call (2 ^ 64 - 1) then Some (call + 1) else None
 abbrev pub passed : Plan → Plan
 passed plan = record { failing = plan.failing; next = after plan.next }
 
--- A count after one more fault. It stops at its top.
-abbrev pub raised : ℕ → ℕ
-raised count = min (count + 1) (2 ^ 64 - 1)
-
 -- The files: what names hold, the plan, and the counts of faults.
 pub record Kept : Type 0 where
   pub names : Named

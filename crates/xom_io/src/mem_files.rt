@@ -1,7 +1,8 @@
 ghost use Rattle.std.specs.Prelude.{◌≡◌, ◌≤◌, ◌↔◌, ◌⊎◌, None, OnOk, OnErr, IsSome, option_copied, string_bytes};
 ghost use Rattle.std.specs.FinMap as map;
 ghost use Rattle.xom_io.specs.Answers.{Gets, Puts, KeepsOthers};
-ghost use Rattle.xom_io.specs.Memory.{Fails, fresh, listed, passed, raised, told};
+ghost use Rattle.xom_io.specs.Counts.{raised};
+ghost use Rattle.xom_io.specs.Memory.{Fails, fresh, listed, passed, told};
 
 use crate::calls::Calls;
 use crate::shelf::{Shelf, copied};

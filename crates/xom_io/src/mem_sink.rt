@@ -1,6 +1,7 @@
 ghost use Rattle.std.specs.Prelude.{◌≡◌, ◌≤◌, ◌<◌, ◌+◌, ◌↔◌, [], ◌++◌, length, Some, OnOk, OnErr, IfOk};
 ghost use Rattle.xom_io.specs.Answers.{Takes};
-ghost use Rattle.xom_io.specs.Memory.{Fails, fresh, listed, after_put, part_of, raised};
+ghost use Rattle.xom_io.specs.Counts.{raised};
+ghost use Rattle.xom_io.specs.Memory.{Fails, fresh, listed, after_put, part_of};
 
 use crate::calls::Calls;
 use crate::{Sink, SinkFault};
