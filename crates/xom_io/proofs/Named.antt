@@ -50,11 +50,11 @@ same_bytes q name = sym (is_eq-slice_cmp name q) ∙ (eq_by_cmp_equiv nat_list_c
 pub named-insert : (old new : BTreeMap (String Global) (List ℕ)) (name : String Global) (bytes : List ℕ) → Updates string_cmp old new name (Some bytes) → named new ≡ insert (named old) (string_bytes name) bytes
 named-insert old new name bytes updates =
     same_map nat_list_cmp_total same_name _ _ (λ q.
-      get-named new q
-      ∙ btree_map_updates_text (string_bytes name) old new (Some bytes) updates q
-      ∙ ap (λ same. cond same (Some bytes) (get_by_text old q)) (same_bytes q (string_bytes name))
-      ∙ ap (cond (eq_by_cmp (slice_cmp nat_cmp) q (string_bytes name)) (Some bytes)) (sym (get-named old q))
-      ∙ sym (get-insert nat_list_cmp_total (named old) (string_bytes name) bytes q))
+    get-named new q
+    ∙ btree_map_updates_text (string_bytes name) old new (Some bytes) updates q
+    ∙ ap (λ same. cond same (Some bytes) (get_by_text old q)) (same_bytes q (string_bytes name))
+    ∙ ap (cond (eq_by_cmp (slice_cmp nat_cmp) q (string_bytes name)) (Some bytes)) (sym (get-named old q))
+    ∙ sym (get-insert nat_list_cmp_total (named old) (string_bytes name) bytes q))
 
 -- for `grind`: what a map has after one name was set
 pub ruleset after_set = (get-insert_same, get-insert_other)

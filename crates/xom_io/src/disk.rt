@@ -4,11 +4,10 @@ ghost use Rattle.xom_io.specs.Counts.{raised};
 
 use crate::{FileFault, Files};
 use std::alloc::Global;
-use std::fs;
-use std::io;
 use std::io::{ErrorKind, Read};
 use std::marker::Model;
 use std::rt::Files as SystemFiles;
+use std::{fs, io};
 use xom_base::ByteList;
 
 /// The files of the system, by their paths. They tell nothing of what they hold.
@@ -87,7 +86,12 @@ impl<R: SystemFiles + Drop> Files for DiskFiles<R> {
 }
 
 // All the bytes of a file, but no more of them than one past the limit.
-fn read_within<R: SystemFiles>(alloc: Global, rt: &R, path: &str, limit: u64) -> io::Result<Vec<u8>> {
+fn read_within<R: SystemFiles>(
+    alloc: Global,
+    rt: &R,
+    path: &str,
+    limit: u64,
+) -> io::Result<Vec<u8>> {
     let file = fs::File::open(rt, path)?;
     let mut bytes = Vec::new(alloc);
     file.take(limit.saturating_add(1)).read_to_end(&mut bytes)?;

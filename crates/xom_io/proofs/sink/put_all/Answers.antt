@@ -10,7 +10,8 @@ rest_of i text = take_all _ _ (omega (arith, length-drop i text))
 
 pub loop-at-preserved : goal.loop-at-preserved
 loop-at-preserved g c =
-    let took = rw (rest_of c.loop-at.at c.args.bytes.now) at c.in_ok-at.ensures in
-    (omega (arith, length-drop c.loop-at.at c.args.bytes.now, took.1),
-     took.0 ∙ c.loop-at.invariant.1,
-     Appends-further _ _ _ c.args.bytes.now c.loop-at.at c.in_ok-at.field-0 c.loop-at.invariant.2 took.3)
+    let took = rw (rest_of c.loop-at.at c.args.bytes.now) at c.in_ok-at.ensures in (
+      omega (arith, length-drop c.loop-at.at c.args.bytes.now, took.1),
+      took.0 ∙ c.loop-at.invariant.1,
+      Appends-further _ _ _ c.args.bytes.now c.loop-at.at c.in_ok-at.field-0 c.loop-at.invariant.2 took.3,
+    )
