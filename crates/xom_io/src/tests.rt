@@ -38,19 +38,43 @@ fn the_sink_in_memory_holds_what_is_put(rt: HostRuntime) -> Result<(), Fail> {
     Ok(())
 }
 
-fn write_then_read(rt: &HostRuntime, path: &str, limit: u64) -> Result<ByteList, Fail> {
-    let mut files = DiskFiles::new(rt.alloc(), rt);
+fn read(rt: &HostRuntime, path: &str, limit: u64) -> Result<Result<ByteList, FileFault>, Fail> {
     let file = name(rt.alloc(), path)?;
-    files.put(&file, &list(rt.alloc(), b"text")?)?;
-    let read = files.get(&file, limit);
-    fs::remove_file(rt, path)?;
-    Ok(read?)
+    Ok(DiskFiles::new(rt.alloc(), rt).get(&file, limit))
+}
+
+fn write(rt: &HostRuntime, path: &str, bytes: &[u8]) -> Result<Result<(), FileFault>, Fail> {
+    let (file, bytes) = (name(rt.alloc(), path)?, list(rt.alloc(), bytes)?);
+    Ok(DiskFiles::new(rt.alloc(), rt).put(&file, &bytes))
 }
 
 #[test]
-fn files_of_the_system_are_written_and_read(rt: HostRuntime) -> Result<(), Fail> {
-    let bytes = write_then_read(&rt, "xom_io_short_file", 4)?;
+fn files_of_the_system_hold_what_is_put(rt: HostRuntime) -> Result<(), Fail> {
+    let path = "xom_io_a_file";
+    write(&rt, path, b"longer than the next")??;
+    write(&rt, path, b"text")??;
+    let bytes = read(&rt, path, 4)??;
+    fs::remove_file(&rt, path)?;
     assert_eq!(rt; bytes.as_slice(), b"text".as_slice());
+    Ok(())
+}
+
+#[test]
+fn files_of_the_system_are_too_long_or_fail(rt: HostRuntime) -> Result<(), Fail> {
+    let path = "xom_io_another_file";
+    write(&rt, path, b"text")??;
+    let long = read(&rt, path, 3)?.err();
+    fs::remove_file(&rt, path)?;
+    let gone = read(&rt, path, 3)?.err();
+    let nowhere = write(&rt, "xom_io_no_folder/file", b"text")?.err();
+    assert_eq!(rt;
+        (long, gone, nowhere),
+        (
+            Some(FileFault::TooLong),
+            Some(FileFault::Failed),
+            Some(FileFault::Failed)
+        )
+    );
     Ok(())
 }
 
