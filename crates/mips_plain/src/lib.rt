@@ -7,6 +7,7 @@
 mod cell;
 mod given;
 mod instruction;
+mod law;
 mod machine;
 mod memory;
 #[cfg(test)]
@@ -16,6 +17,7 @@ mod verdict;
 pub use cell::PlainCell;
 pub use given::{Given, PlainStep};
 pub use instruction::{fetch, step_made};
+pub use law::verdict_is_a_run;
 pub use machine::Plain;
 pub use memory::Memory;
 pub use verdict::Verdict;

@@ -1,4 +1,5 @@
-ghost use Rattle.std.specs.Prelude.{◌≡◌, ◌≤◌, ◌<◌, ◌+◌, IfOk, slice_index};
+ghost use Rattle.std.specs.Prelude.{◌≡◌, ◌≤◌, ◌<◌, ◌+◌, IfOk, slice_index, length};
+ghost use Rattle.std.specs.Int.{w32, from_be_bytes};
 ghost use Rattle.xom_base.specs.Padded.{filled};
 ghost use Rattle.mips_plain.specs.Memory.{blank, low_bytes, private_size, word_at, written_at};
 
@@ -28,6 +29,7 @@ impl Memory {
     pub const SIZE: u32 = 1 << 20;
 
     /// All zeros.
+    #[tactic(auto, using(crate::proofs::Sizes::private_size_is))]
     pub fn new(alloc: Global) -> Result<Memory, NoMemory>
         ensures { IfOk result (λ m. m ≡ blank) }
     {
@@ -35,12 +37,11 @@ impl Memory {
     }
 
     /// Puts an image's bytes at address 0, and zeros behind them. Goes over all the bytes.
+    #[tactic(auto, using(crate::proofs::Sizes::private_size_is))]
     pub fn load(&mut self, image: &PlainImage)
         ensures { self.new ≡ filled private_size image.now.bytes }
     {
-        for (i, byte) in self.bytes.iter_mut().enumerate() {
-            *byte = image.bytes.get(i).copied().unwrap_or(0);
-        }
+        fill(&mut self.bytes, image.bytes.as_slice());
     }
 
     /// The byte at an address.
@@ -71,4 +72,31 @@ impl Memory {
         let count = usize::from(count);
         self.bytes[at..at + count].copy_from_slice(&value.to_be_bytes()[4 - count..]);
     }
+}
+
+/// Zeros, so many as private memory has.
+fn zeros(alloc: Global, size: usize) -> Result<Memory, NoMemory>
+    requires { size ≡ private_size }
+    ensures { IfOk result (λ m. m ≡ blank) }
+{
+    let bytes = vec![in alloc; 0u8; size]?;
+    Ok(Memory { bytes })
+}
+
+/// Puts a text at the front of a block, and zeros behind it.
+fn fill(block: &mut [u8], text: &[u8])
+    requires { length text.now ≤ length block.old }
+    ensures { block.new ≡ filled (length block.old) text.now }
+{
+    let len = text.len();
+    block[..len].copy_from_slice(text);
+    block[len..].fill(0);
+}
+
+/// The word of four bytes.
+fn word_of(bytes: &[u8]) -> u32
+    requires { length bytes.now ≡ 4 }
+    ensures { result ≡ from_be_bytes w32 bytes.now }
+{
+    u32::from_be_bytes([bytes[0], bytes[1], bytes[2], bytes[3]])
 }
