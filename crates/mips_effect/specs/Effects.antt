@@ -29,6 +29,14 @@ signed_16 n = if nat_lt n (2 ^ 15) then pos n else pos n -ℤ pos (2 ^ 16)
 abbrev pub reduced : ℤ → ℕ
 reduced z = unsigned_abs (int_rem_euclid z (pos (2 ^ 32)))
 
+-- the sum of a number and a signed immediate: addiu, and the address of an access
+abbrev pub plus_signed : ℕ → ℕ → ℕ
+plus_signed n imm = reduced (pos n +ℤ signed_16 imm)
+
+-- the target of a branch, told of the address of the following instruction
+abbrev pub target : ℕ → ℕ → ℕ
+target following imm = reduced (pos following +ℤ signed_16 imm *ℤ pos 4)
+
 -- the address of the instruction after the one at this address
 abbrev pub after : ℕ → ℕ
 after address = (address + 4) % 2 ^ 32
@@ -103,11 +111,7 @@ wishes wished following = goes_on writes.Nothing wished following
 -- a branch: behind the instruction that follows, the target where it is taken
 abbrev pub branches : Bool → ℕ → ℕ → Result Effect OwnFault
 branches taken imm following =
-    Ok (record { writes = writes.Nothing; wish = wish.Nothing; pc = following; npc = (if taken then reduced (pos following +ℤ signed_16 imm *ℤ pos 4) else after following) })
-
--- the address of an access: the base and the signed offset
-abbrev pub address_at : ℕ → ℕ → ℕ
-address_at base imm = reduced (pos base +ℤ signed_16 imm)
+    Ok (record { writes = writes.Nothing; wish = wish.Nothing; pc = following; npc = (if taken then target following imm else after following) })
 
 -- an access at this address is aligned to so many bytes and, of a guest, private
 abbrev pub is_open : Mode → ℕ → ℕ → Bool
@@ -118,16 +122,16 @@ is_open Null size address = address % size == 0
 abbrev pub size_of : LoadKind → ℕ
 size_of kind.Word = 4
 
--- a load into register reg, from base and offset
-abbrev pub loads : Mode → LoadKind → ℕ → ℕ → ℕ → ℕ → ℕ → Result Effect OwnFault
-loads mode how reg base imm old following =
-    if is_open mode (size_of how) (address_at base imm) then wishes (wish.Load reg (address_at base imm) how old) following
+-- a load into register reg, which had an old value
+abbrev pub loads : Mode → LoadKind → ℕ → ℕ → ℕ → ℕ → Result Effect OwnFault
+loads mode how reg address old following =
+    if is_open mode (size_of how) address then wishes (wish.Load reg address how old) following
     else Err fault.Address
 
--- a store of the low bytes of a value, aligned to their count, at base and offset
-abbrev pub stores : Mode → ℕ → ℕ → ℕ → ℕ → ℕ → Result Effect OwnFault
-stores mode count base imm value following =
-    if is_open mode count (address_at base imm) then wishes (wish.Store (address_at base imm) count (value % 2 ^ (8 * count))) following
+-- a store of so many bytes, aligned to their count
+abbrev pub stores : Mode → ℕ → ℕ → ℕ → ℕ → Result Effect OwnFault
+stores mode count address value following =
+    if is_open mode count address then wishes (wish.Store address count value) following
     else Err fault.Address
 
 -- ---- The instructions, of the values of rs and rt and the address of the following instruction
@@ -136,11 +140,11 @@ unfoldable pub act : Ins → Mode → ℕ → ℕ → ℕ → Result Effect OwnF
 act (Sll rd rt sa) mode s t following = sets rd (t * 2 ^ sa % 2 ^ 32) following
 act (Addu rd rs rt) mode s t following = sets rd ((s + t) % 2 ^ 32) following
 act (Beq rs rt imm) mode s t following = branches (s == t) imm following
-act (Addiu rt rs imm) mode s t following = sets rt (reduced (pos s +ℤ signed_16 imm)) following
+act (Addiu rt rs imm) mode s t following = sets rt (plus_signed s imm) following
 act (Ori rt rs imm) mode s t following = sets rt (bit_or s imm) following
 act (Lui rt imm) mode s t following = sets rt (imm * 2 ^ 16) following
-act (Lw rt imm rs) mode s t following = loads mode kind.Word rt s imm t following
-act (Sw rt imm rs) mode s t following = stores mode 4 s imm t following
+act (Lw rt imm rs) mode s t following = loads mode kind.Word rt (plus_signed s imm) t following
+act (Sw rt imm rs) mode s t following = stores mode 4 (plus_signed s imm) t following
 act (Syscall code) mode s t following = wishes (wish.Call code) following
 act (Xmvtn rs) mode s t following = wishes (wish.Release rs s) following
 act (Xmvfn rd rs) mode s t following = wishes (wish.Receive rd rs) following

@@ -9,8 +9,10 @@
 mod acts;
 mod cells;
 pub mod effects;
+mod kinds;
 mod loads;
 mod seen;
+mod sums;
 #[cfg(test)]
 mod tests;
 mod wish;

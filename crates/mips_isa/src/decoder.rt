@@ -1,5 +1,5 @@
 ghost use Rattle.std.specs.Prelude.{◌≡◌, ◌↔◌, IsNone};
-ghost use Rattle.mips_isa.specs.Words.{Word, IsReserved, read, read_special, read_compartment, read_immediate};
+ghost use Rattle.mips_isa.specs.Words.{Word, IsReserved, read, special_of, compartment_of, immediate_of, op_of, rs_of, rt_of, rd_of, sa_of, function_of, imm_of, code_of};
 
 use crate::Ins;
 use crate::fields::{code, function, imm, op, rd, rs, rt, sa};
@@ -25,9 +25,9 @@ fn read_word(word: u32) -> Option<Ins>
     }
 }
 
-#[tactic(auto, unfolding(crate::specs::Words::read_special))]
+#[tactic(auto, unfolding(crate::specs::Words::special_of))]
 fn special(word: u32) -> Option<Ins>
-    ensures { result ≡ read_special word }
+    ensures { result ≡ special_of (rs_of word) (rt_of word) (rd_of word) (sa_of word) (function_of word) (code_of word) }
 {
     match (function(word), rs(word), rt(word), rd(word), sa(word)) {
         (0, 0, rt, rd, sa) => Some(Ins::Sll { rd, rt, sa }),
@@ -37,9 +37,9 @@ fn special(word: u32) -> Option<Ins>
     }
 }
 
-#[tactic(auto, unfolding(crate::specs::Words::read_compartment))]
+#[tactic(auto, unfolding(crate::specs::Words::compartment_of))]
 fn compartment(word: u32) -> Option<Ins>
-    ensures { result ≡ read_compartment word }
+    ensures { result ≡ compartment_of (rs_of word) (rt_of word) (rd_of word) (sa_of word) (function_of word) }
 {
     match (function(word), rs(word), rt(word), rd(word), sa(word)) {
         (1, rs @ 1.., 0, 0, 0) => Some(Ins::Xmvtn { rs }),
@@ -49,9 +49,9 @@ fn compartment(word: u32) -> Option<Ins>
     }
 }
 
-#[tactic(auto, unfolding(crate::specs::Words::read_immediate))]
+#[tactic(auto, unfolding(crate::specs::Words::immediate_of))]
 fn immediate(word: u32) -> Option<Ins>
-    ensures { result ≡ read_immediate word }
+    ensures { result ≡ immediate_of (op_of word) (rs_of word) (rt_of word) (imm_of word) }
 {
     let imm = imm(word);
     match (op(word), rs(word), rt(word)) {
