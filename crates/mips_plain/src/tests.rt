@@ -65,6 +65,7 @@ fn twelve_is_released_and_then_the_program_is_over(rt: HostRuntime) -> Result<()
 }
 
 #[test]
+#[tactic(auto, using(crate::proofs::Sizes::private_size_is))]
 fn a_word_is_received_stored_and_loaded_again(rt: HostRuntime) -> Result<(), Fail> {
     // xmvfn $8, $9; sw $8, 64($0); lw $10, 64($0)
     let words = [0x4920_4002, 0xac08_0040, 0x8c0a_0040];
@@ -97,7 +98,12 @@ fn a_word_is_received_stored_and_loaded_again(rt: HostRuntime) -> Result<(), Fai
 fn faults_come_before_what_is_given_but_for_a_signal(rt: HostRuntime) -> Result<(), Fail> {
     // addu $8, $9, $0 reads a register that the program doesn't own.
     let mut plain = program(rt.alloc(), &[0x0120_4021])?;
-    assert!(rt; matches!(plain.step(Given::Value(1)), PlainStep::Fault(OwnFault::Foreign)));
+    assert!(rt;
+        matches!(
+            plain.step(Given::Value(1)),
+            PlainStep::Fault(OwnFault::Foreign)
+        )
+    );
     assert!(rt; matches!(plain.step(Given::Signal(1)), PlainStep::Unfit));
     Ok(())
 }
