@@ -7,6 +7,7 @@
 
 mod guests;
 mod judging;
+mod laws;
 mod report;
 mod searches;
 #[cfg(test)]
@@ -14,6 +15,7 @@ mod tests;
 mod text;
 
 pub use judging::judge;
+pub use laws::{findings_stay, runs_are_followed};
 pub use mips_plain::Verdict;
 pub use report::{GuestEnd, GuestLine, GuestLineList, Report};
 pub use text::print_report;
