@@ -1,5 +1,5 @@
 -- What the instruction at a place of private memory comes to, for whoever tells what is seen in the cells.
-use Rattle.std.specs.Prelude.{ℕ, ◌+◌, ◌-◌, ◌%◌, ◌==◌, ◌&&◌, nat_lt, Bool, true, false, List, Option, Some, None, Result, Ok, Err, if◌then◌else◌}
+use Rattle.std.specs.Prelude.{ℕ, ◌-◌, ◌%◌, ◌==◌, ◌&&◌, nat_lt, Bool, true, false, List, Option, Some, None, Result, Ok, Err, if◌then◌else◌}
 use Rattle.mips_isa.specs.declared.instruction.Ins.{Ins}
 use Rattle.mips_isa.specs.Words.{read}
 use Rattle.mips_effect.specs.declared.effects.Effect.{Effect}
@@ -12,14 +12,9 @@ use Rattle.mips_effect.specs.Effects.{sources_of, effect_of, merge_of, set}
 use Rattle.xom_base.specs.declared.event.OwnFault.{OwnFault}
 use Rattle.xom_base.specs.declared.event.OwnFault.TheVariants as fault
 use Rattle.xom_base.specs.declared.step.Writes.{Writes}
-use Rattle.xom_base.specs.declared.step.Writes.TheVariants as writes
-use Rattle.xom_base.specs.declared.step.Stored.{Stored}
 use Rattle.xom_base.specs.declared.step.Stored.TheVariants as stored
-use Rattle.xom_base.specs.declared.step.Received.{Received}
 use Rattle.xom_base.specs.declared.step.Received.TheVariants as received
-use Rattle.xom_base.specs.declared.step.Released.{Released}
 use Rattle.xom_base.specs.declared.step.Released.TheVariants as released
-use Rattle.xom_base.specs.declared.step.StepEnd.{StepEnd}
 use Rattle.xom_base.specs.declared.step.StepEnd.TheVariants as ended
 use Rattle.xom_base.specs.declared.step.Step.{Step}
 use Rattle.mips_plain.specs.Memory.{word_at, private_size}

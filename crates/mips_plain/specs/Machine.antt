@@ -69,7 +69,8 @@ stepped s effect step = record {
   pc = effect.pc;
   npc = effect.npc;
   bytes = stored_in s.bytes step.stored;
-  over = is_exit step.end }
+  over = is_exit step.end;
+}
 
 -- the step of an effect is done, where a value was received
 abbrev pub did : State → Effect → ℕ → PlainStep × State
@@ -86,5 +87,5 @@ answered s (given.Value value) (Ok effect) = if receives effect.wish then did s 
 -- one step of the plain machine, given a value, a signal or nothing. No handler can be set yet, so no signal fits
 unfoldable pub plain : State → Given → PlainStep × State
 plain s given =
-  if s.over then (Over, s)
-  else answered s given (tried (seen s.cells) (fetched s.bytes s.pc) s.pc s.npc)
+    if s.over then (Over, s)
+    else answered s given (tried (seen s.cells) (fetched s.bytes s.pc) s.pc s.npc)

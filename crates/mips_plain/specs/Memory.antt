@@ -1,7 +1,6 @@
 -- A guest's private memory: a list of bytes from address 0 on. Words are big-endian.
 use Rattle.std.specs.Prelude.{ℕ, ◌+◌, ◌-◌, ◌^◌, List, ◌++◌, length, take, drop, replicate}
 use Rattle.std.specs.Int.{w32, from_be_bytes, to_be_bytes}
-use Rattle.xom_base.specs.Padded.{filled}
 use Rattle.xom_base.specs.declared.step.Stored.{Stored}
 use Rattle.xom_base.specs.declared.step.Stored.TheVariants as stored
 

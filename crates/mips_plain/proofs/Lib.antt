@@ -1,0 +1,4 @@
+pub mod Sizes
+pub mod SameSteps
+pub mod Runs
+pub mod Stores
