@@ -1,0 +1,3 @@
+pub mod Least
+pub mod Causes
+pub mod Assumed
