@@ -1,5 +1,5 @@
 -- What the machine keeps at every moment between events, for every list of owners with distinct ids: each installed guest's recorded steps are its program's run alone, and what the processor holds of a live guest is the state of that run.
-use Rattle.std.specs.Prelude.{◌≡◌, ◌≢◌, ℕ, ◌<◌, ◌≤◌, ◌+◌, Bool, true, false, List, [], Option, Some, None, slice_get, length}
+use Rattle.std.specs.Prelude.{◌≡◌, ◌≢◌, ℕ, ◌<◌, ◌≤◌, ◌+◌, Bool, true, false, List, [], ◌∷◌, ◌⊎◌, Option, Some, None, length}
 use Rattle.std.specs.Int.{bit_at}
 use Rattle.xom_base.specs.Entries.{steps_of}
 use Rattle.xom_base.specs.declared.entry.Entry.{Entry}
@@ -53,6 +53,7 @@ pub record Agrees (core : CoreState) (slot : ℕ) (owner : Owner) (p : State) : 
   -- registers: the mask is what the program owns, and a cell with the slot's tag has the program's value
   pub mask : (reg : ℕ) → 1 ≤ reg → reg < 34 → bit_at (session_of core slot).mask reg ≡ own_bit (plain_cell p.cells reg)
   pub cells : (reg : ℕ) → 1 ≤ reg → reg < 34 → (cell_at core.cells reg).tag ≡ slot → plain_cell p.cells reg ≡ Own (cell_at core.cells reg).value
+  pub places : length p.cells ≡ 34
   -- private memory
   pub memory : memory_of core slot ≡ p.bytes
 
@@ -63,10 +64,15 @@ IsHeld owners core slot =
   × FollowsAlone owners core.entries (session_of core slot).install (session_of core slot).id owner p
   × Agrees core slot owner p
 
--- an entry of the journal installs this guest
+-- the entry installs a guest under this number and id
+abbrev pub Installs : Entry → ℕ → ImageId → Type 0
+Installs (entry.Install number slot its_id place start lines) install id = (number ≡ install) × (its_id ≡ id)
+Installs other install id = ⊥
+
+-- an entry of the journal does
 abbrev pub IsInstalled : List Entry → ℕ → ImageId → Type 0
-IsInstalled entries install id =
-  (i slot place start lines : ℕ) × (slice_get entries i ≡ Some (entry.Install install slot id place start lines))
+IsInstalled [] install id = ⊥
+IsInstalled (first ∷ entries) install id = Installs first install id ⊎ IsInstalled entries install id
 
 abbrev pub IsLive : CoreState → ℕ → Type 0
 IsLive core slot = is_live (session_of core slot).state ≡ true
@@ -90,7 +96,8 @@ pub record SlotsHold (owners : List Owner) (core : CoreState) : Type 0 where
   pub numbers : (slot : ℕ) → (session_of core slot).install ≤ core.installs
   pub steps : (install : ℕ) → core.installs < install → steps_of install core.entries ≡ []
   pub installs : (install : ℕ) (id : ImageId) → IsInstalled core.entries install id → install ≤ core.installs
-  -- shapes
+  -- shapes, and no guest in the null compartment
+  pub null : is_live (session_of core 0).state ≡ false
   pub cell_places : length core.cells ≡ 34
   pub session_places : length core.sessions ≡ 17
   pub memory_places : length core.memories ≡ 17

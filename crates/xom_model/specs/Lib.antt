@@ -6,3 +6,4 @@ pub mod Install
 pub mod Holds
 pub mod Seen
 pub mod Run
+pub mod Epochs
