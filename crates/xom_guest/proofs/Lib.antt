@@ -1,2 +1,1 @@
-pub mod Assumed
 pub mod Faults

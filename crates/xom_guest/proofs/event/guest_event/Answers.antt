@@ -2,7 +2,7 @@
 use Rattle.std.proofs.Common.{sym, ◌∙◌, ap, subst}
 use Rattle.xom_model.specs.Holds.{Holds}
 use Rattle.xom_model.specs.State.{CoreState}
-use Rattle.xom_guest.proofs.Assumed.{guest_keeps}
+use Rattle.xom_model.proofs.Kept.{guest_keeps}
 use Rattle.xom_guest.proofs.Faults.{guest-fault}
 use Rattle.xom_private.specs.Cores.{core_of}
 use Rattle.xom_guest.proofs.event.guest_event.Goals as goal

@@ -1,7 +1,7 @@
 -- What the machine keeps is kept by each operation.
 use Rattle.std.proofs.Common.{sym, subst}
 use Rattle.xom_model.specs.Holds.{Holds}
-use Rattle.xom_ops.proofs.Assumed.{operation_keeps}
+use Rattle.xom_model.proofs.Kept.{operation_keeps}
 use Rattle.xom_private.specs.Cores.{core_of}
 use Rattle.xom_ops.proofs.operations.operate.Goals as goal
 
