@@ -1,10 +1,10 @@
 -- What follows of a form, where its function has just the values of its grammar.
-use Rattle.std.proofs.Common.{◌≡◌, ℕ, Bool, true, false, cond, ◌⊎◌, inl, inr, Option, Some, None, Result, Ok, Err, refl, sym, ap, subst, ◌∙◌}
-use Rattle.std.specs.Prelude.{◌↔◌, IfOk, IsErrOf, option_and_then}
+use Rattle.std.proofs.Common.{◌≡◌, Bool, true, false, cond, ◌⊎◌, inl, inr, Option, Some, None, Result, Ok, Err, refl, sym, subst, ◌∙◌}
+use Rattle.std.specs.Prelude.{◌↔◌, IfOk}
 use Rattle.std.proofs.lemmas.Option.{none-some}
-use Rattle.xom_script.specs.Forms.{AnswersForm, Refuses}
+use Rattle.xom_script.specs.Forms.{AnswersForm}
 use Rattle.xom_script.specs.declared.fault.FormFault.{FormFault}
-use Rattle.xom_script.specs.declared.fault.FormFault.TheVariants.{NotBuilt, NoMemory}
+use Rattle.xom_script.specs.declared.fault.FormFault.TheVariants.{NotBuilt}
 
 module _ {A : Type 0} (form : Option A) (P : A → Type 0) (exact : (x : A) → (form ≡ Some x) ↔ P x) where
   -- what is answered is in the grammar
@@ -19,11 +19,6 @@ module _ {A : Type 0} (form : Option A) (P : A → Type 0) (exact : (x : A) → 
   -- where the form is refused nothing is in the grammar
   pub bad_by_form : (r : Result A FormFault) → AnswersForm form r → r ≡ Err NotBuilt → (x : A) → ¬ (P x)
   bad_by_form r h e x p = none-some x (sym (subst (λ (r : Result A FormFault). AnswersForm form r) e h) ∙ (exact x).1 p)
-
--- a value that was computed in two steps
-pub bind_some : {A B : Type 0} (o : Option A) (f : A → Option B) (y : B) → option_and_then f o ≡ Some y → (x : A) × (o ≡ Some x) × (f x ≡ Some y)
-bind_some None f y h = absurd (none-some y h)
-bind_some (Some x) f y h = (x, refl, h)
 
 -- a guarded value
 pub holds_some : {A : Type 0} (b : Bool) (x y : A) → cond b (Some x) None ≡ Some y → (b ≡ true) × (Some x ≡ Some y)

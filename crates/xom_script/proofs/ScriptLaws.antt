@@ -1,18 +1,18 @@
 -- A script's function has just the values of its grammar.
-use Rattle.std.proofs.Common.{◌≡◌, ℕ, ◌^◌, Bool, true, false, cond, eqb, ◌⊎◌, inl, inr, List, [], ◌∷◌, Option, Some, None, Result, Ok, Err, refl, sym, ap, subst, ◌∙◌}
-use Rattle.std.specs.Prelude.{◌↔◌, codes, option_map, option_and_then}
+use Rattle.std.proofs.Common.{◌≡◌, ℕ, ◌^◌, true, cond, eqb, inl, inr, List, [], ◌∷◌, Some, None, Result, Ok, Err, refl, ap, subst}
+use Rattle.std.specs.Prelude.{◌↔◌, codes}
 use Rattle.std.specs.Str.{bytes_eq}
 use Rattle.std.proofs.lemmas.Bool.{eqb-true}
-use Rattle.std.proofs.lemmas.Option.{none-some, same_Some}
+use Rattle.std.proofs.lemmas.Option.{none-some, option_and_then_some as steps, same_Some}
 use Rattle.std.proofs.lemmas.Slice.Eq.{bytes_eq-Decides}
-use Rattle.xom_base.specs.Lines.{Reads, Rows, Tells, lines_of, read_from, step_of}
-use Rattle.xom_base.specs.Numbers.{Writes, number_below_of}
+use Rattle.xom_base.specs.Lines.{Rows, Tells, lines_of, read_from}
+use Rattle.xom_base.specs.Numbers.{number_below_of}
 use Rattle.xom_base.proofs.LineLaws.{Tells-rows, only_reads, reads_from}
 use Rattle.xom_base.proofs.NumberLaws.{cond_then, number_below_of-exact}
 use Rattle.xom_base.specs.declared.event.Op.{Op}
 use Rattle.xom_base.specs.declared.event.Op.TheVariants.{Install, Enter, Resume, Save, Restore, Map, Unmap, SetReg, Kill, Out, Halt}
-use Rattle.xom_script.specs.Scripts.{IsOp, IsScript, enter_of, op_of, op_step, resume_of, script_at, setreg_of, values_of, where_holds}
-use Rattle.xom_script.proofs.FormLaws.{bind_some, chosen, holds_some}
+use Rattle.xom_script.specs.Scripts.{IsOp, IsScript, enter_of, op_of, op_step, resume_of, script_at, setreg_of, values_of}
+use Rattle.xom_script.proofs.FormLaws.{chosen, holds_some}
 
 -- the word is the one that it was compared with
 same_word : (word name : List ℕ) → bytes_eq word name ≡ true → word ≡ name
@@ -21,33 +21,37 @@ same_word word name h = (bytes_eq-Decides word name).0 h
 enter_found : (name a : List ℕ) (op : Op) → name ≡ codes "enter" → enter_of a ≡ Some op → IsOp (name ∷ a ∷ []) op
 unfolding enter_of
 enter_found name a op is h =
-    let slot = bind_some (number_below_of (2 ^ 32) a) (λ slot. Some (Enter slot)) op h in
-    subst (IsOp (name ∷ a ∷ [])) (same_Some (Enter slot.0) op slot.2)
-      (a, ap (λ (name : List ℕ). name ∷ a ∷ []) is, (number_below_of-exact (2 ^ 32) a slot.0).0 slot.1)
+    steps _ (number_below_of (2 ^ 32) a) op h (λ slot read h.
+    subst (IsOp (name ∷ a ∷ [])) (same_Some (Enter slot) op h)
+      (a, ap (λ (name : List ℕ). name ∷ a ∷ []) is, (number_below_of-exact (2 ^ 32) a slot).0 read))
 
 resume_found : (name a b : List ℕ) (op : Op) → name ≡ codes "resume" → resume_of a b ≡ Some op → IsOp (name ∷ a ∷ b ∷ []) op
 unfolding resume_of
 resume_found name a b op is h =
-    let slot = bind_some (number_below_of (2 ^ 32) a) (λ slot. option_and_then (λ signal. where_holds (eqb signal 0) (Resume slot signal)) (number_below_of (2 ^ 32) b)) op h in
-    let signal = bind_some (number_below_of (2 ^ 32) b) (λ signal. where_holds (eqb signal 0) (Resume slot.0 signal)) op slot.2 in
-    let none = holds_some (eqb signal.0 0) (Resume slot.0 signal.0) op signal.2 in
-    subst (IsOp (name ∷ a ∷ b ∷ [])) (same_Some (Resume slot.0 signal.0) op none.1) (
-      a, b, ap (λ (name : List ℕ). name ∷ a ∷ b ∷ []) is,
-      (number_below_of-exact (2 ^ 32) a slot.0).0 slot.1,
-      (number_below_of-exact (2 ^ 32) b signal.0).0 signal.1,
-      eqb-true signal.0 0 none.0,
-    )
+    steps _ (number_below_of (2 ^ 32) a) op h (λ slot read_slot h.
+    steps _ (number_below_of (2 ^ 32) b) op h (λ signal read_signal h.
+    let none = holds_some (eqb signal 0) (Resume slot signal) op h in
+    subst (IsOp (name ∷ a ∷ b ∷ [])) (same_Some (Resume slot signal) op none.1) (
+      a,
+      b,
+      ap (λ (name : List ℕ). name ∷ a ∷ b ∷ []) is,
+      (number_below_of-exact (2 ^ 32) a slot).0 read_slot,
+      (number_below_of-exact (2 ^ 32) b signal).0 read_signal,
+      eqb-true signal 0 none.0,
+    )))
 
 setreg_found : (name a b : List ℕ) (op : Op) → name ≡ codes "setreg" → setreg_of a b ≡ Some op → IsOp (name ∷ a ∷ b ∷ []) op
 unfolding setreg_of
 setreg_found name a b op is h =
-    let reg = bind_some (number_below_of (2 ^ 32) a) (λ reg. option_and_then (λ value. Some (SetReg reg value)) (number_below_of (2 ^ 32) b)) op h in
-    let value = bind_some (number_below_of (2 ^ 32) b) (λ value. Some (SetReg reg.0 value)) op reg.2 in
-    subst (IsOp (name ∷ a ∷ b ∷ [])) (same_Some (SetReg reg.0 value.0) op value.2) (
-      a, b, ap (λ (name : List ℕ). name ∷ a ∷ b ∷ []) is,
-      (number_below_of-exact (2 ^ 32) a reg.0).0 reg.1,
-      (number_below_of-exact (2 ^ 32) b value.0).0 value.1,
-    )
+    steps _ (number_below_of (2 ^ 32) a) op h (λ reg read_reg h.
+    steps _ (number_below_of (2 ^ 32) b) op h (λ value read_value h.
+    subst (IsOp (name ∷ a ∷ b ∷ [])) (same_Some (SetReg reg value) op h) (
+      a,
+      b,
+      ap (λ (name : List ℕ). name ∷ a ∷ b ∷ []) is,
+      (number_below_of-exact (2 ^ 32) a reg).0 read_reg,
+      (number_below_of-exact (2 ^ 32) b value).0 read_value,
+    )))
 
 op_found : (words : List (List ℕ)) (op : Op) → op_of words ≡ Some op → IsOp words op
 unfolding op_of

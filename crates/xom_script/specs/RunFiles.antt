@@ -1,5 +1,5 @@
 -- Run files in their strict form: eight lines in one order, one space between words, no comment.
-use Rattle.std.specs.Prelude.{◌≡◌, ℕ, ◌+◌, ◌^◌, ◌<◌, ◌≤◌, ◌&&◌, ◌||◌, ◌==◌, nat_lt, nat_le, nat_eq, Bool, true, false, not, if◌then◌else◌, List, [], ◌∷◌, length, map, drop, codes, Option, Some, None, option_and_then}
+use Rattle.std.specs.Prelude.{◌≡◌, ℕ, ◌^◌, ◌<◌, ◌≤◌, ◌&&◌, ◌||◌, ◌==◌, nat_lt, nat_le, nat_eq, Bool, true, false, not, if◌then◌else◌, List, [], ◌∷◌, length, map, drop, codes, Option, Some, None, option_and_then}
 use Rattle.std.specs.List.{AllZip, slice_split, starts_with, join_with_byte, list_all}
 use Rattle.std.specs.Option.{option_map_or}
 use Rattle.std.specs.Str.{IsUtf8, bytes_eq, is_utf8}
@@ -8,7 +8,6 @@ use Rattle.xom_base.specs.Lines.{lines_of}
 use Rattle.xom_base.specs.Numbers.{Writes, IsNumber, number_of, number_below_of}
 use Rattle.xom_base.specs.Words.{begins_comment, cut_of, has_bytes, is_blank}
 use Rattle.xom_base.specs.declared.key.Key256.{Key256}
-use Rattle.xom_base.specs.declared.key.ImageId.{ImageId}
 use Rattle.xom_base.specs.declared.schedule.Interrupts.{Interrupts}
 use Rattle.xom_base.specs.declared.schedule.Interrupts.TheVariants.{Never, Every, At}
 use Rattle.xom_base.specs.declared.schedule.Schedule.{Schedule}

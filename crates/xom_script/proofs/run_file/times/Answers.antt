@@ -1,5 +1,5 @@
 -- One word after another.
-use Rattle.std.proofs.Common.{sym, ◌∙◌, ◌+◌, ℕ, List, [], map, drop, get_or, arith, Bor}
+use Rattle.std.proofs.Common.{sym, ◌∙◌, ◌+◌, ℕ, List, [], map, drop, get_or, Bor}
 use Rattle.std.proofs.lemmas.List.{drop_more, drop_all}
 use Rattle.xom_script.proofs.RunFileLaws.{times_none, times_low, times_next, times_done}
 use Rattle.xom_script.proofs.run_file.times.Goals as goal
