@@ -1,8 +1,8 @@
 -- Where a byte list is cut, and the lines that come of it.
 use Rattle.std.proofs.Common.{◌≡◌, ℕ, zero, suc, ◌+◌, ◌<◌, ◌≤◌, Bool, true, false, cond, eqb, ltb, ◌⊎◌, inl, inr, List, [], ◌∷◌, ◌++◌, length, take, drop, Option, Some, None, refl, sym, ap, ◌∙◌, arith, add-one}
 use Rattle.std.specs.Prelude.{option_map, position}
-use Rattle.std.specs.List.{position_or_len, before_first, onto_first}
-use Rattle.std.proofs.lemmas.Bool.{cases_Bool, cases_lt, eqb-true, lt-ltb, le-ltb}
+use Rattle.std.specs.List.{AllByRecursion, onto_first, position_or_len}
+use Rattle.std.proofs.lemmas.Bool.{cases_Bool, cases_lt, eq-eqb, eqb-true, lt-ltb, le-ltb}
 use Rattle.std.proofs.lemmas.List.{length-append}
 use Rattle.std.proofs.Math.Numerals.{one-add}
 use Rattle.std.proofs.lemmas.Option.{some_pair_parts, none-some, cond_some}
@@ -113,3 +113,9 @@ cut_of-whole at (b ∷ bs) front back h =
 
 pub cut_of-shorter : (at : ℕ) (xs front back : List ℕ) → cut_of at xs ≡ Some (front, back) → length back < length xs
 cut_of-shorter at xs front back h = rw (cut_of-whole at xs front back h, length-append front (at ∷ back)) (omega arith)
+
+-- the front has no such byte, and the byte stands behind it
+pub cut_of-at : (at : ℕ) (front back : List ℕ) → AllByRecursion (λ byte. eqb byte at ≡ false) front → cut_of at (front ++ (at ∷ back)) ≡ Some (front, back)
+unfolding cut_of
+cut_of-at at [] back none = rw (eq-eqb at at refl) refl
+cut_of-at at (byte ∷ front) back none = rw (none.0, cut_of-at at front back none.1) refl

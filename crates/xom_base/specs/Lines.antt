@@ -28,16 +28,17 @@ Reads {S} {X} format s n (line ∷ lines) values last =
     (value : Option X) × (next : S) × (more : List X) × format s n line value next
     × (values ≡ option_to_list value ++ more) × Reads format next (n + 1) lines more last
 
--- The line of this number is the first bad one: those before it are read, and it has no value then.
-pub record IsFirstBad {S X : Type 0} (format : Format S X) (s : S) (lines : List (List ℕ)) (bad : ℕ) : Type 0 where
+-- The line of this number is the first bad one of the lines, of which the first has number n: those
+-- before it are read, and whatever value it might have, it isn't in the format then.
+pub record IsFirstBad {S X : Type 0} (format : Format S X) (s : S) (n : ℕ) (lines : List (List ℕ)) (bad : ℕ) : Type 0 where
   pub before : List (List ℕ)
   pub line : List ℕ
   pub after : List (List ℕ)
   pub values : List X
   pub state : S
   pub whole : lines ≡ before ++ (line ∷ after)
-  pub number : bad ≡ length before + 1
-  pub reads : Reads format s 1 before values state
+  pub number : bad ≡ n + length before
+  pub reads : Reads format s n before values state
   pub has_none : (value : Option X) (next : S) → format state bad line value next → ⊥
 
 -- A format whose lines are told by their words: a line with none is passed over, and changes nothing.
@@ -70,6 +71,11 @@ go_on n (Some read) more = with_front (option_to_list read.0) (more read.1)
 unfoldable pub read_from : {S X : Type 0} → Step S X → S → ℕ → List (List ℕ) → Result (List X × S) ℕ
 read_from step s n [] = Ok ([], s)
 read_from step s n (line ∷ lines) = go_on n (step s n line) (λ next. read_from step next (n + 1) lines)
+
+-- the step makes of each line what the format says of it
+pub record Tells {S X : Type 0} (step : Step S X) (format : Format S X) : Type 0 where
+  pub reads : (s : S) (n : ℕ) (line : List ℕ) (value : Option X) (next : S) → step s n line ≡ Some (value, next) → format s n line value next
+  pub only : (s : S) (n : ℕ) (line : List ℕ) (value : Option X) (next : S) → format s n line value next → step s n line ≡ Some (value, next)
 
 -- the step of a format that is told by the words of its lines, from what it makes of words
 abbrev pub with_words : {S X : Type 0} → (S → ℕ → List (List ℕ) → Option (X × S)) → S → ℕ → List (List ℕ) → Option (Option X × S)

@@ -1,13 +1,13 @@
 -- Run files in their strict form: eight lines in one order, one space between words, no comment.
-use Rattle.std.specs.Prelude.{◌≡◌, ℕ, ◌+◌, ◌^◌, ◌<◌, ◌≤◌, ◌&&◌, ◌||◌, ◌==◌, nat_lt, nat_le, nat_eq, Bool, true, not, if◌then◌else◌, List, [], ◌∷◌, length, map, drop, codes, Option, Some, None, option_and_then}
+use Rattle.std.specs.Prelude.{◌≡◌, ℕ, ◌^◌, ◌<◌, ◌≤◌, ◌&&◌, ◌||◌, ◌==◌, nat_lt, nat_le, nat_eq, Bool, true, false, not, if◌then◌else◌, List, [], ◌∷◌, length, map, drop, codes, Option, Some, None, option_and_then}
 use Rattle.std.specs.List.{AllZip, slice_split, starts_with, join_with_byte, list_all}
+use Rattle.std.specs.Option.{option_map_or}
 use Rattle.std.specs.Str.{IsUtf8, bytes_eq, is_utf8}
 use Rattle.xom_base.specs.Hex.{IsHex, hex_of}
 use Rattle.xom_base.specs.Lines.{lines_of}
 use Rattle.xom_base.specs.Numbers.{Writes, IsNumber, number_of, number_below_of}
 use Rattle.xom_base.specs.Words.{begins_comment, cut_of, has_bytes, is_blank}
 use Rattle.xom_base.specs.declared.key.Key256.{Key256}
-use Rattle.xom_base.specs.declared.key.ImageId.{ImageId}
 use Rattle.xom_base.specs.declared.schedule.Interrupts.{Interrupts}
 use Rattle.xom_base.specs.declared.schedule.Interrupts.TheVariants.{Never, Every, At}
 use Rattle.xom_base.specs.declared.schedule.Schedule.{Schedule}
@@ -40,7 +40,7 @@ IsInterrupts words Never = words ≡ codes "never" ∷ []
 IsInterrupts words (Every n) = ⊥
 IsInterrupts words (At times) =
     (numbers : List (List ℕ)) × (words ≡ codes "at" ∷ numbers)
-    × AllZip (Writes (2 ^ 64)) numbers times × (0 < length times) × Ascends 0 times
+    × AllZip IsNumber numbers times × (0 < length times) × Ascends 0 times
 
 -- the text has these eight lines, and the words in them write these values
 pub record IsRunFile (text : List ℕ) (file : RunFile) : Type 0 where
@@ -63,9 +63,9 @@ pub record IsRunFile (text : List ℕ) (file : RunFile) : Type 0 where
     ∷ [])
   pub machine_is : IsHex 32 machine file.machine.0
   pub boot_is : Writes (2 ^ 63) boot file.boot
-  pub frames_is : Writes (8192 + 1) frames file.frames
+  pub frames_is : Writes 8193 frames file.frames
   pub frames_least : 4 ≤ file.frames
-  pub budget_is : Writes (2 ^ 20 + 1) budget file.budget
+  pub budget_is : Writes 1048577 budget file.budget
   pub plain_is : IsName file.owner.plain
   pub key_is : IsHex 32 key file.owner.key.0
   pub id_is : IsHex 16 id file.owner.id.0
@@ -121,11 +121,9 @@ owner_of line = do
   id ← hex_of 16 second.1
   Some (record { plain = plain; key = record { 0 = key }; id = record { 0 = id } })
 
--- the guest is the owner's image
-unfoldable pub guest_of : List ℕ → List ℕ → Option (List ℕ)
-guest_of plain line = do
-  word ← behind (codes "guest ") line
-  where_holds (bytes_eq word plain) word
+-- whether the guest is the owner's image
+unfoldable pub is_guest : List ℕ → List ℕ → Bool
+is_guest plain line = option_map_or (λ word. bytes_eq word plain) (behind (codes "guest ") line) false
 
 unfoldable pub kernel_of : List ℕ → Option (List ℕ)
 kernel_of line = behind (codes "kernel script ") line >>= name_of
@@ -161,7 +159,7 @@ rows_of (machine ∷ boot ∷ frames ∷ budget ∷ owner ∷ guest ∷ kernel �
   frames ← frames_of frames
   budget ← budget_of budget
   owner ← owner_of owner
-  guest ← guest_of owner.plain guest
+  named ← where_holds (is_guest owner.plain guest) guest
   kernel ← kernel_of kernel
   schedule ← schedule_of interrupt
   Some (record { machine = machine; boot = boot; frames = frames; budget = budget; owner = owner; kernel = kernel; schedule = schedule })

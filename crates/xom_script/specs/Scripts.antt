@@ -4,7 +4,7 @@ use Rattle.std.specs.Str.{bytes_eq}
 use Rattle.xom_base.specs.Lines.{Reads, Rows, Step, lines_of, read_from, step_of}
 use Rattle.xom_base.specs.Numbers.{Writes, number_below_of}
 use Rattle.xom_base.specs.declared.event.Op.{Op}
-use Rattle.xom_base.specs.declared.event.Op.TheVariants.{Install, Enter, Resume, Save, Restore, Map, Unmap, SetReg, Kill, Out, Halt}
+use Rattle.xom_base.specs.declared.event.Op.TheVariants.{Enter, Resume, SetReg, Halt}
 
 -- a number below 2^32
 abbrev pub Writes32 : List ℕ → ℕ → Type 0

@@ -3,7 +3,7 @@ ghost use Rattle.std.specs.List.{slice_split};
 ghost use Rattle.xom_base.specs.Lines.{lines_of};
 ghost use Rattle.xom_base.specs.Numbers.{number_below_of};
 ghost use Rattle.xom_script.specs.Forms.{AnswersForm};
-ghost use Rattle.xom_script.specs.RunFiles.{IsRunFile, run_file_at, rows_of, machine_of, boot_of, frames_of, budget_of, owner_of, guest_of, kernel_of, schedule_of, interrupts_of, at_of, times_of, name_of, behind, is_space, is_word, is_word_byte};
+ghost use Rattle.xom_script.specs.RunFiles.{IsRunFile, run_file_at, rows_of, machine_of, boot_of, frames_of, budget_of, owner_of, is_guest, kernel_of, schedule_of, interrupts_of, at_of, times_of, name_of, behind, is_space, is_word, is_word_byte};
 ghost use Rattle.xom_script.specs.declared.run_file.RunFile.{RunFile as RunFileValue};
 
 use crate::{FormFault, Name};
@@ -83,7 +83,9 @@ fn rows(alloc: Global, lines: &[&[u8]]) -> Result<RunFile, FormFault>
     let frames = frames_in(frames).ok_or(FormFault::NotBuilt)?;
     let budget = budget_in(budget).ok_or(FormFault::NotBuilt)?;
     let owner = owner_in(alloc, owner)?;
-    guest_in(owner.plain.as_bytes(), guest).ok_or(FormFault::NotBuilt)?;
+    if !is_guest(owner.plain.as_bytes(), guest) {
+        return Err(FormFault::NotBuilt);
+    }
     let kernel = kernel_in(alloc, kernel)?;
     let schedule = schedule_in(alloc, interrupt)?;
     Ok(RunFile {
@@ -144,12 +146,14 @@ fn owner_in(alloc: Global, line: &[u8]) -> Result<OwnerFile, FormFault>
     })
 }
 
-#[tactic(auto, unfolding(crate::specs::RunFiles::guest_of))]
-fn guest_in<'a>(plain: &[u8], line: &'a [u8]) -> Option<&'a [u8]>
-    ensures { option_copied result ≡ guest_of plain.now line.now }
+#[tactic(auto, unfolding(crate::specs::RunFiles::is_guest))]
+fn is_guest(plain: &[u8], line: &[u8]) -> bool
+    ensures { result ≡ is_guest plain.now line.now }
 {
-    let word = rest_behind(b"guest ", line)?;
-    (word == plain).then_some(word)
+    match rest_behind(b"guest ", line) {
+        Some(word) => word == plain,
+        None => false,
+    }
 }
 
 #[tactic(auto, unfolding(crate::specs::RunFiles::kernel_of))]
@@ -203,7 +207,9 @@ fn times(alloc: Global, words: &[&[u8]]) -> Result<NumberList, FormFault>
     let mut times = NumberList::new(alloc);
     let mut last = 0;
     for word in words {
-        let time = number(word).ok_or(FormFault::NotBuilt)?;
+        let Some(time) = number(word) else {
+            return Err(FormFault::NotBuilt);
+        };
         if time <= last {
             return Err(FormFault::NotBuilt);
         }
