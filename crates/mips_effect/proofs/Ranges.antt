@@ -1,18 +1,16 @@
 -- The numbers of a guest's effect are in their ranges.
-use Rattle.std.proofs.Common.{◌≡◌, ℕ, ◌+◌, ◌*◌, ◌%◌, ◌^◌, ◌<◌, ◌≤◌, ◌==◌, nat_lt, ◌&&◌, Bool, true, false, Result, Ok, Err, IfOk, cond, subst, refl, sym, arith}
+use Rattle.std.proofs.Common.{◌≡◌, ℕ, ◌%◌, ◌<◌, ◌==◌, nat_lt, Ok, Err, IfOk, arith}
 use Rattle.std.proofs.lemmas.Bool.{cond_both, eqb-true, eqb-false, ltb-true, and_parts}
 use Rattle.mips_isa.specs.declared.instruction.Ins.{Ins}
 use Rattle.mips_isa.specs.declared.instruction.Ins.TheVariants.{Sll, Addu, Beq, Addiu, Ori, Lui, Lw, Sw, Syscall, Xmvtn, Xmvfn, Xexit}
 use Rattle.mips_isa.specs.Words.{Fits}
-use Rattle.xom_base.specs.declared.event.OwnFault.{OwnFault}
 use Rattle.xom_base.specs.declared.event.OwnFault.TheVariants as fault
 use Rattle.mips_effect.specs.declared.effects.Effect.{Effect}
-use Rattle.mips_effect.specs.declared.seen.Mode.{Mode}
-use Rattle.mips_effect.specs.declared.seen.Mode.TheVariants.{Guest, Null}
+use Rattle.mips_effect.specs.declared.seen.Mode.TheVariants.{Guest}
 use Rattle.mips_effect.specs.declared.seen.Seen.{Seen}
 use Rattle.mips_effect.specs.declared.wish.LoadKind.{LoadKind}
 use Rattle.mips_effect.specs.declared.wish.LoadKind.TheVariants as kind
-use Rattle.mips_effect.specs.Effects.{sources_of, AreCells, set, sets, loads, stores, is_open, size_of, act, judged, is_reserved, is_barred, effect_of, seen_at, number_of, plus_signed, private_bytes, Ranged}
+use Rattle.mips_effect.specs.Effects.{sources_of, AreCells, set, sets, loads, stores, is_open, act, judged, is_reserved, is_barred, effect_of, seen_at, number_of, plus_signed, private_bytes, Ranged}
 
 -- an instruction reads cells alone
 pub sources_of-below : (i : Ins) → Fits i → ((sources_of i).0 < 34) × ((sources_of i).1 < 34) × ((sources_of i).2 < 34)
@@ -42,20 +40,20 @@ loads-ranged : (how : LoadKind) (reg address old following : ℕ) → reg < 32 �
 loads-ranged kind.Word reg address old following below =
     cond_both (is_open Guest 4 address) _ _ (λ r. IfOk r Ranged)
     (λ open_there.
-        let parts = and_parts (address % 4 == 0) (nat_lt address private_bytes) open_there in
-        let aligned = eqb-true (address % 4) 0 parts.0 in
-        let private = ltb-true address private_bytes parts.1 in
-        record { writes = tt; wish = record { register = below; aligned = aligned; private = omega arith } })
+    let parts = and_parts (address % 4 == 0) (nat_lt address private_bytes) open_there in
+    let aligned = eqb-true (address % 4) 0 parts.0 in
+    let private = ltb-true address private_bytes parts.1 in
+    record { writes = tt; wish = record { register = below; aligned = aligned; private = omega arith } })
     (λ _. tt)
 
 stores-ranged : (address value following : ℕ) → IfOk (stores Guest 4 address value following) Ranged
 stores-ranged address value following =
     cond_both (is_open Guest 4 address) _ _ (λ r. IfOk r Ranged)
     (λ open_there.
-        let parts = and_parts (address % 4 == 0) (nat_lt address private_bytes) open_there in
-        let aligned = eqb-true (address % 4) 0 parts.0 in
-        let private = ltb-true address private_bytes parts.1 in
-        record { writes = tt; wish = record { some = omega arith; few = omega arith; one_word = omega arith; private = omega arith } })
+    let parts = and_parts (address % 4 == 0) (nat_lt address private_bytes) open_there in
+    let aligned = eqb-true (address % 4) 0 parts.0 in
+    let private = ltb-true address private_bytes parts.1 in
+    record { writes = tt; wish = record { some = omega arith; few = omega arith; one_word = omega arith; private = omega arith } })
     (λ _. tt)
 
 -- ---- The instructions

@@ -12,7 +12,8 @@ use xom_base::OwnFault;
 
 /// What an instruction does, given what its one sees of the cells that `sources` names, and the
 /// pair: the addresses of the instruction and of the one after it. A place in which no cell is read
-/// may be given anything. In mode Null nothing is foreign, and a foreign cell counts as 0.
+/// may be given anything, and nothing depends on `pc`: branches go by the next address. In mode
+/// Null nothing is foreign, and a foreign cell counts as 0.
 ///
 /// Faults are looked for in this order: Reserved, an instruction that the compartment doesn't have;
 /// Foreign, a cell that isn't owned, and for `xmvfn` one that is; then Overflow, Address and Break.
@@ -30,10 +31,15 @@ pub fn effect(
     ensures value { result ≡ effect_of ins mode first second third pc npc }
     ensures ranged { mode ≡ Mode.Guest → IfOk result Ranged }
 {
-    // No effect depends on where the instruction stands: links and branches go by the next address.
-    let _ = pc;
     let (a, b, c) = sources(ins);
-    judged(ins, mode, seen_at(a, first), seen_at(b, second), seen_at(c, third), npc)
+    judged(
+        ins,
+        mode,
+        seen_at(a, first),
+        seen_at(b, second),
+        seen_at(c, third),
+        npc,
+    )
 }
 
 /// Cell 0 is zero, whatever is told of it.
@@ -44,7 +50,14 @@ fn seen_at(cell: u8, seen: Seen) -> Seen
 }
 
 /// The faults that come before the instruction's own, then the instruction.
-fn judged(ins: Ins, mode: Mode, first: Seen, second: Seen, third: Seen, following: u32) -> Result<Effect, OwnFault>
+fn judged(
+    ins: Ins,
+    mode: Mode,
+    first: Seen,
+    second: Seen,
+    third: Seen,
+    following: u32,
+) -> Result<Effect, OwnFault>
     requires { Fits ins }
     ensures { result ≡ judged ins mode first second third following }
 {
@@ -107,7 +120,14 @@ fn act(ins: Ins, mode: Mode, s: u32, t: u32, following: u32) -> Result<Effect, O
         Ins::Addiu { rt, imm, .. } => sets(rt, plus_signed(s, imm), following),
         Ins::Ori { rt, imm, .. } => sets(rt, s | u32::from(imm), following),
         Ins::Lui { rt, imm } => sets(rt, u32::from(imm) << 16, following),
-        Ins::Lw { rt, imm, .. } => loads(mode, LoadKind::Word, rt, plus_signed(s, imm), t, following),
+        Ins::Lw { rt, imm, .. } => loads(
+            mode,
+            LoadKind::Word,
+            rt,
+            plus_signed(s, imm),
+            t,
+            following,
+        ),
         Ins::Sw { imm, .. } => stores(mode, 4, plus_signed(s, imm), t, following),
         Ins::Syscall { code } => wishes(Wish::Call(code), following),
         Ins::Xmvtn { rs } => wishes(Wish::Release { reg: rs, value: s }, following),

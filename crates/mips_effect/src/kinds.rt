@@ -36,7 +36,11 @@ pub fn branches(taken: bool, imm: u16, following: u32) -> Result<Effect, OwnFaul
         writes: Writes::Nothing,
         wish: Wish::Nothing,
         pc: following,
-        npc: if taken { target(following, imm) } else { after(following) },
+        npc: if taken {
+            target(following, imm)
+        } else {
+            after(following)
+        },
     })
 }
 
@@ -54,19 +58,34 @@ pub fn loads(
     if !is_open(mode, size(kind), address) {
         return Err(OwnFault::Address);
     }
-    let load = Wish::Load { reg, address, kind, old };
+    let load = Wish::Load {
+        reg,
+        address,
+        kind,
+        old,
+    };
     wishes(load, following)
 }
 
 /// A store of 1, 2 or 4 bytes, at an address that is aligned and, for a guest, private.
-pub fn stores(mode: Mode, count: u8, address: u32, value: u32, following: u32) -> Result<Effect, OwnFault>
+pub fn stores(
+    mode: Mode,
+    count: u8,
+    address: u32,
+    value: u32,
+    following: u32,
+) -> Result<Effect, OwnFault>
     requires { 0 < count }
     ensures { result ≡ stores mode count address value following }
 {
     if !is_open(mode, count, address) {
         return Err(OwnFault::Address);
     }
-    let store = Wish::Store { address, count, value };
+    let store = Wish::Store {
+        address,
+        count,
+        value,
+    };
     wishes(store, following)
 }
 

@@ -1,9 +1,9 @@
 -- The reading of a word is the grammar, both ways.
-use Rattle.std.proofs.Common.{◌≡◌, ℕ, ◌+◌, ◌*◌, ◌/◌, ◌%◌, ◌^◌, ◌<◌, ◌≤◌, ◌==◌, ◌&&◌, not, Bool, true, false, Option, Some, None, IfSome, IsNone, cond, refl, sym, ◌∙◌, ap, arith}
+use Rattle.std.proofs.Common.{◌≡◌, ℕ, ◌+◌, ◌^◌, ◌<◌, ◌≤◌, ◌==◌, ◌&&◌, not, Bool, true, false, Option, Some, None, IfSome, IsNone, cond, refl, sym, ◌∙◌, arith}
 use Rattle.std.proofs.lemmas.Bool.{cond_both, eqb-true, eqb-false, and_parts, ne_eqb, not-true}
 use Rattle.mips_isa.specs.declared.instruction.Ins.{Ins}
 use Rattle.mips_isa.specs.declared.instruction.Ins.TheVariants.{Sll, Addu, Beq, Addiu, Ori, Lui, Lw, Sw, Syscall, Xmvtn, Xmvfn, Xexit}
-use Rattle.mips_isa.specs.Words.{r_word, i_word, c_word, word_of, IsMoved, Fits, Word, IsReserved, op_of, rs_of, rt_of, rd_of, sa_of, function_of, imm_of, code_of, row, read, special_of, compartment_of, immediate_of}
+use Rattle.mips_isa.specs.Words.{r_word, i_word, c_word, IsMoved, Fits, Word, IsReserved, op_of, rs_of, rt_of, rd_of, sa_of, function_of, imm_of, code_of, row, read, special_of, compartment_of, immediate_of}
 
 -- ---- From the instruction to its reading
 

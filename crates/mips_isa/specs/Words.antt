@@ -91,33 +91,33 @@ row clear i = if clear then Some i else None
 -- SPECIAL, by function
 unfoldable pub special_of : (rs rt rd sa function code : ℕ) → Option Ins
 special_of rs rt rd sa function code =
-  if function == 0 then row (rs == 0) (Sll rd rt sa)
-  else (if function == 12 then Some (Syscall code)
-  else (if function == 33 then row (sa == 0) (Addu rd rs rt)
-  else None))
+    if function == 0 then row (rs == 0) (Sll rd rt sa)
+    else (if function == 12 then Some (Syscall code)
+    else (if function == 33 then row (sa == 0) (Addu rd rs rt)
+    else None))
 
 -- COP2, by function
 unfoldable pub compartment_of : (rs rt rd sa function : ℕ) → Option Ins
 compartment_of rs rt rd sa function =
-  if function == 1 then row (not (rs == 0) && (rt == 0 && (rd == 0 && sa == 0))) (Xmvtn rs)
-  else (if function == 2 then row (not (rd == 0) && (not (rs == 0) && (rt == 0 && sa == 0))) (Xmvfn rd rs)
-  else (if function == 3 then row (rs == 0 && (rt == 0 && (rd == 0 && sa == 0))) Xexit
-  else None))
+    if function == 1 then row (not (rs == 0) && (rt == 0 && (rd == 0 && sa == 0))) (Xmvtn rs)
+    else (if function == 2 then row (not (rd == 0) && (not (rs == 0) && (rt == 0 && sa == 0))) (Xmvfn rd rs)
+    else (if function == 3 then row (rs == 0 && (rt == 0 && (rd == 0 && sa == 0))) Xexit
+    else None))
 
 -- the other words, by op
 unfoldable pub immediate_of : (op rs rt imm : ℕ) → Option Ins
 immediate_of op rs rt imm =
-  if op == 4 then Some (Beq rs rt imm)
-  else (if op == 9 then Some (Addiu rt rs imm)
-  else (if op == 13 then Some (Ori rt rs imm)
-  else (if op == 15 then row (rs == 0) (Lui rt imm)
-  else (if op == 35 then Some (Lw rt imm rs)
-  else (if op == 43 then Some (Sw rt imm rs)
-  else None)))))
+    if op == 4 then Some (Beq rs rt imm)
+    else (if op == 9 then Some (Addiu rt rs imm)
+    else (if op == 13 then Some (Ori rt rs imm)
+    else (if op == 15 then row (rs == 0) (Lui rt imm)
+    else (if op == 35 then Some (Lw rt imm rs)
+    else (if op == 43 then Some (Sw rt imm rs)
+    else None)))))
 
 -- the grammar as a reading, field by field: the instruction of a word, or none
 unfoldable pub read : ℕ → Option Ins
 read w =
-  if op_of w == 0 then special_of (rs_of w) (rt_of w) (rd_of w) (sa_of w) (function_of w) (code_of w)
-  else (if op_of w == 18 then compartment_of (rs_of w) (rt_of w) (rd_of w) (sa_of w) (function_of w)
-  else immediate_of (op_of w) (rs_of w) (rt_of w) (imm_of w))
+    if op_of w == 0 then special_of (rs_of w) (rt_of w) (rd_of w) (sa_of w) (function_of w) (code_of w)
+    else (if op_of w == 18 then compartment_of (rs_of w) (rt_of w) (rd_of w) (sa_of w) (function_of w)
+    else immediate_of (op_of w) (rs_of w) (rt_of w) (imm_of w))

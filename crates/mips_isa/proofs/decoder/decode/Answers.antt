@@ -1,5 +1,5 @@
 -- What is read of a word is the instruction of that word, and nothing is read of a reserved one.
-use Rattle.std.proofs.Common.{IsNone, refl, sym, ◌∙◌}
+use Rattle.std.proofs.Common.{refl, sym, ◌∙◌}
 use Rattle.mips_isa.proofs.Reading.{Word-read, read-Word, read-none, reserved-none}
 use Rattle.mips_isa.proofs.decoder.decode.Goals as goal
 

@@ -1,0 +1,13 @@
+//! What the processor keeps of each slot: which guest it holds, where that guest stands, which
+//! registers it owns.
+#![tactic(auto)]
+
+mod mask;
+mod session;
+mod table;
+#[cfg(test)]
+mod tests;
+
+pub use mask::{owns, with_cell, without_cell};
+pub use session::{Session, SlotState, SlotView};
+pub use table::{SLOTS, Table};

@@ -1,0 +1,23 @@
+-- The processor's registers, each with the compartment that it belongs to.
+use Rattle.std.specs.Prelude.{ℕ, ◌==◌, List, map, replicate, slice_index_or, if◌then◌else◌}
+use Rattle.tag_regs.specs.declared.cell.Cell.{Cell}
+
+-- zero, of the null compartment
+abbrev pub empty : Cell
+empty = record { value = 0; tag = 0 }
+
+-- all cells empty. There are 34 places: $1 to $31, HI at 32 and LO at 33; place 0 isn't used
+unfoldable pub all_empty : List Cell
+all_empty = replicate 34 empty
+
+-- the cell of a register
+abbrev pub cell_at : List Cell → ℕ → Cell
+cell_at cells reg = slice_index_or cells reg empty
+
+-- a cell without what belongs to a slot
+abbrev pub scrubbed_cell : ℕ → Cell → Cell
+scrubbed_cell slot cell = if cell.tag == slot then empty else cell
+
+-- nothing is left of a slot
+abbrev pub scrubbed : ℕ → List Cell → List Cell
+scrubbed slot cells = map (scrubbed_cell slot) cells

@@ -1,0 +1,12 @@
+//! The tagged registers: each cell has a value and the compartment that it belongs to.
+//!
+//! Contracts see the list of cells.
+#![tactic(auto)]
+
+mod cell;
+mod cells;
+#[cfg(test)]
+mod tests;
+
+pub use cell::Cell;
+pub use cells::Cells;
