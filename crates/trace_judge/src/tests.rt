@@ -86,29 +86,32 @@ fn hash(text: u8) -> Entry {
     }
 }
 
-#[test]
-fn a_journal_is_judged(rt: HostRuntime) -> Result<(), Fail> {
-    let alloc = rt.alloc();
-    let mut owners = OwnerList::new(alloc);
-    owners.push(owner(alloc)?)?;
-    let mut journal = Journal::new(alloc);
-    let (key, message, place) = (Short::new(&[1]), Short::new(&[2, 3]), 0);
-    add(&mut journal, install(1, 1, MINE))?;
+/// A guest that does what its program does, one of no owner, and one that leaves a step out.
+fn add_guests(journal: &mut Journal) -> Result<(), NoMemory> {
+    add(journal, install(1, 1, MINE))?;
     for entry in steps(1) {
-        add(&mut journal, entry)?;
+        add(journal, entry)?;
     }
-    add(&mut journal, install(2, 2, STRANGE))?;
-    add(&mut journal, Entry::Kill { install: 2 })?;
-    add(&mut journal, install(3, 3, MINE))?;
+    add(journal, install(2, 2, STRANGE))?;
+    add(journal, Entry::Kill { install: 2 })?;
+    add(journal, install(3, 3, MINE))?;
     let [first, _second, third, _last] = steps(3);
-    add(&mut journal, first)?;
-    add(&mut journal, third)?;
+    add(journal, first)?;
+    add(journal, third)?;
     let rule = Rule::LineTag(7);
-    add(&mut journal, Entry::Stop { install: 3, rule })?;
-    add(&mut journal, Entry::Kill { install: 3 })?;
-    add(&mut journal, Entry::Seal { key, message })?;
+    add(journal, Entry::Stop { install: 3, rule })?;
+    add(journal, Entry::Kill { install: 3 })
+}
+
+/// Entries 13 to 19: what is accepted at 14 was sealed, what is accepted at 15 is sealed later.
+fn add_seals(journal: &mut Journal) -> Result<(), NoMemory> {
+    let key = Short::new(&[1]);
+    let message = Short::new(&[2, 3]);
+    let other = Short::new(&[2]);
+    let place = 0;
+    add(journal, Entry::Seal { key, message })?;
     add(
-        &mut journal,
+        journal,
         Entry::Accept {
             key,
             message,
@@ -116,23 +119,33 @@ fn a_journal_is_judged(rt: HostRuntime) -> Result<(), Fail> {
         },
     )?;
     add(
-        &mut journal,
+        journal,
         Entry::Accept {
-            key: message,
+            key: other,
             message,
             place,
         },
     )?;
     add(
-        &mut journal,
+        journal,
         Entry::Seal {
-            key: message,
+            key: other,
             message,
         },
     )?;
-    add(&mut journal, hash(4))?;
-    add(&mut journal, hash(4))?;
-    add(&mut journal, hash(5))?;
+    add(journal, hash(4))?;
+    add(journal, hash(4))?;
+    add(journal, hash(5))
+}
+
+#[test]
+fn a_journal_is_judged(rt: HostRuntime) -> Result<(), Fail> {
+    let alloc = rt.alloc();
+    let mut owners = OwnerList::new(alloc);
+    owners.push(owner(alloc)?)?;
+    let mut journal = Journal::new(alloc);
+    add_guests(&mut journal)?;
+    add_seals(&mut journal)?;
     let text = print_report(alloc, &judge(alloc, &owners, &journal)?)?;
     let told = concat!(
         "guest 1 slot 1 id abababababababababababababababab follows 4 steps ended\n",
