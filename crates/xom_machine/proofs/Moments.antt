@@ -15,9 +15,9 @@ use Rattle.xom_machine.specs.Whole.{InTime}
 free_at : (slot : ℕ) → session_at none_held slot ≡ free
 unfolding none_held
 free_at slot = elim (cases_lt slot 17) [
-    | inl inside ↦ get_or-replicate 17 slot free free inside
-    | inr past ↦ get_or_past (replicate 17 free) slot free past
-  ]
+  | inl inside ↦ get_or-replicate 17 slot free free inside
+  | inr past ↦ get_or_past (replicate 17 free) slot free past
+]
 
 -- at power-on
 pub start_in_time : InTime none_held 0

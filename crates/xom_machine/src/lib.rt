@@ -4,15 +4,15 @@
 //! record, and keeps what the machine keeps of each guest, whatever the kernel does.
 #![tactic(auto)]
 
-
+mod kernel;
 mod machine;
-
-
+mod next;
+mod runs;
 #[cfg(test)]
 mod tests;
 
-
+pub use kernel::Kernel;
 pub use machine::Machine;
 pub use machine::view::View;
-
-
+pub use next::next_event;
+pub use runs::run;

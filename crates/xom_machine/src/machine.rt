@@ -1,4 +1,4 @@
-ghost use Rattle.std.specs.Prelude.{◌≡◌, ◌≤◌, ◌<◌, ◌+◌, ◌*◌, ◌^◌, Bool, true, false, List, ℕ, IfOk, IsOk, OnOk, OnErr, IsTrue, Some};
+ghost use Rattle.std.specs.Prelude.{◌≡◌, ◌≤◌, ◌<◌, ◌+◌, ◌*◌, ◌^◌, Bool, true, false, List, ℕ, IfOk, IsOk, OnOk, OnErr, IsTrue, Some, is_some};
 ghost use Rattle.image_sealer.specs.declared.owner.Owner.{Owner};
 ghost use Rattle.image_sealer.specs.Owners.{owner_of};
 ghost use Rattle.xom_model.specs.Event.{fits as fits_of, guest_turn, is_halt as is_halt_of, on, operated, outcome_of, running as running_of};
@@ -204,6 +204,13 @@ impl Machine {
         ensures few { result < 2 ^ 63 }
     {
         self.events
+    }
+
+    /// Whether a slot's guest runs.
+    pub fn is_guest_running(&self) -> bool
+        ensures { result ≡ is_some (running_of self.now.state) }
+    {
+        self.core.table.running().is_some()
     }
 
     /// Whether the kernel halted the machine.

@@ -39,7 +39,11 @@ impl<'a> View<'a> {
     {
         let machine = self.machine;
         let cell = machine.core.cells.get(reg);
-        if cell.tag == 0 { Some(cell.value) } else { None }
+        if cell.tag == 0 {
+            Some(cell.value)
+        } else {
+            None
+        }
     }
 
     /// The tag of a cell, 1 to 33: 0 for the null compartment, else a slot.

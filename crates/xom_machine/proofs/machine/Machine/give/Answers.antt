@@ -9,5 +9,5 @@ pub returns-clause-holds : goal.returns-clause-holds
 returns-clause-holds c =
     OnOk-then c.install.result _ _
     (λ is owners owner id key plain whose.
-        subst (λ (r : Record). Holds owners r.core) (sym is) (given_holds owners owner c.args.id c.args.key c.args.image.now id key plain whose))
+    subst (λ (r : Record). Holds owners r.core) (sym is) (given_holds owners owner c.args.id c.args.key c.args.image.now id key plain whose))
     c.install.ensures.ok
