@@ -1,11 +1,11 @@
 -- Laws of the counts of faults: no answer lowers one, and a rise stays one.
-use Rattle.std.proofs.Common.{◌≡◌, ℕ, ◌<◌, ◌≤◌, List, refl, sym, inl, inr, arith}
+use Rattle.std.proofs.Common.{ℕ, ◌≤◌, List, arith}
 use Rattle.std.specs.Prelude.{Option, Result, Ok, Err}
 use Rattle.xom_io.specs.declared.files.FileFault.{FileFault}
 use Rattle.xom_io.specs.declared.files.FileFault.TheVariants.{Failed, TooLong, NoMemory}
 use Rattle.xom_io.specs.declared.sink.SinkFault.{SinkFault}
 use Rattle.xom_io.specs.declared.sink.SinkFault.TheVariants.{Failed as SinkFailed, NoMemory as SinkNoMemory}
-use Rattle.xom_io.specs.Answers.{Rises, Told, Gets, Puts, Takes, TakesAll}
+use Rattle.xom_io.specs.Answers.{Rises, Told, Gets, Puts, TakesAll}
 
 -- a count that rose before the last calls, or in them, rose over all of them
 pub Rises-early : (before middle after : ℕ) → Rises before middle → before ≤ middle → middle ≤ after → Rises before after

@@ -1,5 +1,5 @@
 -- What the put took stands behind what was appended before.
-use Rattle.std.proofs.Common.{◌≡◌, ℕ, ◌+◌, ◌-◌, ◌≤◌, List, length, take, drop, ◌∙◌, arith}
+use Rattle.std.proofs.Common.{◌≡◌, ℕ, ◌-◌, List, length, take, drop, ◌∙◌, arith}
 use Rattle.std.proofs.lemmas.List.{length-drop, take_all}
 use Rattle.xom_io.proofs.Appended.{Appends-further}
 use Rattle.xom_io.proofs.sink.put_all.Goals as goal

@@ -1,5 +1,5 @@
 -- The map has what the list of names has.
-use Rattle.std.proofs.Common.{◌≡◌, ◌∙◌, ap}
+use Rattle.std.proofs.Common.{◌∙◌, ap}
 use Rattle.std.specs.BTreeMap.{get_by_text}
 use Rattle.xom_io.proofs.Named.{get-named}
 use Rattle.xom_io.proofs.shelf.Shelf.get.Goals as goal
