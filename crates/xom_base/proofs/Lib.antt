@@ -1,1 +1,5 @@
 pub mod StepLaws
+pub mod CutLaws
+pub mod HexLaws
+pub mod LineLaws
+pub mod NumberLaws

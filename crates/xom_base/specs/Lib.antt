@@ -1,3 +1,7 @@
+pub mod Hex
+pub mod Lines
+pub mod Numbers
 pub mod Padded
 pub mod Steps
 pub mod Entries
+pub mod Words

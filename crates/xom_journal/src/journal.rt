@@ -34,7 +34,9 @@ pub fn cost(entry: &Entry) -> u64
     match entry {
         Entry::Seal { key, message } => ENTRY_COST + key.len() as u64 + message.len() as u64,
         Entry::Accept { key, message, .. } => ENTRY_COST + key.len() as u64 + message.len() as u64,
-        Entry::Hash { preimage, digest } => ENTRY_COST + preimage.len() as u64 + digest.len() as u64,
+        Entry::Hash { preimage, digest } => ENTRY_COST
+            + preimage.len() as u64
+            + digest.len() as u64,
         _ => ENTRY_COST,
     }
 }

@@ -3,6 +3,7 @@ use Rattle.std.proofs.Common.{◌≡◌, ◌≢◌, ◌⊎◌, inl, inr, ℕ, �
 use Rattle.std.proofs.lemmas.List.{get_or-set_same, get_or-set_other, get_or-replicate, length-replicate}
 use Rattle.std.proofs.lemmas.List.{get_or_past}
 use Rattle.std.proofs.lemmas.Bool.Decides.{eqb_tells}
+use Rattle.std.proofs.Math.Decide.{dec_lt}
 use Rattle.std.specs.Int.{bit_at}
 use Rattle.std.proofs.lemmas.Nat.Bits.{bit_at-zero}
 use Rattle.xom_base.specs.Entries.{steps_of}
@@ -22,7 +23,12 @@ use Rattle.session_table.specs.declared.session.SlotState.TheVariants as state
 use Rattle.session_table.specs.Sessions.{free, fresh, is_live, none_held, session_at}
 use Rattle.xom_model.specs.State.{CoreState, all_blank, core_at_start, session_of, memory_of}
 use Rattle.xom_model.specs.Install.{installed, lines_of}
+use Rattle.xom_model.specs.Laws.{StopsHoldAtStart, StopsHoldInstalled}
 use Rattle.xom_model.specs.Holds.{Agrees, Holds, IsAlone, IsHeld, IsInstalled, IsLive, IsRunning, RunningHolds, SlotsHold, own_bit, was_entered}
+
+-- a number is below another, or isn't
+less : (a b : ℕ) → (a < b) ⊎ (b ≤ a)
+less a b = elim (dec_lt a b) [ yes low ↦ inl low | no high ↦ inr (omega arith) ]
 
 -- at power-on each place of the table is free
 free_at : (slot : ℕ) → session_at none_held slot ≡ free
@@ -74,6 +80,16 @@ start_holds owners = record {
     one = λ slot other runs. absurd (rests_too slot runs);
     tagged = λ slot reg runs. absurd (rests_too slot runs);
   };
+}
+
+-- nothing was stopped at power-on
+pub start_stops : StopsHoldAtStart
+start_stops = record {
+  last = tt;
+  unstopped = λ slot live. absurd (rests slot live);
+  apart = λ slot other live. absurd (rests slot live);
+  places = length-none_held;
+  null = ap (λ s. is_live s.state) (free_at 0);
 }
 
 -- the guest of an owner is installed at power-on
@@ -148,3 +164,19 @@ module _ (owners : List Owner) (owner : Owner) (whose : owner_of owners owner.id
       tagged = λ slot reg runs. absurd (none_runs slot runs);
     };
   }
+
+only_one : (owner : Owner) (slot : ℕ) → IsLive (installed core_at_start owner.id owner.key owner.plain) slot → slot ≡ 1
+only_one owner slot live = elim (eqb_tells slot 1) [
+    inl is ↦ is.1
+  | inr differs ↦ absurd (let its = ap (λ s. is_live s.state) (get_or-set_other none_held 1 slot (fresh 1 owner.id owner.key owner.plain.entry (lines_of owner.plain)) free differs.1 ∙ free_at slot) in cc) ]
+
+-- nor after an install
+pub installed_stops : StopsHoldInstalled
+installed_stops owner =
+    record {
+      last = (λ n none. absurd none, tt);
+      unstopped = λ slot live was. elim was [ inl none ↦ none | inr none ↦ none ];
+      apart = λ slot other live live' same. only_one owner slot live ∙ sym (only_one owner other live');
+      places = length-set none_held 1 _ ∙ length-none_held;
+      null = ap (λ s. is_live s.state) (get_or-set_other none_held 1 0 _ free (omega arith) ∙ free_at 0);
+    }

@@ -6,3 +6,5 @@ pub mod Install
 pub mod Holds
 pub mod Seen
 pub mod Run
+pub mod Epochs
+pub mod Laws

@@ -6,4 +6,6 @@
 
 mod laws;
 
-pub use laws::power_on_holds;
+pub use laws::{
+    faults_are_the_programs_own, guests_run_alone, refusals_change_nothing, stops_are_last,
+};

@@ -1,0 +1,34 @@
+-- What a judgement says of guests that did what their programs do alone, and that its findings stay as a journal grows.
+use Rattle.std.specs.Prelude.{ℕ, ◌≡◌, List, ◌++◌, All, Some, length}
+use Rattle.xom_base.specs.declared.entry.Entry.{Entry}
+use Rattle.xom_base.specs.declared.entry.Entry.TheVariants as entry
+use Rattle.xom_base.specs.Entries.{steps_of}
+use Rattle.image_sealer.specs.declared.owner.Owner.{Owner}
+use Rattle.image_sealer.specs.Owners.{owner_of}
+use Rattle.mips_plain.specs.declared.verdict.Verdict.TheVariants.{Follows}
+use Rattle.mips_plain.specs.Machine.{State, start}
+use Rattle.mips_plain.specs.Follows.{Reaches}
+use Rattle.trace_judge.specs.declared.report.GuestLine.{GuestLine}
+use Rattle.trace_judge.specs.Judgement.{Sealing, guest_lines, forged, collision}
+
+-- an installed guest has an owner, and its steps are those of the owner's program run alone
+abbrev pub IsRun : List Owner → List Entry → Entry → Type 0
+IsRun owners entries (entry.Install n slot id place at lines) =
+    (owner : Owner) × (q : State) × (owner_of owners id ≡ Some owner) × Reaches (start owner.plain) (steps_of n entries) q
+IsRun owners entries other = Unit {0}
+
+-- the line says that all the steps of its install follow
+abbrev pub DoesFollow : List Entry → GuestLine → Type 0
+DoesFollow entries line = line.verdict ≡ Follows (length (steps_of line.install entries))
+
+-- where each installed guest did what its program does alone, each line says that it follows
+abbrev pub RunsAreFollowed : Type 0
+RunsAreFollowed = (owners : List Owner) (entries : List Entry) → All (IsRun owners entries) entries → All (DoesFollow entries) (guest_lines owners entries)
+
+-- a forgery that a journal names, each longer journal names
+abbrev pub ForgeriesStay : Type 0
+ForgeriesStay = (sealed : List Sealing) (entries more : List Entry) (n : ℕ) → forged sealed entries ≡ Some n → forged sealed (entries ++ more) ≡ Some n
+
+-- a collision that a journal names, each longer journal names
+abbrev pub CollisionsStay : Type 0
+CollisionsStay = (entries more : List Entry) (pair : ℕ × ℕ) → collision entries ≡ Some pair → collision (entries ++ more) ≡ Some pair

@@ -1,0 +1,25 @@
+ghost use Rattle.std.specs.Prelude.{◌≡◌, IfOk};
+ghost use Rattle.trace_judge.specs.Judgement.{judgement};
+
+use crate::Report;
+use crate::guests::guest_lines;
+use crate::searches::{collision, forged};
+use image_sealer::OwnerList;
+use std::alloc::Global;
+use xom_base::NoMemory;
+use xom_journal::Journal;
+
+/// Judges a journal by the owners' programs. Goes over the journal once for each install, with one
+/// plain machine at a time.
+#[tactic(auto, using(crate::proofs::Owners::sealed_by_none))]
+pub fn judge(alloc: Global, owners: &OwnerList, journal: &Journal) -> Result<Report, NoMemory>
+    ensures { IfOk result (λ report. report ≡ judgement owners.now journal.now.entries) }
+{
+    let entries = journal.entries();
+    let guests = guest_lines(alloc, owners, entries)?;
+    Ok(Report {
+        guests,
+        forged: forged(entries),
+        collision: collision(entries),
+    })
+}

@@ -1,0 +1,59 @@
+ghost use Rattle.std.specs.Prelude.{◌≡◌, ◌↔◌, ◌<◌, ◌≤◌, ℕ, IsNone, IfSome, Some};
+ghost use Rattle.xom_base.specs.Numbers.{IsNumber, Writes, numeral_of, number_of, number_below_of};
+
+/// The number of a word: decimal digits, leading zeros allowed, below 2^64, or `0x` and 1 to 16
+/// hexadecimal digits in either case. None exactly where the word is no such number.
+pub fn number(word: &[u8]) -> Option<u64>
+    ensures exact { (n : ℕ) → (result ≡ Some n) ↔ IsNumber word.now n }
+    ensures none { IsNone result ↔ ((n : ℕ) → ¬ IsNumber word.now n) }
+    ensures value { result ≡ number_of word.now }
+{
+    number_in(word)
+}
+
+/// The number of a word, where it is below a bound.
+pub fn number_below(word: &[u8], bound: u64) -> Option<u64>
+    ensures exact { (n : ℕ) → (result ≡ Some n) ↔ Writes bound word.now n }
+    ensures small { IfSome result (λ n. n < bound) }
+    ensures none { IsNone result ↔ ((n : ℕ) → ¬ Writes bound word.now n) }
+    ensures value { result ≡ number_below_of bound word.now }
+{
+    below(word, bound)
+}
+
+#[tactic(auto, unfolding(crate::specs::Numbers::number_below_of))]
+fn below(word: &[u8], bound: u64) -> Option<u64>
+    ensures { result ≡ number_below_of bound word.now }
+{
+    number_in(word).filter(|n| *n < bound)
+}
+
+#[tactic(auto, unfolding(crate::specs::Numbers::number_of))]
+fn number_in(word: &[u8]) -> Option<u64>
+    ensures { result ≡ number_of word.now }
+{
+    if word.starts_with(b"0x") {
+        if word.len() <= 18 {
+            numeral(&word[2..], 16)
+        } else {
+            None
+        }
+    } else {
+        numeral(word, 10)
+    }
+}
+
+/// The number of a numeral of base 10 or 16, below 2^64.
+fn numeral(word: &[u8], base: u32) -> Option<u64>
+    requires least { 2 ≤ base }
+    requires most { base ≤ 16 }
+    ensures { result ≡ numeral_of base word.now }
+{
+    if word.starts_with(b"+") {
+        return None;
+    }
+    let Ok(text) = str::from_utf8(word) else {
+        return None;
+    };
+    u64::from_str_radix(text, base).ok()
+}

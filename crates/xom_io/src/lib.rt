@@ -1,0 +1,24 @@
+//! The outside: named files, and a sink for what is printed.
+//!
+//! `Files` and `Sink` say what may be relied on, whoever carries them out. `MemFiles` and `MemSink`
+//! keep everything in memory, tell all that they hold, and fail at the calls that they are told to.
+//! `DiskFiles` and `StdSink` are the real ones: they tell nothing of content, and count each fault.
+#![tactic(auto)]
+
+mod calls;
+mod disk;
+mod files;
+mod mem_files;
+mod mem_sink;
+mod shelf;
+mod sink;
+mod std_sink;
+#[cfg(test)]
+mod tests;
+
+pub use disk::DiskFiles;
+pub use files::{FileFault, Files};
+pub use mem_files::MemFiles;
+pub use mem_sink::MemSink;
+pub use sink::{Sink, SinkFault, put_all};
+pub use std_sink::StdSink;

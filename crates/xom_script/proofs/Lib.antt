@@ -1,0 +1,3 @@
+pub mod FormLaws
+pub mod RunFileLaws
+pub mod ScriptLaws

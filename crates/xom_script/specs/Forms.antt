@@ -1,0 +1,14 @@
+-- How the reader of a form answers.
+use Rattle.std.specs.Prelude.{◌≡◌, Option, Some, None, Result, Ok, Err}
+use Rattle.xom_script.specs.declared.fault.FormFault.{FormFault}
+use Rattle.xom_script.specs.declared.fault.FormFault.TheVariants.{NotBuilt, NoMemory}
+
+-- nothing is in the form; want of memory comes freely
+abbrev pub Refuses : {A : Type 0} → Option A → FormFault → Type 0
+Refuses form NotBuilt = form ≡ None
+Refuses form NoMemory = Unit {0}
+
+-- What a reader answered is the value of the form, or its absence, unless memory ran out.
+abbrev pub AnswersForm : {A : Type 0} → Option A → Result A FormFault → Type 0
+AnswersForm form (Ok value) = form ≡ Some value
+AnswersForm form (Err fault) = Refuses form fault

@@ -1,0 +1,4 @@
+pub mod Forms
+pub mod RunFiles
+pub mod Scripts
+pub mod Turns

@@ -1,0 +1,14 @@
+//! Run files and scripts: what a run is made of, and what its kernel does.
+#![tactic(auto)]
+
+mod fault;
+mod kernel;
+mod name;
+mod run_file;
+mod script;
+
+pub use fault::FormFault;
+pub use kernel::ScriptKernel;
+pub use name::Name;
+pub use run_file::{OwnerFile, RunFile, read_run};
+pub use script::{Script, read_script};
