@@ -189,7 +189,12 @@ fn a_call_returns_to_its_link(rt: HostRuntime) -> Result<(), Fail> {
     }
     assert_eq!(rt; plain.cell(31), PlainCell::Own(8));
     assert_eq!(rt; plain.cell(9), PlainCell::Own(9));
-    assert!(rt; matches!(plain.step(Given::Nothing), PlainStep::Fault(OwnFault::Break)));
+    assert!(rt;
+        matches!(
+            plain.step(Given::Nothing),
+            PlainStep::Fault(OwnFault::Break)
+        )
+    );
     Ok(())
 }
 
@@ -199,8 +204,8 @@ fn faults_of_one_instruction(rt: HostRuntime) -> Result<(), Fail> {
         (0x4800_001a, OwnFault::Reserved), // xhalt
         (0xc809_0000, OwnFault::Reserved), // xlwn $9, 0($0)
         (0x4800_0005, OwnFault::Reserved), // xsigret
-        (0x0000_4810, OwnFault::Foreign),  // mfhi $9
-        (0x8409_0001, OwnFault::Address),  // lh $9, 1($0)
+        (0x0000_4810, OwnFault::Foreign), // mfhi $9
+        (0x8409_0001, OwnFault::Address), // lh $9, 1($0)
     ] {
         let mut plain = program(rt.alloc(), &[word])?;
         match plain.step(Given::Nothing) {
