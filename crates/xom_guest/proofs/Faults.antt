@@ -1,6 +1,5 @@
 -- An own fault comes before anything is changed.
-use Rattle.std.proofs.Common.{◌≡◌, ℕ, Bool, true, false, Option, Some, None, Result, Ok, Err, refl}
-use Rattle.xom_base.specs.declared.event.Cause.{Cause}
+use Rattle.std.proofs.Common.{◌≡◌, ℕ, Bool, true, false, Some, Result, Ok, Err, refl}
 use Rattle.xom_base.specs.declared.event.Cause.TheVariants as cause
 use Rattle.xom_base.specs.declared.event.OwnFault.{OwnFault}
 use Rattle.xom_base.specs.declared.step.StepEnd.{StepEnd}

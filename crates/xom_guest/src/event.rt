@@ -88,7 +88,13 @@ fn run(core: &mut Core, slot: u8, interrupt: bool, tried: Result<Effect, OwnFaul
         Ok(effect) => {
             let session = *core.table.session(slot);
             let got = cells::received(&core.cells, effect.wish);
-            let step = step_made(session.pc, session.npc, &effect, core.memories.at(slot), got);
+            let step = step_made(
+                session.pc,
+                session.npc,
+                &effect,
+                core.memories.at(slot),
+                got,
+            );
             retire(core, slot, &effect, &step);
             after_step(core, slot, interrupt, step.end)
         }

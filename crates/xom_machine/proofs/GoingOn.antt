@@ -1,8 +1,7 @@
 -- A run goes on by one event at a time.
-use Rattle.std.proofs.Common.{◌≡◌, ℕ, zero, suc, ◌+◌, ◌-◌, ◌*◌, ◌<◌, ◌≤◌, Bool, true, false, ◌&&◌, not, List, [], ◌∷◌, ◌++◌, length, Option, Some, None, IfSome, Result, Ok, Err, OnOk, refl, sym, ◌∙◌, ap, subst, length-append, arith}
+use Rattle.std.proofs.Common.{◌≡◌, ℕ, zero, suc, ◌+◌, ◌-◌, ◌≤◌, Bool, true, false, not, List, [], ◌∷◌, ◌++◌, length, Option, Some, None, IfSome, Result, Ok, Err, OnOk, refl, sym, ◌∙◌, ap, subst, length-append, arith}
 use Rattle.std.specs.Prelude.{is_some, is_err}
 use Rattle.std.proofs.lemmas.Bool.{and_parts, cond-true, cond-false}
-use Rattle.image_sealer.specs.declared.owner.Owner.{Owner}
 use Rattle.xom_base.specs.declared.event.Cause.{Cause}
 use Rattle.xom_base.specs.declared.event.Event.{Event}
 use Rattle.xom_base.specs.declared.event.Event.TheVariants as event
@@ -13,13 +12,11 @@ use Rattle.xom_base.specs.declared.event.Turn.TheVariants as turn
 use Rattle.xom_base.specs.declared.schedule.Interrupts.{Interrupts}
 use Rattle.xom_model.specs.Event.{fits, guest_turn, on, ran_on, running}
 use Rattle.xom_model.specs.Guest.{guest}
-use Rattle.xom_model.specs.Holds.{Holds}
 use Rattle.xom_model.specs.Run.{event_of, is_flagged, one_event, run_from, turned}
 use Rattle.xom_model.specs.Seen.{Seen, seen_of}
 use Rattle.xom_model.specs.State.{CoreState, Record}
-use Rattle.xom_private.specs.declared.parts.TheConstants.{EVENT_ROOM}
 use Rattle.xom_machine.specs.Whole.{Whole}
-use Rattle.xom_machine.specs.Runs.{guests_in, guests_of, HasItsFlag, IsRun, IsNextWhere, IsNext, WentOn, SoFar, EndsBy, Ran}
+use Rattle.xom_machine.specs.Runs.{guests_in, guests_of, HasItsFlag, IsRun, IsNextWhere, WentOn, SoFar, EndsBy, Ran}
 
 -- ---- Events alone
 

@@ -1,11 +1,10 @@
 -- No epoch is above the number of events, event by event.
-use Rattle.std.proofs.Common.{◌≡◌, ◌⊎◌, inl, inr, replicate, ℕ, ◌+◌, ◌<◌, ◌≤◌, ◌^◌, Bool, List, ap, sym, subst, get_or, refl, arith}
+use Rattle.std.proofs.Common.{◌≡◌, inl, inr, replicate, ℕ, ◌+◌, ◌<◌, ◌^◌, Bool, List, ap, sym, subst, arith}
 use Rattle.std.proofs.lemmas.List.{get_or-replicate, get_or_past}
 use Rattle.std.proofs.lemmas.Bool.{cases_lt}
 use Rattle.xom_base.specs.declared.event.Op.{Op}
 use Rattle.session_table.specs.declared.session.Session.{Session}
 use Rattle.session_table.specs.Sessions.{free, none_held, session_at}
-use Rattle.xom_model.specs.Epochs.{AreBelow}
 use Rattle.xom_model.specs.Guest.{guest}
 use Rattle.xom_model.specs.Operation.{operation}
 use Rattle.xom_model.specs.State.{CoreState}

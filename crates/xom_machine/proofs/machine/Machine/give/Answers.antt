@@ -1,5 +1,5 @@
 -- The guest of an owner is installed at power-on.
-use Rattle.std.proofs.Common.{sym, ap, subst}
+use Rattle.std.proofs.Common.{sym, subst}
 use Rattle.xom_model.specs.Holds.{Holds}
 use Rattle.xom_model.specs.State.{Record}
 use Rattle.xom_machine.proofs.Events.{OnOk-then, given_holds}

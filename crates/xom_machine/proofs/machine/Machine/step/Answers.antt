@@ -1,5 +1,5 @@
 -- Each event that fits keeps what the machine keeps.
-use Rattle.std.proofs.Common.{sym, ap, subst}
+use Rattle.std.proofs.Common.{sym, subst}
 use Rattle.xom_model.specs.Holds.{Holds}
 use Rattle.xom_model.specs.State.{Record}
 use Rattle.xom_machine.proofs.Events.{on_keeps}
