@@ -12,7 +12,7 @@ abbrev pub plain_head : List ℕ
 plain_head = codes "XOMP" ++ (0 ∷ 0 ∷ 0 ∷ 1 ∷ [])
 
 -- the file of the image with this entry and these bytes
-abbrev pub plain_file : ℕ → List ℕ → List ℕ
+unfoldable pub plain_file : ℕ → List ℕ → List ℕ
 plain_file entry bytes = plain_head ++ (to_be_bytes w32 entry ++ (to_be_bytes w32 (length bytes) ++ bytes))
 
 -- the file is that of the image, whose entry and length keep their ranges by its type
@@ -78,10 +78,10 @@ plain_image_at file =
     if nat_lt (agreed plain_head file) 8 then Err (agreed plain_head file)
     else (if nat_lt (length file) 12 then Err (length file)
     else (if is_entry (entry_at file) then
-      (if nat_lt (length file) 16 then Err (length file)
-      else (if nat_lt (2 ^ 20) (length_at file) then Err 12
-      else (if length file == 16 + length_at file then Ok (entry_at file, drop 16 file)
-      else Err (min (length file) (16 + length_at file)))))
+    (if nat_lt (length file) 16 then Err (length file)
+    else (if nat_lt (2 ^ 20) (length_at file) then Err 12
+    else (if length file == 16 + length_at file then Ok (entry_at file, drop 16 file)
+    else Err (min (length file) (16 + length_at file)))))
     else Err 8))
 
 -- what a reader answers: what was read, unless there is an image for which memory ran out

@@ -17,13 +17,24 @@ const PRIVATE: u32 = 1 << 20;
 
 /// The image of a plain image file. The bytes are copied once.
 pub fn read_plain(alloc: Global, bytes: &ByteList) -> Result<PlainImage, ImageFault>
+    ensures found { IfOk result (IsPlainFile bytes.now) }
+    ensures only { (image : PlainImage) → IsPlainFile bytes.now image → (result ≡ Ok image) ⊎ (result ≡ Err ImageFault.NoMemory) }
+    ensures bad { (n : ℕ) → (result ≡ Err (ImageFault.Bad n)) ↔ IsFirstBad bytes.now n }
     ensures value { Answers (plain_image_at bytes.now) result }
 {
-    let (entry, text) = parts(bytes.as_slice()).map_err(ImageFault::Bad)?;
-    let text = Vec::from_slice(alloc, text)?;
+    image_of(alloc, bytes.as_slice())
+}
+
+/// The image of the bytes of a plain image file.
+fn image_of(alloc: Global, file: &[u8]) -> Result<PlainImage, ImageFault>
+    ensures found { IfOk result (IsPlainFile file.now) }
+    ensures value { Answers (plain_image_at file.now) result }
+{
+    let (entry, bytes) = parts(file).map_err(ImageFault::Bad)?;
+    let bytes = Vec::from_slice(alloc, bytes)?;
     Ok(PlainImage {
         entry,
-        bytes: ByteList::from_vec(text),
+        bytes: ByteList::from_vec(bytes),
     })
 }
 
@@ -57,7 +68,10 @@ fn parts(file: &[u8]) -> Result<(u32, &[u8]), u64>
 fn agreed(a: &[u8], b: &[u8]) -> usize
     ensures { result ≡ agreed_of a.now b.now }
 {
-    a.iter().zip(b.iter()).take_while(|(x, y)| **x == **y).count()
+    a.iter()
+        .zip(b.iter())
+        .take_while(|(x, y)| **x == **y)
+        .count()
 }
 
 /// The number in the four bytes from this place on, if they are all there.
@@ -70,6 +84,7 @@ fn number_at(file: &[u8], place: usize) -> Option<u32>
 }
 
 /// The file of a plain image. The bytes are copied once.
+#[tactic(auto, unfolding(crate::specs::PlainFiles::plain_file))]
 pub fn write_plain(alloc: Global, image: &PlainImage) -> Result<ByteList, NoMemory>
     ensures { IfOk result (λ file. file ≡ plain_file image.now.entry image.now.bytes) }
 {
