@@ -5,6 +5,8 @@ mod fault;
 mod name;
 mod run_file;
 mod script;
+#[cfg(test)]
+mod tests;
 
 pub use fault::FormFault;
 pub use name::Name;
