@@ -1,12 +1,12 @@
 -- Words of hexadecimal digits, against the crate that decodes them.
-use Rattle.std.proofs.Common.{◌≡◌, ℕ, zero, suc, ◌+◌, ◌*◌, ◌/◌, ◌%◌, ◌<◌, ◌≤◌, Bool, true, false, cond, eqb, ltb, leb, ◌&&◌, ◌==◌, ◌⊎◌, inl, inr, List, [], ◌∷◌, length, Option, Some, None, Result, Ok, Err, refl, sym, ap, ◌∙◌, arith, Decides}
-use Rattle.std.proofs.lemmas.Bool.{and_parts, and_from, both_ways, cases_Bool, cond-true, eqb-true, eq-eqb, ltb-true, lt-ltb}
+use Rattle.std.proofs.Common.{◌≡◌, ℕ, zero, suc, ◌+◌, ◌*◌, ◌/◌, ◌%◌, ◌<◌, Bool, true, ◌&&◌, ◌==◌, inl, inr, List, [], ◌∷◌, length, Some, None, Result, Ok, Err, refl, sym, ap, ◌∙◌, arith, Decides}
+use Rattle.std.proofs.lemmas.Bool.{both_ways, cases_Bool, cond-true}
 use Rattle.std.proofs.lemmas.Bool.Decides.{nat_tests, Decides-and, Decides-eqb}
-use Rattle.std.proofs.lemmas.List.Elements.{recursion_from_All, All-from_recursion}
-use Rattle.std.proofs.lemmas.Option.{cond_some, none-some}
+use Rattle.std.proofs.lemmas.List.Elements.{recursion_from_All}
+use Rattle.std.proofs.lemmas.Option.{cond_some}
 use Rattle.std.specs.Prelude.{◌↔◌, IsOk}
 use Rattle.std.specs.Char.{digit_value, is_digit}
-use Rattle.std.specs.List.{AllByRecursion, AllPass, list_all}
+use Rattle.std.specs.List.{AllByRecursion, list_all}
 use Rattle.std.specs.Result.{result_ok}
 use Rattle.std.specs.Str.Parse.{AllDigits}
 use Rattle.hex.specs.Hex.{decode_pairs, decode_sized, hex_digit_value, is_hex_digit, pair_value}

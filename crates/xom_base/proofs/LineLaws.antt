@@ -7,7 +7,7 @@ use Rattle.std.specs.Option.{option_to_list}
 use Rattle.xom_base.specs.Words.{words_of}
 use Rattle.xom_base.proofs.CutLaws.{option_map_some}
 use Rattle.xom_base.proofs.NumberLaws.{none_from_never}
-use Rattle.xom_base.specs.Lines.{Format, IsFirstBad, OfWords, Reads, Rows, Step, Tells, go_on, lines_of, read_from, step_of, with_front, with_words}
+use Rattle.xom_base.specs.Lines.{Format, IsFirstBad, OfWords, Reads, Rows, Step, Tells, go_on, read_from, step_of, with_front, with_words}
 
 module _ {S X : Type 0} (step : Step S X) where
   -- values in front of values

@@ -1,6 +1,6 @@
 -- A text of bytes that fills a block of fixed size from its front, with zeros behind it.
-use Rattle.std.specs.Prelude.{◌≡◌, ℕ, ◌-◌, ◌≤◌, List, ◌++◌, length, take, drop, replicate, min}
-use Rattle.std.proofs.Common.{refl, sym, ◌∙◌, ap, arith}
+use Rattle.std.specs.Prelude.{◌≡◌, ℕ, ◌-◌, ◌≤◌, List, ◌++◌, length, take, drop, replicate}
+use Rattle.std.proofs.Common.{sym, ◌∙◌, ap, arith}
 use Rattle.std.proofs.lemmas.List.{take-append-drop, length-take-le, length-append, length-drop, length-replicate, drop-replicate}
 use Rattle.std.proofs.Math.Seq.{drop-append_seam}
 

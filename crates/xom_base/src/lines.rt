@@ -6,14 +6,17 @@ ghost use Rattle.xom_base.specs.Lines.{AnswersLine, Faults, lines_of, read_from}
 
 use crate::{NoMemory, cut};
 use std::alloc::Global;
+use thiserror::Error;
 
 /// Why a text isn't read.
-#[derive(Clone, Copy, Debug, PartialEq, Eq)]
+#[derive(Clone, Copy, Debug, PartialEq, Eq, Error)]
 pub enum TextFault {
     /// The line of this number, counted from 1, is the first that is off the grammar. Where the text
     /// ends too early it is the line after its last one.
+    #[error("line {0} is off the grammar")]
     Line(u64),
     /// Want of memory.
+    #[error("out of memory")]
     NoMemory,
 }
 
@@ -34,7 +37,7 @@ impl From<NoMemory> for LineFault {
 }
 
 /// Why one line isn't read.
-#[derive(Clone, Copy, Debug, PartialEq, Eq)]
+#[derive(Clone, Copy)]
 pub enum LineFault {
     /// It is off the grammar.
     Bad,

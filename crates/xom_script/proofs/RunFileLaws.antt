@@ -24,9 +24,10 @@ use Rattle.xom_base.specs.declared.key.Key256.{Key256}
 use Rattle.xom_base.specs.declared.schedule.Interrupts.{Interrupts}
 use Rattle.xom_base.specs.declared.schedule.Interrupts.TheVariants.{Never, Every, At}
 use Rattle.xom_base.specs.declared.schedule.Schedule.{Schedule}
-use Rattle.xom_script.specs.RunFiles.{Ascends, IsInterrupts, IsName, IsRunFile, at_of, behind, boot_of, budget_of, frames_of, interrupts_of, is_guest, is_space, is_word, is_word_byte, kernel_of, machine_of, name_of, owner_of, rows_of, run_file_at, schedule_of, times_of, where_holds}
+use Rattle.xom_script.specs.RunFiles.{Ascends, IsInterrupts, IsName, IsRunFile, at_of, behind, boot_of, budget_of, frames_of, interrupts_of, is_guest, is_space, is_word, is_word_byte, kernel_of, machine_of, name_of, owner_of, rows_of, run_file_at, schedule_of, times_of}
 use Rattle.xom_script.specs.declared.run_file.OwnerFile.{OwnerFile}
 use Rattle.xom_script.specs.declared.run_file.RunFile.{RunFile}
+use Rattle.xom_script.specs.Forms.{where_holds}
 use Rattle.xom_script.proofs.FormLaws.{chosen, holds_some}
 
 -- ---- words and lines
@@ -90,8 +91,7 @@ frames_found line n h =
     steps _ (behind (codes "frames ") line) n h (λ word front h.
     steps _ (number_below_of 8193 word) n h (λ m read h.
     let t = holds_some (leb 4 m) m n h in
-    let same : m ≡ n = same_Some m n t.1 in
-    (
+    let same : m ≡ n = same_Some m n t.1 in (
       word,
       behind_found (codes "frames ") line word front,
       subst (Writes 8193 word) same ((number_below_of-exact 8193 word m).0 read),
@@ -130,7 +130,7 @@ owner_found line owner h =
       second.0,
       second.1,
       owner_line line words plain first.0 first.1 second.0 second.1
-        (behind_found (codes "owner ") line words front) (cut_of-whole 32 words first.0 first.1 cut) name.0 (cut_of-whole 32 first.1 second.0 second.1 again),
+          (behind_found (codes "owner ") line words front) (cut_of-whole 32 words first.0 first.1 cut) name.0 (cut_of-whole 32 first.1 second.0 second.1 again),
       name.1,
       (hex_of-exact 32 second.0 key).0 read_key,
       (hex_of-exact 16 second.1 id).0 read_id,
@@ -164,7 +164,7 @@ times_found last (word ∷ words) times h =
     let behind = times_found n words more rest in
     let t = holds_some (ltb last n) n above guard in
     subst (λ times. AllZip IsNumber (word ∷ words) times × Ascends last times) (same_Some (n ∷ more) times h)
-      (((number_of-exact word n).0 read, behind.0), (ltb-true last n t.0, behind.1)))))
+    (((number_of-exact word n).0 read, behind.0), (ltb-true last n t.0, behind.1)))))
 
 -- parts that are cut at spaces are one or more
 parts_joined : (front : List ℕ) (parts : List (List ℕ)) → 0 < length parts
@@ -195,7 +195,7 @@ at_found words interrupts h =
     let found = times_found 0 (slice_split is_space numbers) times read in
     let parts = slice_split is_space numbers in
     let whole : words ≡ codes "at " ++ join_with_byte 32 parts =
-        behind_found (codes "at ") words numbers front ∙ ap (λ (numbers : List ℕ). codes "at " ++ numbers) (sym (join_with_byte-slice_split 32 numbers)) in
+    behind_found (codes "at ") words numbers front ∙ ap (λ (numbers : List ℕ). codes "at " ++ numbers) (sym (join_with_byte-slice_split 32 numbers)) in
     subst (IsInterruptLine words) (same_Some (At times) interrupts h) (
       codes "at" ∷ parts,
       ap (λ (words : List ℕ). codes "interrupt " ++ words) whole ∙ sym (parts_joined (codes "interrupt") parts (some_parts numbers)),
@@ -208,7 +208,7 @@ interrupts_found words interrupts h =
     elim (chosen (bytes_eq words (codes "never")) (Some Never) (at_of words) (Some interrupts) h) [
       | inl t ↦
           subst (IsInterruptLine words) (same_Some Never interrupts t.1)
-            (codes "never" ∷ [], ap (λ (words : List ℕ). codes "interrupt " ++ words) ((bytes_eq-Decides words (codes "never")).0 t.0), refl)
+          (codes "never" ∷ [], ap (λ (words : List ℕ). codes "interrupt " ++ words) ((bytes_eq-Decides words (codes "never")).0 t.0), refl)
       | inr t ↦ at_found words interrupts t.1
     ]
 
@@ -218,8 +218,7 @@ unfolding schedule_of
 schedule_found line schedule h =
     steps _ (behind (codes "interrupt ") line) schedule h (λ words front h.
     steps _ (interrupts_of words) schedule h (λ interrupts read h.
-    let found = interrupts_found words interrupts read in
-    (
+    let found = interrupts_found words interrupts read in (
       found.0,
       behind_found (codes "interrupt ") line words front ∙ found.1,
       subst (IsInterrupts found.0) (ap (λ (schedule : Schedule). schedule.interrupts) (same_Some record { interrupts = interrupts } schedule h)) found.2,
@@ -276,9 +275,9 @@ digit_bytes base (digit ∷ digits) small h = (digit_byte base digit small h.0, 
 
 number_bytes : (word : List ℕ) (n : ℕ) → IsNumber word n → HasNoSpace word
 number_bytes word n h = elim h [
-      | inl d ↦ digit_bytes 10 word (omega arith) d.0.digits
-      | inr x ↦ subst HasNoSpace (sym x.1) (refl, (refl, digit_bytes 16 x.0 (omega arith) x.2.digits))
-    ]
+  | inl d ↦ digit_bytes 10 word (omega arith) d.0.digits
+  | inr x ↦ subst HasNoSpace (sym x.1) (refl, (refl, digit_bytes 16 x.0 (omega arith) x.2.digits))
+]
 
 owner_only : (key id : List ℕ) (owner : OwnerFile) → IsName owner.plain → IsHex 32 key owner.key.0 → IsHex 16 id owner.id.0
     → owner_of (join_with_byte 32 (codes "owner" ∷ owner.plain ∷ key ∷ id ∷ [])) ≡ Some owner
@@ -327,11 +326,11 @@ unfolding interrupts_of
 interrupt_only more Never is = (codes "never", ap (λ (more : List (List ℕ)). join_with_byte 32 (codes "interrupt" ∷ more)) is, refl)
 interrupt_only more (Every n) is = absurd is
 interrupt_only more (At times) is = (
-      codes "at " ++ join_with_byte 32 is.0,
-      ap (λ (more : List (List ℕ)). join_with_byte 32 (codes "interrupt" ∷ more)) is.1
+  codes "at " ++ join_with_byte 32 is.0,
+  ap (λ (more : List (List ℕ)). join_with_byte 32 (codes "interrupt" ∷ more)) is.1
       ∙ parts_joined (codes "interrupt") is.0 (rw (same_length is.0 times is.2) at is.3),
-      at_only is.0 times is.2 is.3 is.4,
-    )
+  at_only is.0 times is.2 is.3 is.4,
+)
 
 behind_interrupt : (words : List ℕ) → behind (codes "interrupt ") (codes "interrupt " ++ words) ≡ Some words
 unfolding behind
@@ -392,7 +391,7 @@ pub rows_read : (lines : List (Bor (List ℕ))) (machine : Key256) (boot frames 
     → kernel_of (get_or lines 6 no_line).now ≡ Some kernel
     → schedule_of (get_or lines 7 no_line).now ≡ Some schedule
     → rows_of (map (λ line. line.now) lines)
-      ≡ Some record { machine = machine; boot = boot; frames = frames; budget = budget; owner = owner; kernel = kernel; schedule = schedule }
+    ≡ Some record { machine = machine; boot = boot; frames = frames; budget = budget; owner = owner; kernel = kernel; schedule = schedule }
 unfolding rows_of
 rows_read (m ∷ b ∷ f ∷ u ∷ o ∷ g ∷ k ∷ i ∷ []) machine boot frames budget owner kernel schedule eight em eb ef eu eo eg ek ei =
     rw (em, eb, ef, eu, eo, sym eg, ek, ei) refl
@@ -426,26 +425,26 @@ rows_found text (m ∷ b ∷ f ∷ u ∷ o ∷ g ∷ k ∷ i ∷ []) file whole 
     let k = kernel_found k kernel ek in
     let i = schedule_found i schedule ei in
     subst (IsRunFile text) (same_Some record { machine = machine; boot = boot; frames = frames; budget = budget; owner = owner; kernel = kernel; schedule = schedule } file h)
-      record {
-        machine = m.0;
-        boot = b.0;
-        frames = f.0;
-        budget = u.0;
-        key = o.0;
-        id = o.1;
-        interrupts = i.0;
-        lines = whole ∙ eight_lines m.1 b.1 f.1 u.1 o.2 g k.0 i.1;
-        machine_is = m.2;
-        boot_is = b.2;
-        frames_is = f.2;
-        frames_least = f.3;
-        budget_is = u.2;
-        plain_is = o.3;
-        key_is = o.4;
-        id_is = o.5;
-        kernel_is = k.1;
-        interrupts_are = i.2;
-      }
+    record {
+      machine = m.0;
+      boot = b.0;
+      frames = f.0;
+      budget = u.0;
+      key = o.0;
+      id = o.1;
+      interrupts = i.0;
+      lines = whole ∙ eight_lines m.1 b.1 f.1 u.1 o.2 g k.0 i.1;
+      machine_is = m.2;
+      boot_is = b.2;
+      frames_is = f.2;
+      frames_least = f.3;
+      budget_is = u.2;
+      plain_is = o.3;
+      key_is = o.4;
+      id_is = o.5;
+      kernel_is = k.1;
+      interrupts_are = i.2;
+    }
     ))))))))
 rows_found text _ file whole h = absurd (none-some file h)
 

@@ -23,7 +23,7 @@ unfolding enter_of
 enter_found name a op is h =
     steps _ (number_below_of (2 ^ 32) a) op h (λ slot read h.
     subst (IsOp (name ∷ a ∷ [])) (same_Some (Enter slot) op h)
-      (a, ap (λ (name : List ℕ). name ∷ a ∷ []) is, (number_below_of-exact (2 ^ 32) a slot).0 read))
+    (a, ap (λ (name : List ℕ). name ∷ a ∷ []) is, (number_below_of-exact (2 ^ 32) a slot).0 read))
 
 resume_found : (name a b : List ℕ) (op : Op) → name ≡ codes "resume" → resume_of a b ≡ Some op → IsOp (name ∷ a ∷ b ∷ []) op
 unfolding resume_of
@@ -105,6 +105,6 @@ values_some (Err bad) values h = absurd (none-some values h)
 pub script_at-exact : (text : List ℕ) (ops : List Op) → (script_at text ≡ Some ops) ↔ IsScript text ops
 unfolding script_at
 script_at-exact text ops = (
-    λ h. reads_from op_step (Rows IsOp) tells tt 1 (lines_of text) ops tt (values_some (read_from op_step tt 1 (lines_of text)) ops h),
-    λ h. ap values_of (only_reads op_step (Rows IsOp) tells tt 1 (lines_of text) ops tt h),
-  )
+  λ h. reads_from op_step (Rows IsOp) tells tt 1 (lines_of text) ops tt (values_some (read_from op_step tt 1 (lines_of text)) ops h),
+  λ h. ap values_of (only_reads op_step (Rows IsOp) tells tt 1 (lines_of text) ops tt h),
+)

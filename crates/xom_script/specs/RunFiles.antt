@@ -1,8 +1,9 @@
 -- Run files in their strict form: eight lines in one order, one space between words, no comment.
-use Rattle.std.specs.Prelude.{◌≡◌, ℕ, ◌^◌, ◌<◌, ◌≤◌, ◌&&◌, ◌||◌, ◌==◌, nat_lt, nat_le, nat_eq, Bool, true, false, not, if◌then◌else◌, List, [], ◌∷◌, length, map, drop, codes, Option, Some, None, option_and_then}
+use Rattle.std.specs.Prelude.{◌≡◌, ℕ, ◌^◌, ◌<◌, ◌≤◌, ◌&&◌, ◌||◌, ◌==◌, nat_lt, nat_le, nat_eq, Bool, true, false, not, if◌then◌else◌, List, [], ◌∷◌, length, map, drop, codes, Option, Some, None}
 use Rattle.std.specs.List.{AllZip, slice_split, starts_with, join_with_byte, list_all}
 use Rattle.std.specs.Option.{option_map_or}
 use Rattle.std.specs.Str.{IsUtf8, bytes_eq, is_utf8}
+use Rattle.xom_script.specs.Forms.{◌>>=◌, where_holds}
 use Rattle.xom_base.specs.Hex.{IsHex, hex_of}
 use Rattle.xom_base.specs.Lines.{lines_of}
 use Rattle.xom_base.specs.Numbers.{Writes, IsNumber, number_of, number_below_of}
@@ -53,14 +54,14 @@ pub record IsRunFile (text : List ℕ) (file : RunFile) : Type 0 where
   pub interrupts : List (List ℕ)
   pub lines : lines_of text ≡ map (join_with_byte 32) (
       (codes "machine" ∷ machine ∷ [])
-    ∷ (codes "boot" ∷ boot ∷ [])
-    ∷ (codes "frames" ∷ frames ∷ [])
-    ∷ (codes "budget" ∷ budget ∷ [])
-    ∷ (codes "owner" ∷ file.owner.plain ∷ key ∷ id ∷ [])
-    ∷ (codes "guest" ∷ file.owner.plain ∷ [])
-    ∷ (codes "kernel" ∷ codes "script" ∷ file.kernel ∷ [])
-    ∷ (codes "interrupt" ∷ interrupts)
-    ∷ [])
+      ∷ (codes "boot" ∷ boot ∷ [])
+      ∷ (codes "frames" ∷ frames ∷ [])
+      ∷ (codes "budget" ∷ budget ∷ [])
+      ∷ (codes "owner" ∷ file.owner.plain ∷ key ∷ id ∷ [])
+      ∷ (codes "guest" ∷ file.owner.plain ∷ [])
+      ∷ (codes "kernel" ∷ codes "script" ∷ file.kernel ∷ [])
+      ∷ (codes "interrupt" ∷ interrupts)
+      ∷ [])
   pub machine_is : IsHex 32 machine file.machine.0
   pub boot_is : Writes (2 ^ 63) boot file.boot
   pub frames_is : Writes 8193 frames file.frames
@@ -73,14 +74,6 @@ pub record IsRunFile (text : List ℕ) (file : RunFile) : Type 0 where
   pub interrupts_are : IsInterrupts interrupts file.schedule.interrupts
 
 -- ---- the same as a function
-
-infixl 10 ◌>>=◌
-abbrev pub ◌>>=◌ : {A B : Type 0} → Option A → (A → Option B) → Option B
-o >>= f = option_and_then f o
-
--- the value where the test holds
-abbrev pub where_holds : {A : Type 0} → Bool → A → Option A
-where_holds test x = if test then Some x else None
 
 abbrev pub is_space : ℕ → Bool
 is_space byte = byte == 32

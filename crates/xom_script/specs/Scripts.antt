@@ -1,6 +1,7 @@
 -- Scripts: one operation a line.
-use Rattle.std.specs.Prelude.{◌≡◌, ℕ, ◌^◌, ◌==◌, Bool, if◌then◌else◌, List, [], ◌∷◌, codes, Option, Some, None, Result, Ok, Err, option_map, option_and_then}
+use Rattle.std.specs.Prelude.{◌≡◌, ℕ, ◌^◌, ◌==◌, if◌then◌else◌, List, [], ◌∷◌, codes, Option, Some, None, Result, Ok, Err, option_map}
 use Rattle.std.specs.Str.{bytes_eq}
+use Rattle.xom_script.specs.Forms.{◌>>=◌, where_holds}
 use Rattle.xom_base.specs.Lines.{Reads, Rows, Step, lines_of, read_from, step_of}
 use Rattle.xom_base.specs.Numbers.{Writes, number_below_of}
 use Rattle.xom_base.specs.declared.event.Op.{Op}
@@ -25,14 +26,6 @@ abbrev pub IsScript : List ℕ → List Op → Type 0
 IsScript text ops = Reads (Rows IsOp) tt 1 (lines_of text) ops tt
 
 -- ---- the same as a function
-
--- the value where the test holds
-abbrev pub where_holds : {A : Type 0} → Bool → A → Option A
-where_holds test x = if test then Some x else None
-
-infixl 10 ◌>>=◌
-abbrev pub ◌>>=◌ : {A B : Type 0} → Option A → (A → Option B) → Option B
-o >>= f = option_and_then f o
 
 unfoldable pub enter_of : List ℕ → Option Op
 enter_of slot = do

@@ -6,6 +6,8 @@ mod kernel;
 mod name;
 mod run_file;
 mod script;
+#[cfg(test)]
+mod tests;
 
 pub use fault::FormFault;
 pub use kernel::ScriptKernel;

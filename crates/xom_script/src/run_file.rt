@@ -9,7 +9,8 @@ ghost use Rattle.xom_script.specs.declared.run_file.RunFile.{RunFile as RunFileV
 use crate::{FormFault, Name};
 use std::alloc::{AllocError, Global};
 use xom_base::{
-    ImageId, Interrupts, Key256, NumberList, Schedule, cut, hex16, hex32, number, number_below, split_lines,
+    ImageId, Interrupts, Key256, NumberList, Schedule, cut, hex16, hex32, number, number_below,
+    split_lines,
 };
 
 /// The owner of an image: its plain file, the key that seals it, and its public name.

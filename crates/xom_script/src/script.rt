@@ -76,12 +76,7 @@ impl LineReader for OpLines {
 
     ghost step = { op_step };
 
-    fn read(
-        &mut self,
-        alloc: Global,
-        _: u64,
-        line: &[u8],
-    ) -> Result<Option<Op>, LineFault> {
+    fn read(&mut self, alloc: Global, _: u64, line: &[u8]) -> Result<Option<Op>, LineFault> {
         let words = match words(alloc, line) {
             Ok(words) => words,
             Err(_) => return Err(LineFault::NoMemory),

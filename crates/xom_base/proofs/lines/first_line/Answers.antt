@@ -1,6 +1,6 @@
 -- The first line ends at the first line end.
 use Rattle.std.proofs.Common.{sym}
-use Rattle.xom_base.proofs.CutLaws.{cut_of-shorter, lines_of-cut, lines_of-whole, option_map_none}
+use Rattle.xom_base.proofs.CutLaws.{cut_of-shorter, lines_of-cut, lines_of-whole}
 use Rattle.xom_base.proofs.lines.first_line.Goals as goal
 
 pub returns-in-Some-clause-lines : goal.returns-in-Some-clause-lines

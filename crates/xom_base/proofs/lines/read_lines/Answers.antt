@@ -1,5 +1,5 @@
 -- Each line adds its value, and a bad one ends the loop.
-use Rattle.std.proofs.Common.{sym, ◌∙◌, arith, eqb, length}
+use Rattle.std.proofs.Common.{sym, ◌∙◌, arith, length}
 use Rattle.std.proofs.lemmas.Bool.{eqb-true}
 use Rattle.std.proofs.lemmas.List.{nil_from_length}
 use Rattle.xom_base.proofs.LineLaws.{read_from-bad, read_from-none, read_from-one}

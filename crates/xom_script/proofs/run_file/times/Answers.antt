@@ -15,7 +15,7 @@ returns-in_default c =
     let before = rw (drop_more words i no_word c.loop-word-test.true) at c.loop-word.invariant in
     sym before
     ∙ times_none c.loop-word.times c.loop-word.last (get_or words i no_word).now (map (λ word. word.now) (drop (i + 1) words))
-      (sym c.number.ensures.value ∙ c.in_default.is)
+    (sym c.number.ensures.value ∙ c.in_default.is)
 
 pub returns-then-time-last : goal.returns-then-time-last
 returns-then-time-last c =
@@ -24,7 +24,7 @@ returns-then-time-last c =
     let before = rw (drop_more words i no_word c.loop-word-test.true) at c.loop-word.invariant in
     sym before
     ∙ times_low c.loop-word.times c.loop-word.last c.in-Some.time (get_or words i no_word).now (map (λ word. word.now) (drop (i + 1) words))
-      (sym c.number.ensures.value ∙ c.in-Some.is) c.if-time-last.true
+    (sym c.number.ensures.value ∙ c.in-Some.is) c.if-time-last.true
 
 pub loop-word-preserved : goal.loop-word-preserved
 loop-word-preserved c =
@@ -32,9 +32,9 @@ loop-word-preserved c =
     let i = c.loop-word.word-index in
     let before = rw (drop_more words i no_word c.loop-word-test.true) at c.loop-word.invariant in
     rw c.in_ok-push.ensures.ok
-      (sym (times_next c.loop-word.times c.loop-word.last c.in-Some.time (get_or words i no_word).now (map (λ word. word.now) (drop (i + 1) words))
-        (sym c.number.ensures.value ∙ c.in-Some.is) c.if-time-last.false)
-      ∙ before)
+    (sym (times_next c.loop-word.times c.loop-word.last c.in-Some.time (get_or words i no_word).now (map (λ word. word.now) (drop (i + 1) words))
+    (sym c.number.ensures.value ∙ c.in-Some.is) c.if-time-last.false)
+    ∙ before)
 
 pub returns : goal.returns
 returns c =
