@@ -1,5 +1,5 @@
 -- What files and sinks promise, by cases on what they answer. These promises are this project's own.
-use Rattle.std.specs.Prelude.{◌≡◌, ◌≢◌, ℕ, ◌-◌, ◌^◌, ◌<◌, ◌≤◌, ◌⊎◌, List, ◌++◌, length, take, Option, Some, None, Result, Ok, Err, IsSome, IfSome, IsSomeAnd, option_map}
+use Rattle.std.specs.Prelude.{◌≡◌, ◌≢◌, ℕ, ◌-◌, ◌^◌, ◌<◌, ◌≤◌, ◌⊎◌, List, ◌++◌, length, take, Option, Some, None, Result, Ok, Err, IfSome, IsSomeAnd, option_map}
 use Rattle.xom_io.specs.declared.files.FileFault.{FileFault}
 use Rattle.xom_io.specs.declared.files.FileFault.TheVariants.{Failed, TooLong, NoMemory}
 use Rattle.xom_io.specs.declared.sink.SinkFault.{SinkFault}
@@ -17,13 +17,9 @@ Told = Option (List ℕ → Option (List ℕ))
 abbrev pub Holds : Told → List ℕ → List ℕ → Type 0
 Holds told name bytes = IfSome told (λ held. held name ≡ Some bytes)
 
--- where it is told, the name holds some bytes
-abbrev pub HoldsSome : Told → List ℕ → Type 0
-HoldsSome told name = IfSome told (λ held. IsSome (held name))
-
--- where it is told, the name holds more bytes than the limit
-abbrev pub HoldsOver : Told → List ℕ → ℕ → Type 0
-HoldsOver told name limit = IfSome told (λ held. IsSomeAnd (held name) (λ bytes. limit < length bytes))
+-- where it is told, the name holds some bytes, and of so many
+abbrev pub HoldsMany : Told → List ℕ → (ℕ → Type 0) → Type 0
+HoldsMany told name IsMany = IfSome told (λ held. IsSomeAnd (held name) (λ bytes. IsMany (length bytes)))
 
 -- it is told that the name isn't held
 abbrev pub Lacks : Told → List ℕ → Type 0
@@ -33,8 +29,8 @@ Lacks told name = IsSomeAnd told (λ held. held name ≡ None)
 abbrev pub Gets : Told → List ℕ → ℕ → ℕ → ℕ → Result (List ℕ) FileFault → Type 0
 Gets told name limit before after (Ok bytes) = (after ≡ before) × (length bytes ≤ limit) × Holds told name bytes
 Gets told name limit before after (Err Failed) = (before ≤ after) × (Rises before after ⊎ Lacks told name) × (Lacks told name → after ≡ before)
-Gets told name limit before after (Err TooLong) = (after ≡ before) × HoldsOver told name limit
-Gets told name limit before after (Err NoMemory) = (after ≡ before) × HoldsSome told name
+Gets told name limit before after (Err TooLong) = (after ≡ before) × HoldsMany told name (λ many. limit < many)
+Gets told name limit before after (Err NoMemory) = (after ≡ before) × HoldsMany told name (λ many. many ≤ limit)
 
 -- Every name but this one holds what it held.
 abbrev pub KeepsOthers : Told → Told → List ℕ → Type 0

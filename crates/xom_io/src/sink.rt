@@ -44,6 +44,7 @@ pub trait Sink {
 /// Appends all the bytes, by as many puts as it takes.
 ///
 /// `Failed` and `NoMemory`: a put of what was left gave this, and the bytes before were appended.
+#[tactic(auto, using(crate::proofs::Appended::further))]
 pub fn put_all<O: Sink>(out: &mut O, bytes: &[u8]) -> Result<(), SinkFault>
     ensures { TakesAll (O.written out.old) (O.written out.new) bytes.now (O.faults out.old) (O.faults out.new) result }
 {
