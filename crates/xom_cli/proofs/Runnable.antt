@@ -1,0 +1,50 @@
+-- A run can be made of each run file that is read.
+use Rattle.std.proofs.Common.{◌≡◌, ℕ, add-one, zero, suc, ◌+◌, ◌<◌, ◌≤◌, ◌^◌, List, [], ◌∷◌, length, get_or, Result, Ok, Err, IfOk, ◌⊎◌, inl, inr, refl, sym, ◌∙◌, ap, subst, arith}
+use Rattle.std.specs.Prelude.{All}
+use Rattle.std.specs.List.Sorted.{IsStrictlyIncreasing}
+use Rattle.std.proofs.lemmas.List.{get_or_default}
+use Rattle.xom_base.specs.declared.schedule.Interrupts.{Interrupts}
+use Rattle.xom_base.specs.declared.schedule.Interrupts.TheVariants.{Never, Every, At}
+use Rattle.xom_model.specs.Run.{IsSchedule}
+use Rattle.xom_script.specs.declared.fault.FormFault.{FormFault}
+use Rattle.xom_script.specs.declared.fault.FormFault.TheVariants as form_fault
+use Rattle.xom_script.specs.declared.run_file.RunFile.{RunFile}
+use Rattle.xom_script.specs.RunFiles.{Ascends, IsInterrupts, IsRunFile}
+use Rattle.xom_cli.specs.declared.refusal.Stop.{Stop}
+use Rattle.xom_cli.specs.Readings.{IsFormed}
+use Rattle.xom_cli.specs.Trace.{IsRunnable}
+
+-- numbers that ascend from a number are above it
+above : (last : ℕ) (ns : List ℕ) → Ascends last ns → (k : ℕ) → k < length ns → last < get_or ns k 0
+above last [] ascends k within = absurd (omega arith)
+above last (n ∷ ns) ascends zero within = ascends.0
+above last (n ∷ ns) ascends (suc k) within = let low : last < n = ascends.0 in let high = above n ns ascends.1 k (omega arith) in omega arith
+
+-- and each is below the next
+strict : (last : ℕ) (ns : List ℕ) → Ascends last ns → (k : ℕ) → suc k < length ns → get_or ns k 0 < get_or ns (suc k) 0
+strict last [] ascends k within = absurd (omega arith)
+strict last (n ∷ ns) ascends zero within = above n ns ascends.1 0 (omega arith)
+strict last (n ∷ ns) ascends (suc k) within = strict n ns ascends.1 k (omega arith)
+
+increasing : (ns : List ℕ) → Ascends 0 ns → IsStrictlyIncreasing ns
+increasing ns ascends k within = rw add-one (strict 0 ns ascends k (rw add-one at within))
+
+positive : (ns : List ℕ) → Ascends 0 ns → All (λ n. 1 ≤ n) ns
+positive ns ascends k d within = let high = above 0 ns ascends k within in let same = get_or_default ns k d 0 within in omega arith
+
+IsInterrupts-schedule : (words : List (List ℕ)) (line : Interrupts) → IsInterrupts words line → IsSchedule line
+IsInterrupts-schedule words Never is = tt
+IsInterrupts-schedule words (Every n) is = absurd is
+IsInterrupts-schedule words (At times) is = (positive times is.4, increasing times is.4)
+
+pub IsRunFile-runnable : (text : List ℕ) (file : RunFile) → IsRunFile text file → IsRunnable file
+IsRunFile-runnable text file is = record {
+  schedule = IsInterrupts-schedule is.interrupts file.schedule.interrupts is.interrupts_are;
+  budget = let low : file.budget < 2 ^ 20 + 1 = is.budget_is.1 in omega arith;
+}
+
+-- what came of a run file that was read
+pub formed-runnable : (text name : List ℕ) (read : Result RunFile FormFault) (result : Result RunFile Stop) → IfOk read (IsRunFile text) → IsFormed name read result → IfOk result IsRunnable
+formed-runnable text name (Ok file) result found formed = subst (λ r. IfOk r IsRunnable) (sym formed) (IsRunFile-runnable text file found)
+formed-runnable text name (Err form_fault.NotBuilt) result found formed = elim formed [ inl is ↦ subst (λ r. IfOk r IsRunnable) (sym is) tt | inr is ↦ subst (λ r. IfOk r IsRunnable) (sym is) tt ]
+formed-runnable text name (Err form_fault.NoMemory) result found formed = subst (λ r. IfOk r IsRunnable) (sym formed) tt

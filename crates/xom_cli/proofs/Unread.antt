@@ -1,0 +1,65 @@
+-- A file that can't be read, where no read failed, isn't held.
+use Rattle.std.proofs.Common.{◌≡◌, ◌⊎◌, inl, inr, ℕ, List, Option, Some, None, Result, Ok, Err, Bool, true, false, cond, length, refl, sym, ◌∙◌, ap, subst}
+use Rattle.std.specs.Prelude.{nat_le}
+use Rattle.xom_cli.specs.declared.answer.Answer.{Answer}
+use Rattle.xom_cli.specs.declared.refusal.Refusal.{Refusal}
+use Rattle.xom_cli.specs.declared.refusal.Refusal.TheVariants.{Unread, TooLong, NotBuilt}
+use Rattle.xom_cli.specs.Outcome.{row_outcome}
+use Rattle.xom_cli.specs.Rows.{Row, Trace}
+use Rattle.xom_cli.specs.Trace.{◌>>=◌, Held, fetched, fetched_bytes, image_of, in_form, parts_of, run_file_of, script_of, trace_of, traced}
+
+-- where a step and what follows it are refused, one of them is
+bind-err : {A B : Type 0} (o : Result A Refusal) (f : A → Result B Refusal) (e : Refusal) → (o >>= f) ≡ Err e → (o ≡ Err e) ⊎ ((x : A) × (o ≡ Ok x) × (f x ≡ Err e))
+bind-err (Ok x) f e is = inr (x, refl, is)
+bind-err (Err other) f e is = inl (cc)
+
+bytes-unread : (n name : List ℕ) (limit : ℕ) (o : Option (List ℕ)) → fetched_bytes n limit o ≡ Err (Unread name) → (n ≡ name) × (o ≡ None)
+bytes-unread n name limit None is = (cc, refl)
+bytes-unread n name limit (Some bytes) is =
+    absurd (elim (nat_le (length bytes) limit) as (λ b. cond b (Ok bytes) (Err (TooLong n)) ≡ Err (Unread name) → ⊥) [ true ↦ λ ok. cc | false ↦ λ long. cc ] is)
+
+fetched-unread : (held : Held) (n name : List ℕ) (limit : ℕ) → fetched held n limit ≡ Err (Unread name) → held name ≡ None
+unfolding fetched
+fetched-unread held n name limit is = let both = bytes-unread n name limit (held n) is in subst (λ m. held m ≡ None) both.0 both.1
+
+form-unread : {A : Type 0} (n name : List ℕ) (o : Option A) → in_form n o ≡ Err (Unread name) → ⊥
+form-unread n name None is = cc
+form-unread n name (Some value) is = cc
+
+file-unread : {A : Type 0} (held : Held) (n name : List ℕ) (limit : ℕ) (read : List ℕ → Option A) → (fetched held n limit >>= λ bytes. in_form n (read bytes)) ≡ Err (Unread name) → held name ≡ None
+file-unread held n name limit read is = elim (bind-err (fetched held n limit) (λ bytes. in_form n (read bytes)) (Unread name) is) [
+  | inl here ↦ fetched-unread held n name limit here
+  | inr later ↦ absurd (form-unread n name (read later.0) later.2)
+]
+
+run_file-unread : (held : Held) (n name : List ℕ) → run_file_of held n ≡ Err (Unread name) → held name ≡ None
+unfolding run_file_of
+run_file-unread held n name is = file-unread held n name _ _ is
+
+image-unread : (held : Held) (n name : List ℕ) → image_of held n ≡ Err (Unread name) → held name ≡ None
+unfolding image_of
+image-unread held n name is = file-unread held n name _ _ is
+
+script-unread : (held : Held) (n name : List ℕ) → script_of held n ≡ Err (Unread name) → held name ≡ None
+unfolding script_of
+script-unread held n name is = file-unread held n name _ _ is
+
+parts-unread : (held : Held) (run name : List ℕ) → parts_of held run ≡ Err (Unread name) → held name ≡ None
+unfolding parts_of
+parts-unread held run name is = elim (bind-err (run_file_of held run) _ (Unread name) is) [
+  | inl here ↦ run_file-unread held run name here
+  | inr file ↦ elim (bind-err (image_of held file.0.owner.plain) _ (Unread name) file.2) [
+    | inl here ↦ image-unread held file.0.owner.plain name here
+    | inr image ↦ elim (bind-err (script_of held file.0.kernel) _ (Unread name) image.2) [
+      | inl here ↦ script-unread held file.0.kernel name here
+      | inr ops ↦ absurd (let last = ops.2 in cc)
+    ]
+  ]
+]
+
+pub row-unread : (row : Row) (held : Held) (name : List ℕ) → row_outcome row held ≡ Err (Unread name) → held name ≡ None
+unfolding trace_of
+row-unread (Trace run) held name is = elim (bind-err (parts_of held run) _ (Unread name) is) [
+  | inl here ↦ parts-unread held run name here
+  | inr parts ↦ absurd (let last = parts.2 in cc)
+]

@@ -1,0 +1,40 @@
+-- What reading the files of a command gives, where `wanted` says what it is to give of what files hold.
+use Rattle.std.specs.Prelude.{◌≡◌, ◌⊎◌, ℕ, ◌≤◌, List, Option, Some, None, Result, Ok, Err, IsSomeAnd}
+use Rattle.xom_io.specs.Answers.{Rises, Told}
+use Rattle.xom_script.specs.declared.fault.FormFault.{FormFault}
+use Rattle.xom_script.specs.declared.fault.FormFault.TheVariants as form_fault
+use Rattle.xom_cli.specs.declared.refusal.Refusal.{Refusal}
+use Rattle.xom_cli.specs.declared.refusal.Refusal.TheVariants.{Unread, TooLong, NotBuilt}
+use Rattle.xom_cli.specs.declared.refusal.Stop.{Stop}
+use Rattle.xom_cli.specs.declared.refusal.Stop.TheVariants as stop
+use Rattle.xom_cli.specs.Trace.{Held}
+
+-- where it is told what files hold, this is what was wanted
+abbrev pub IsWanted : {Y : Type 0} → Told → (Held → Result Y Refusal) → Result Y Refusal → Type 0
+IsWanted told wanted result = (held : Held) → told ≡ Some held → wanted held ≡ result
+
+-- why reading stopped. The counts are those of reads, before and after
+abbrev pub Refuses : {Y : Type 0} → Told → (Held → Result Y Refusal) → ℕ → ℕ → Refusal → Type 0
+Refuses told wanted before after (Unread name) = (before ≤ after) × (Rises before after ⊎ IsSomeAnd told (λ held. wanted held ≡ Err (Unread name)))
+Refuses told wanted before after (TooLong name) = (after ≡ before) × IsWanted told wanted (Err (TooLong name))
+Refuses told wanted before after (NotBuilt name) = (after ≡ before) × IsWanted told wanted (Err (NotBuilt name))
+
+-- want of memory comes freely
+abbrev pub Stops : {Y : Type 0} → Told → (Held → Result Y Refusal) → ℕ → ℕ → Stop → Type 0
+Stops told wanted before after (stop.Refused refusal) = Refuses told wanted before after refusal
+Stops told wanted before after stop.NoMemory = before ≤ after
+
+-- what reading answered
+abbrev pub Gives : {Y : Type 0} → Told → (Held → Result Y Refusal) → ℕ → ℕ → Result Y Stop → Type 0
+Gives told wanted before after (Ok value) = (after ≡ before) × IsWanted told wanted (Ok value)
+Gives told wanted before after (Err why) = Stops told wanted before after why
+
+-- a refusal was made, unless memory ran out
+abbrev pub IsRefusal : Stop → Refusal → Type 0
+IsRefusal made refusal = (made ≡ stop.Refused refusal) ⊎ (made ≡ stop.NoMemory)
+
+-- what a reader of a form answered, with the name of the file
+abbrev pub IsFormed : {A : Type 0} → List ℕ → Result A FormFault → Result A Stop → Type 0
+IsFormed name (Ok value) result = result ≡ Ok value
+IsFormed name (Err form_fault.NotBuilt) result = (result ≡ Err (stop.Refused (NotBuilt name))) ⊎ (result ≡ Err stop.NoMemory)
+IsFormed name (Err form_fault.NoMemory) result = result ≡ Err stop.NoMemory

@@ -1,0 +1,8 @@
+//! Rows over the top call, with files and sink in memory: words and files on one side, what is
+//! printed and the status on the other. There is no code here but tests.
+#![tactic(auto)]
+
+#[cfg(test)]
+mod scene;
+#[cfg(test)]
+mod tests;
