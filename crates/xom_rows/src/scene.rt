@@ -6,6 +6,7 @@ use xom_io::{MemFiles, MemSink};
 
 /// What a call of `trace r.run` gets: the last lines of the run file, the words of the guest's
 /// image, and the script.
+#[derive(Clone, Copy)]
 pub struct Scene<'a> {
     pub budget: &'a str,
     pub kernel: &'a str,

@@ -12,6 +12,7 @@ const ID: &str = "guest 1 slot 1 id 000102030405060708090a0b0c0d0e0f ";
 
 const SCRIPTED: &str = "kernel script k.script";
 
+#[derive(Clone, Copy)]
 struct Row<'a> {
     scene: Scene<'a>,
     guest: &'a str,
