@@ -43,10 +43,10 @@ fn make_event(core: &mut Core, slot: u8, interrupt: bool) -> Option<Cause>
     requires some { 1 ≤ slot }
     requires known { slot ≤ 16 }
     requires epoch { (session_of (core_of core.old) slot).epoch < 2 ^ 63 }
-    requires room { 96 ≤ core.old.journal.spare }
+    requires room { 200 ≤ core.old.journal.spare }
     ensures core { core_of core.new ≡ (guest (core_of core.old) slot interrupt).0 }
     ensures cause { result ≡ (guest (core_of core.old) slot interrupt).1 }
-    ensures room { core.old.journal.spare ≤ core.new.journal.spare + 96 }
+    ensures room { core.old.journal.spare ≤ core.new.journal.spare + 200 }
 {
     let tried = attempt(core, slot);
     run(core, slot, interrupt, tried)
@@ -78,10 +78,10 @@ fn run(core: &mut Core, slot: u8, interrupt: bool, tried: Result<Effect, OwnFaul
     requires known { slot ≤ 16 }
     requires ranged { IfOk tried Ranged }
     requires epoch { (session_of (core_of core.old) slot).epoch < 2 ^ 63 }
-    requires room { 96 ≤ core.old.journal.spare }
+    requires room { 200 ≤ core.old.journal.spare }
     ensures core { core_of core.new ≡ (ran (core_of core.old) slot interrupt tried).0 }
     ensures cause { result ≡ (ran (core_of core.old) slot interrupt tried).1 }
-    ensures room { core.old.journal.spare ≤ core.new.journal.spare + 96 }
+    ensures room { core.old.journal.spare ≤ core.new.journal.spare + 200 }
 {
     match tried {
         Err(fault) => trap(core, slot, Cause::Fault(fault)),
@@ -106,18 +106,19 @@ fn retire(core: &mut Core, slot: u8, effect: &Effect, step: &Step)
     requires some { 1 ≤ slot }
     requires known { slot ≤ 16 }
     requires inside { IsInside step.now }
-    requires room { 48 ≤ core.old.journal.spare }
+    requires room { 100 ≤ core.old.journal.spare }
     ensures core { core_of core.new ≡ retired (core_of core.old) slot effect.now step.now }
-    ensures room { core.old.journal.spare ≡ core.new.journal.spare + 48 }
+    ensures room { core.old.journal.spare ≤ core.new.journal.spare + 100 }
 {
     let session = *core.table.session(slot);
     cells::carry_out(slot, &mut core.cells, step);
     core.table.set(slot, &moved(&session, effect, step));
     core.memories.store(slot, step.stored);
-    core.journal.push(&Entry::Step {
+    let record = Entry::Step {
         install: session.install,
         step: *step,
-    });
+    };
+    core.journal.push(&record);
 }
 
 /// The session after a step of this effect.
@@ -138,10 +139,10 @@ fn after_step(core: &mut Core, slot: u8, interrupt: bool, end: StepEnd) -> Optio
     requires some { 1 ≤ slot }
     requires known { slot ≤ 16 }
     requires epoch { (session_of (core_of core.old) slot).epoch < 2 ^ 63 }
-    requires room { 48 ≤ core.old.journal.spare }
+    requires room { 100 ≤ core.old.journal.spare }
     ensures core { core_of core.new ≡ (after_step_of (core_of core.old) slot interrupt end).0 }
     ensures cause { result ≡ (after_step_of (core_of core.old) slot interrupt end).1 }
-    ensures room { core.old.journal.spare ≤ core.new.journal.spare + 48 }
+    ensures room { core.old.journal.spare ≤ core.new.journal.spare + 100 }
 {
     match end {
         StepEnd::Call(code) => trap(core, slot, Cause::Call(code)),
@@ -161,17 +162,18 @@ fn trap(core: &mut Core, slot: u8, cause: Cause) -> Option<Cause>
     requires some { 1 ≤ slot }
     requires known { slot ≤ 16 }
     requires epoch { (session_of (core_of core.old) slot).epoch < 2 ^ 63 }
-    requires room { 48 ≤ core.old.journal.spare }
+    requires room { 100 ≤ core.old.journal.spare }
     ensures core { core_of core.new ≡ (trapped (core_of core.old) slot cause).0 }
     ensures cause { result ≡ (trapped (core_of core.old) slot cause).1 }
-    ensures room { core.old.journal.spare ≡ core.new.journal.spare + 48 }
+    ensures room { core.old.journal.spare ≤ core.new.journal.spare + 100 }
 {
     let session = *core.table.session(slot);
     core.table.set(slot, &session.paused());
-    core.journal.push(&Entry::Trap {
+    let trap = Entry::Trap {
         install: session.install,
         cause,
-    });
+    };
+    core.journal.push(&trap);
     Some(cause)
 }
 

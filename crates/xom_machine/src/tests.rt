@@ -5,7 +5,7 @@ use session_table::SlotState;
 use std::alloc::Global;
 use std::test::Fail;
 use xom_base::{
-    ByteList, Cause, Entry, ImageId, Interrupts, Key256, NoMemory, NumberList, Op, Outcome,
+    ByteList, ImageId, Interrupts, Key256, NoMemory, NumberList, Op,
     PlainImage, RunEnd, Schedule, Turn,
 };
 

@@ -32,7 +32,7 @@ fn carry_out(core: &mut Core, op: Op) -> u32
     requires { EVENT_ROOM ≤ core.old.journal.spare }
     ensures core { core_of core.new ≡ (operation (core_of core.old) op).0 }
     ensures status { result ≡ (operation (core_of core.old) op).1 }
-    ensures room { core.old.journal.spare ≤ core.new.journal.spare + 48 }
+    ensures room { core.old.journal.spare ≤ core.new.journal.spare + 100 }
 {
     match op {
         Op::Enter { slot } => {
@@ -92,10 +92,10 @@ fn enter(core: &mut Core, slot: u8) -> u32
 fn resume(core: &mut Core, slot: u8, signal: u32) -> u32
     requires some { 1 ≤ slot }
     requires known { slot ≤ 16 }
-    requires room { 48 ≤ core.old.journal.spare }
+    requires room { 100 ≤ core.old.journal.spare }
     ensures core { core_of core.new ≡ (resume_of (core_of core.old) slot signal (session_of (core_of core.old) slot).state).0 }
     ensures status { result ≡ (resume_of (core_of core.old) slot signal (session_of (core_of core.old) slot).state).1 }
-    ensures room { core.old.journal.spare ≤ core.new.journal.spare + 48 }
+    ensures room { core.old.journal.spare ≤ core.new.journal.spare + 100 }
 {
     match core.table.session(slot).state {
         SlotState::Free => 1,
@@ -108,10 +108,10 @@ fn resume(core: &mut Core, slot: u8, signal: u32) -> u32
 fn resume_paused(core: &mut Core, slot: u8, signal: u32) -> u32
     requires some { 1 ≤ slot }
     requires known { slot ≤ 16 }
-    requires room { 48 ≤ core.old.journal.spare }
+    requires room { 100 ≤ core.old.journal.spare }
     ensures core { core_of core.new ≡ (resume_paused_of (core_of core.old) slot signal).0 }
     ensures status { result ≡ (resume_paused_of (core_of core.old) slot signal).1 }
-    ensures room { core.old.journal.spare ≤ core.new.journal.spare + 48 }
+    ensures room { core.old.journal.spare ≤ core.new.journal.spare + 100 }
 {
     if signal > 63 {
         return 7;
@@ -128,10 +128,10 @@ fn resume_paused(core: &mut Core, slot: u8, signal: u32) -> u32
 fn go_on(core: &mut Core, slot: u8, reg: Option<u8>) -> u32
     requires some { 1 ≤ slot }
     requires known { slot ≤ 16 }
-    requires room { 48 ≤ core.old.journal.spare }
+    requires room { 100 ≤ core.old.journal.spare }
     ensures core { core_of core.new ≡ (go_on_of (core_of core.old) slot reg).0 }
     ensures status { result ≡ (go_on_of (core_of core.old) slot reg).1 }
-    ensures room { core.old.journal.spare ≤ core.new.journal.spare + 48 }
+    ensures room { core.old.journal.spare ≤ core.new.journal.spare + 100 }
 {
     match reg {
         None => {
