@@ -7,9 +7,9 @@ use Rattle.std.specs.Option.{option_to_list}
 use Rattle.xom_base.specs.Words.{words_of}
 use Rattle.xom_base.proofs.CutLaws.{option_map_some}
 use Rattle.xom_base.proofs.NumberLaws.{none_from_never}
-use Rattle.xom_base.specs.Lines.{Format, IsFirstBad, OfWords, Reads, Rows, Step, Tells, go_on, read_from, step_of, with_front, with_words}
+use Rattle.xom_base.specs.Lines.{Format, IsFirstBad, OfWords, Reads, LineStep, Rows, Tells, go_on, read_from, step_of, with_front, with_words}
 
-module _ {S X : Type 0} (step : Step S X) where
+module _ {S X : Type 0} (step : LineStep S X) where
   -- values in front of values
   pub with_front-append : (a b : List X) (read : Result (List X × S) ℕ) → with_front a (with_front b read) ≡ with_front (a ++ b) read
   with_front-append a b (Ok more) = ap (λ values. Ok (values, more.1)) (sym (append_assoc a b more.0))
@@ -69,7 +69,7 @@ with_front-nil (Err bad) = refl
 place : (n k : ℕ) → n + 1 + k ≡ n + suc k
 place n k = omega arith
 
-module _ {S X : Type 0} (step : Step S X) (format : Format S X) (tells : Tells step format) where
+module _ {S X : Type 0} (step : LineStep S X) (format : Format S X) (tells : Tells step format) where
   -- one line, and what is known of those behind it
   reads_one : (s : S) (n : ℕ) (line : List ℕ) (lines : List (List ℕ)) (values : List X) (last : S)
       → ((next : S) (more : List X) → read_from step next (n + 1) lines ≡ Ok (more, last) → Reads format next (n + 1) lines more last)

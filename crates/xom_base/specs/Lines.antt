@@ -28,8 +28,8 @@ Reads {S} {X} format s n (line ∷ lines) values last =
     (value : Option X) × (next : S) × (more : List X) × format s n line value next
     × (values ≡ option_to_list value ++ more) × Reads format next (n + 1) lines more last
 
--- The line of this number is the first bad one of the lines, of which the first has number n: those
--- before it are read, and whatever value it might have, it isn't in the format then.
+-- The line of this number is the first bad one of lines that begin with number n: those before it are
+-- read, and then the format gives it no value and doesn't pass it over.
 pub record IsFirstBad {S X : Type 0} (format : Format S X) (s : S) (n : ℕ) (lines : List (List ℕ)) (bad : ℕ) : Type 0 where
   pub before : List (List ℕ)
   pub line : List ℕ
@@ -53,8 +53,8 @@ Rows row = OfWords (λ s n words value next. row words value)
 -- ---- formats: functions
 
 -- What a format makes of one line: nothing where it is bad, else the value if it has one, and the next state.
-abbrev pub Step : Type 0 → Type 0 → Type 0
-Step S X = S → ℕ → List ℕ → Option (Option X × S)
+abbrev pub LineStep : Type 0 → Type 0 → Type 0
+LineStep S X = S → ℕ → List ℕ → Option (Option X × S)
 
 -- values, in front of those of the lines behind them
 abbrev pub with_front : {S X : Type 0} → List X → Result (List X × S) ℕ → Result (List X × S) ℕ
@@ -68,21 +68,22 @@ go_on n (Some read) more = with_front (option_to_list read.0) (more read.1)
 
 -- What lines give, of which the first has this number: their values and the last state, or the number
 -- of the first bad one.
-unfoldable pub read_from : {S X : Type 0} → Step S X → S → ℕ → List (List ℕ) → Result (List X × S) ℕ
+unfoldable pub read_from : {S X : Type 0} → LineStep S X → S → ℕ → List (List ℕ) → Result (List X × S) ℕ
 read_from step s n [] = Ok ([], s)
 read_from step s n (line ∷ lines) = go_on n (step s n line) (λ next. read_from step next (n + 1) lines)
 
 -- the step makes of each line what the format says of it
-pub record Tells {S X : Type 0} (step : Step S X) (format : Format S X) : Type 0 where
+pub record Tells {S X : Type 0} (step : LineStep S X) (format : Format S X) : Type 0 where
   pub reads : (s : S) (n : ℕ) (line : List ℕ) (value : Option X) (next : S) → step s n line ≡ Some (value, next) → format s n line value next
   pub only : (s : S) (n : ℕ) (line : List ℕ) (value : Option X) (next : S) → format s n line value next → step s n line ≡ Some (value, next)
 
--- the step of a format that is told by the words of its lines, from what it makes of words
+-- what a format makes of a line with these words: one with none is passed over
 abbrev pub with_words : {S X : Type 0} → (S → ℕ → List (List ℕ) → Option (X × S)) → S → ℕ → List (List ℕ) → Option (Option X × S)
 with_words row s n [] = Some (None, s)
 with_words row s n (word ∷ words) = option_map (λ read. (Some read.0, read.1)) (row s n (word ∷ words))
 
-abbrev pub step_of : {S X : Type 0} → (S → ℕ → List (List ℕ) → Option (X × S)) → Step S X
+-- the step of a format that is told by the words of its lines
+abbrev pub step_of : {S X : Type 0} → (S → ℕ → List (List ℕ) → Option (X × S)) → LineStep S X
 step_of row s n line = with_words row s n (words_of line)
 
 -- ---- answers

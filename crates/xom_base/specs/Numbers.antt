@@ -4,8 +4,8 @@ use Rattle.std.specs.Char.{digit_value, is_digit}
 use Rattle.std.specs.List.{AllByRecursion, list_all}
 use Rattle.std.specs.Str.{bytes_eq}
 
--- The number that digits write in a base: the last one counts as it is, each other one as many
--- times more as there are powers of the base behind it. Letters count from 10, in either case.
+-- The number that digits write in a base: each digit counts as often as the power of the base that
+-- there are digits behind it. Letters count from 10, in either case.
 abbrev pub value : ℕ → List ℕ → ℕ
 value base [] = 0
 value base (digit ∷ digits) = digit_value digit * base ^ length digits + value base digits

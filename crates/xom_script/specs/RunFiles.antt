@@ -73,8 +73,9 @@ pub record IsRunFile (text : List ℕ) (file : RunFile) : Type 0 where
   pub kernel_is : IsName file.kernel
   pub interrupts_are : IsInterrupts interrupts file.schedule.interrupts
 
--- ---- the same as a function
+-- ---- the same as a function: of each line its value, or none where the line isn't in the form
 
+-- one space stands between words
 abbrev pub is_space : ℕ → Bool
 is_space byte = byte == 32
 

@@ -2,7 +2,7 @@
 use Rattle.std.specs.Prelude.{◌≡◌, ℕ, ◌^◌, ◌==◌, if◌then◌else◌, List, [], ◌∷◌, codes, Option, Some, None, Result, Ok, Err, option_map}
 use Rattle.std.specs.Str.{bytes_eq}
 use Rattle.xom_script.specs.Forms.{◌>>=◌, where_holds}
-use Rattle.xom_base.specs.Lines.{Reads, Rows, Step, lines_of, read_from, step_of}
+use Rattle.xom_base.specs.Lines.{LineStep, Reads, Rows, lines_of, read_from, step_of}
 use Rattle.xom_base.specs.Numbers.{Writes, number_below_of}
 use Rattle.xom_base.specs.declared.event.Op.{Op}
 use Rattle.xom_base.specs.declared.event.Op.TheVariants.{Enter, Resume, SetReg, Halt}
@@ -54,7 +54,7 @@ op_of (name ∷ a ∷ b ∷ []) =
 op_of _ = None
 
 -- the same of a line, for the loop over lines
-abbrev pub op_step : Step (Unit {0}) Op
+abbrev pub op_step : LineStep (Unit {0}) Op
 op_step = step_of (λ s n words. option_map (λ op. (op, s)) (op_of words))
 
 -- the values of a text that is read
