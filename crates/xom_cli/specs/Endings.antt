@@ -26,6 +26,13 @@ pub record Outside : Type 0 where
   pub reads : ℕ
   pub output : Output
 
+-- both, from what is told and counted
+abbrev pub output : Option (List ℕ) → ℕ → Output
+output written faults = record { written = written; faults = faults }
+
+abbrev pub outside : Told → ℕ → Option (List ℕ) → ℕ → Outside
+outside held reads written faults = record { held = held; reads = reads; output = output written faults }
+
 -- the status of an ending
 abbrev pub status_of : Ending → ℕ
 status_of (ending.Done status) = status

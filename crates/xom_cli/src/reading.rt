@@ -35,7 +35,8 @@ pub struct Parts {
 /// first that can't be read or is off its form is refused.
 #[tactic(auto, unfolding(crate::specs::Trace::parts_of))]
 pub fn read_parts<F: Files>(alloc: Global, files: &mut F, run: &String) -> Result<Parts, Stop>
-    ensures gives { Gives (F.held files.old) (λ held. parts_of held (string_bytes run.now)) (F.reads files.old) (F.reads files.new) result }
+    ensures gives { Gives (F.held files.old) (λ held. parts_of held (string_bytes run.now))
+        (F.reads files.old) (F.reads files.new) result }
     ensures runnable { IfOk result (λ parts. IsRunnable parts.file) }
     ensures names { F.held files.new ≡ F.held files.old }
     ensures writes { F.writes files.new ≡ F.writes files.old }
@@ -52,7 +53,8 @@ pub fn read_parts<F: Files>(alloc: Global, files: &mut F, run: &String) -> Resul
 
 #[tactic(auto, unfolding(crate::specs::Trace::run_file_of))]
 fn run_file<F: Files>(alloc: Global, files: &mut F, name: &String) -> Result<RunFile, Stop>
-    ensures gives { Gives (F.held files.old) (λ held. run_file_of held (string_bytes name.now)) (F.reads files.old) (F.reads files.new) result }
+    ensures gives { Gives (F.held files.old) (λ held. run_file_of held (string_bytes name.now))
+        (F.reads files.old) (F.reads files.new) result }
     ensures runnable { IfOk result IsRunnable }
     ensures names { F.held files.new ≡ F.held files.old }
     ensures writes { F.writes files.new ≡ F.writes files.old }
@@ -63,7 +65,8 @@ fn run_file<F: Files>(alloc: Global, files: &mut F, name: &String) -> Result<Run
 
 #[tactic(auto, unfolding(crate::specs::Trace::image_of))]
 fn image<F: Files>(alloc: Global, files: &mut F, name: &String) -> Result<PlainImage, Stop>
-    ensures gives { Gives (F.held files.old) (λ held. image_of held (string_bytes name.now)) (F.reads files.old) (F.reads files.new) result }
+    ensures gives { Gives (F.held files.old) (λ held. image_of held (string_bytes name.now))
+        (F.reads files.old) (F.reads files.new) result }
     ensures names { F.held files.new ≡ F.held files.old }
     ensures writes { F.writes files.new ≡ F.writes files.old }
 {
@@ -73,7 +76,8 @@ fn image<F: Files>(alloc: Global, files: &mut F, name: &String) -> Result<PlainI
 
 #[tactic(auto, unfolding(crate::specs::Trace::script_of))]
 fn script<F: Files>(alloc: Global, files: &mut F, name: &String) -> Result<Script, Stop>
-    ensures gives { Gives (F.held files.old) (λ held. script_of held (string_bytes name.now)) (F.reads files.old) (F.reads files.new) result }
+    ensures gives { Gives (F.held files.old) (λ held. script_of held (string_bytes name.now))
+        (F.reads files.old) (F.reads files.new) result }
     ensures names { F.held files.new ≡ F.held files.old }
     ensures writes { F.writes files.new ≡ F.writes files.old }
 {
@@ -84,7 +88,8 @@ fn script<F: Files>(alloc: Global, files: &mut F, name: &String) -> Result<Scrip
 /// The bytes of a file, at most so many.
 #[tactic(auto, unfolding(crate::specs::Trace::fetched))]
 fn fetch<F: Files>(files: &mut F, name: &String, limit: u64) -> Result<ByteList, Stop>
-    ensures gives { Gives (F.held files.old) (λ held. fetched held (string_bytes name.now) limit) (F.reads files.old) (F.reads files.new) result }
+    ensures gives { Gives (F.held files.old) (λ held. fetched held (string_bytes name.now) limit)
+        (F.reads files.old) (F.reads files.new) result }
     ensures names { F.held files.new ≡ F.held files.old }
     ensures writes { F.writes files.new ≡ F.writes files.old }
 {

@@ -1,5 +1,5 @@
 ghost use Rattle.std.specs.Prelude.{◌≡◌, ◌⊎◌, ◌++◌, IfOk, map, option_map, string_bytes};
-ghost use Rattle.xom_cli.specs.Endings.{Ends, Finishes, IsDone, IsSilent, Prints, refused as refused_by};
+ghost use Rattle.xom_cli.specs.Endings.{Ends, Finishes, IsDone, IsSilent, Prints, output, outside, refused as refused_by};
 ghost use Rattle.xom_cli.specs.Outcome.{row_outcome};
 ghost use Rattle.xom_cli.specs.Promises.{Promises};
 ghost use Rattle.xom_cli.specs.Readings.{Gives};
@@ -32,8 +32,8 @@ pub fn xom_main<F: Files, O: Sink>(
 ) -> u8
     // The status with its causes, the text, and what the owner of a guest may believe.
     ensures promises { Promises (map string_bytes words.now.items)
-        (record { held = F.held files.old; reads = F.reads files.old; output = record { written = O.written out.old; faults = O.faults out.old } })
-        (record { held = F.held files.new; reads = F.reads files.new; output = record { written = O.written out.new; faults = O.faults out.new } })
+        (outside (F.held files.old) (F.reads files.old) (O.written out.old) (O.faults out.old))
+        (outside (F.held files.new) (F.reads files.new) (O.written out.new) (O.faults out.new))
         result }
     ensures names { F.held files.new ≡ F.held files.old }
     ensures writes { F.writes files.new ≡ F.writes files.old }
@@ -44,8 +44,8 @@ pub fn xom_main<F: Files, O: Sink>(
 /// A whole call: the words, the command, its text.
 fn call<F: Files, O: Sink>(alloc: Global, words: &[String], files: &mut F, out: &mut O) -> Ending
     ensures ends { Ends (map string_bytes words.now)
-        (record { held = F.held files.old; reads = F.reads files.old; output = record { written = O.written out.old; faults = O.faults out.old } })
-        (record { held = F.held files.new; reads = F.reads files.new; output = record { written = O.written out.new; faults = O.faults out.new } })
+        (outside (F.held files.old) (F.reads files.old) (O.written out.old) (O.faults out.old))
+        (outside (F.held files.new) (F.reads files.new) (O.written out.new) (O.faults out.new))
         result }
     ensures names { F.held files.new ≡ F.held files.old }
     ensures writes { F.writes files.new ≡ F.writes files.old }
@@ -72,7 +72,8 @@ fn run_named(words: &[String]) -> Option<&String>
 /// Reads what a run is made of, makes it, and judges its journal.
 #[tactic(auto, unfolding(crate::specs::Trace::trace_of))]
 fn trace<F: Files>(alloc: Global, files: &mut F, run: &String) -> Result<Answer, Stop>
-    ensures gives { Gives (F.held files.old) (λ held. trace_of held (string_bytes run.now)) (F.reads files.old) (F.reads files.new) result }
+    ensures gives { Gives (F.held files.old) (λ held. trace_of held (string_bytes run.now))
+        (F.reads files.old) (F.reads files.new) result }
     ensures done { IfOk result (λ answer. IsDone answer.status) }
     ensures names { F.held files.new ≡ F.held files.old }
     ensures writes { F.writes files.new ≡ F.writes files.old }
@@ -84,7 +85,8 @@ fn trace<F: Files>(alloc: Global, files: &mut F, run: &String) -> Result<Answer,
 /// Prints what was answered.
 fn finish<O: Sink>(alloc: Global, answered: Result<Answer, Stop>, out: &mut O) -> Ending
     requires { IfOk answered (λ answer. IsDone answer.status) }
-    ensures { Finishes (record { written = O.written out.old; faults = O.faults out.old }) (record { written = O.written out.new; faults = O.faults out.new }) answered result }
+    ensures { Finishes (output (O.written out.old) (O.faults out.old))
+        (output (O.written out.new) (O.faults out.new)) answered result }
 {
     match answered {
         Ok(answer) => print(
@@ -100,8 +102,10 @@ fn finish<O: Sink>(alloc: Global, answered: Result<Answer, Stop>, out: &mut O) -
 
 /// Prints the line of a refusal. That the sink fails in it doesn't change the ending.
 fn print_refusal<O: Sink>(alloc: Global, refusal: &Refusal, out: &mut O) -> Ending
-    ensures { IsSilent (record { written = O.written out.old; faults = O.faults out.old }) (record { written = O.written out.new; faults = O.faults out.new }) result
-        ⊎ Prints (record { written = O.written out.old; faults = O.faults out.old }) (record { written = O.written out.new; faults = O.faults out.new }) (line_of refusal.now) (refused_by refusal.now) (refused_by refusal.now) result }
+    ensures { let before = output (O.written out.old) (O.faults out.old) in
+        let after = output (O.written out.new) (O.faults out.new) in
+        IsSilent before after result
+        ⊎ Prints before after (line_of refusal.now) (refused_by refusal.now) (refused_by refusal.now) result }
 {
     match refusal_line(alloc, refusal) {
         Ok(line) => print(out, line.as_bytes(), refused(refusal), refused(refusal)),
@@ -141,7 +145,8 @@ fn refused(refusal: &Refusal) -> Ending
 
 /// Puts a text, and ends by what the sink answers: `whole`, or `broken` where it failed.
 fn print<O: Sink>(out: &mut O, text: &[u8], whole: Ending, broken: Ending) -> Ending
-    ensures { Prints (record { written = O.written out.old; faults = O.faults out.old }) (record { written = O.written out.new; faults = O.faults out.new }) text.now whole broken result }
+    ensures { Prints (output (O.written out.old) (O.faults out.old))
+        (output (O.written out.new) (O.faults out.new)) text.now whole broken result }
 {
     match put_all(out, text) {
         Ok(()) => whole,

@@ -28,7 +28,7 @@ pub struct RunFile {
     pub machine: Key256,
     /// The number of the power-on, below 2^63.
     pub boot: u64,
-    /// How many frames of 4,096 bytes RAM has: 4 to 8,192.
+    /// How many frames of 8,192 bytes RAM has: 4 to 8,192.
     pub frames: u32,
     /// At most how many events are made: at most 1,048,576.
     pub budget: u64,
