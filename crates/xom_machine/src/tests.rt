@@ -5,8 +5,8 @@ use session_table::SlotState;
 use std::alloc::Global;
 use std::test::Fail;
 use xom_base::{
-    ByteList, ImageId, Interrupts, Key256, NoMemory, NumberList, Op,
-    PlainImage, RunEnd, Schedule, Turn,
+    ByteList, ImageId, Interrupts, Key256, NoMemory, NumberList, Op, PlainImage, RunEnd, Schedule,
+    Turn,
 };
 
 /// Releases 12 in $9, and ends.
