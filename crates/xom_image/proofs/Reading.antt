@@ -16,17 +16,20 @@ use Rattle.xom_image.specs.PlainFiles.{plain_head, plain_file, IsPlainFile, numb
 
 -- the first bytes agree, and then the rest decides, or they differ
 agreed-step : (x y : ℕ) (xs ys : List ℕ) → ((x ≡ y) × (agreed (x ∷ xs) (y ∷ ys) ≡ suc (agreed xs ys))) ⊎ ((x ≡ y → ⊥) × (agreed (x ∷ xs) (y ∷ ys) ≡ 0))
+unfolding agreed
 agreed-step x y xs ys = grind (arith, take_while-cons, nat_tests)
 
-pub agreed-within : (xs ys : List ℕ) → (agreed xs ys ≤ length xs) × (agreed xs ys ≤ length ys)
-agreed-within [] ys = (omega arith, omega arith)
-agreed-within (x ∷ xs) [] = (omega arith, omega arith)
-agreed-within (x ∷ xs) (y ∷ ys) =
-    let within = agreed-within xs ys in
+pub agreed_within : (xs ys : List ℕ) → (agreed xs ys ≤ length xs) × (agreed xs ys ≤ length ys)
+unfolding agreed
+agreed_within [] ys = (omega arith, omega arith)
+agreed_within (x ∷ xs) [] = (omega arith, omega arith)
+agreed_within (x ∷ xs) (y ∷ ys) =
+    let within = agreed_within xs ys in
     elim (agreed-step x y xs ys) [ inl h ↦ (omega arith, omega arith) | inr h ↦ (omega arith, omega arith) ]
 
 -- before that place both have the same bytes
 pub agreed-same : (xs ys : List ℕ) (k : ℕ) → k < agreed xs ys → get_or ys k 0 ≡ get_or xs k 0
+unfolding agreed
 agreed-same [] ys k below = absurd (omega arith)
 agreed-same (x ∷ xs) [] k below = absurd (omega arith)
 agreed-same (x ∷ xs) (y ∷ ys) zero below = elim (agreed-step x y xs ys) [ inl h ↦ sym h.0 | inr h ↦ absurd (omega arith) ]
@@ -44,6 +47,7 @@ agreed-differs (x ∷ xs) (y ∷ ys) short within same =
 
 -- a text that agrees in all bytes of another begins with it
 pub agreed-all : (xs ys : List ℕ) → agreed xs ys ≡ length xs → take (length xs) ys ≡ xs
+unfolding agreed
 agreed-all [] ys all = refl
 agreed-all (x ∷ xs) [] all = absurd (omega arith)
 agreed-all (x ∷ xs) (y ∷ ys) all =
@@ -88,7 +92,7 @@ IsRight file (Err n) = IsFirstBad file n
 module _ (file : List ℕ) where
   bad_head : agreed plain_head file < 8 → IsFirstBad file (agreed plain_head file)
   bad_head short =
-      let within : agreed plain_head file ≤ length file = (agreed-within plain_head file).1 in
+      let within : agreed plain_head file ≤ length file = (agreed_within plain_head file).1 in
       record {
         bad = elim (cases_lt (agreed plain_head file) (length file)) [
           | inl there ↦ inl (short, there, agreed-differs plain_head file short there)
@@ -135,7 +139,7 @@ module _ (file : List ℕ) where
   read-right =
       cond_both (ltb (agreed plain_head file) 8) _ _ (IsRight file)
       (λ t. bad_head (ltb-true _ _ t))
-      (λ t. let head : agreed plain_head file ≡ 8 = omega (arith, ltb-false _ _ t, (agreed-within plain_head file).0) in
+      (λ t. let head : agreed plain_head file ≡ 8 = omega (arith, ltb-false _ _ t, (agreed_within plain_head file).0) in
       cond_both (ltb (length file) 12) _ _ (IsRight file)
       (λ t. no_entry head (ltb-true _ _ t))
       (λ t. let first = ltb-false _ _ t in
@@ -179,6 +183,7 @@ field-bytes file place bytes i =
 
 -- a field of four bytes, written again
 field-written : (file : List ℕ) (place : ℕ) → ((i : ℕ) → get_or file i 0 < 256) → place + 4 ≤ length file → to_be_bytes w32 (number_at file place) ≡ take 4 (drop place file)
+unfolding number_at
 field-written file place bytes there =
     be_bytes_4 (take 4 (drop place file)) _ (length-take-le 4 (drop place file) (simp length-drop (omega arith))) (field-bytes file place bytes) refl
 
@@ -208,7 +213,7 @@ read-file file entry bytes small is =
 
 -- the file of an image breaks no rule
 plain_file-whole : (entry : ℕ) (bytes : List ℕ) → entry % 4 ≡ 0 → entry < 2 ^ 20 → length bytes ≤ 2 ^ 20 → IsWhole (plain_file entry bytes)
-unfolding plain_file
+unfolding plain_file number_at agreed
 plain_file-whole entry bytes aligned private fits =
     let entry_is : entry_at (plain_file entry bytes) ≡ entry = from_be_bytes-to_be_bytes_4 entry (omega arith) in
     let length_is : length_at (plain_file entry bytes) ≡ length bytes = from_be_bytes-to_be_bytes_4 (length bytes) (omega arith) in
@@ -222,7 +227,7 @@ plain_file-whole entry bytes aligned private fits =
 
 -- the file of an image is read as its entry and its bytes
 pub plain_file-read : (entry : ℕ) (bytes : List ℕ) → entry % 4 ≡ 0 → entry < 2 ^ 20 → length bytes ≤ 2 ^ 20 → plain_image_at (plain_file entry bytes) ≡ Ok (entry, bytes)
-unfolding plain_file
+unfolding plain_file number_at
 plain_file-read entry bytes aligned private fits =
     let file = plain_file entry bytes in
     right-whole file (plain_image_at file) (read-right file) (plain_file-whole entry bytes aligned private fits)

@@ -22,7 +22,7 @@ IsPlainFile file image = file ≡ plain_file image.entry image.bytes
 -- ---- Where a file is bad
 
 -- the number in the four bytes from this place on
-abbrev pub number_at : List ℕ → ℕ → ℕ
+unfoldable pub number_at : List ℕ → ℕ → ℕ
 number_at file place = from_be_bytes w32 (take 4 (drop place file))
 
 -- the entry that a file says
@@ -69,7 +69,7 @@ abbrev pub is_entry : ℕ → Bool
 is_entry entry = (entry % 4 == 0) && nat_lt entry (2 ^ 20)
 
 -- how many bytes of two texts agree, from the front on
-abbrev pub agreed : List ℕ → List ℕ → ℕ
+unfoldable pub agreed : List ℕ → List ℕ → ℕ
 agreed xs ys = length (take_while (λ (p : ℕ × ℕ). p.0 == p.1) (zip xs ys))
 
 -- the entry and the bytes of the image, or the first bad place

@@ -65,8 +65,10 @@ fn parts(file: &[u8]) -> Result<(u32, &[u8]), u64>
 }
 
 /// How many bytes two texts have in common from the front on.
+#[tactic(auto, using(crate::proofs::Reading::agreed_within), unfolding(crate::specs::PlainFiles::agreed))]
 fn agreed(a: &[u8], b: &[u8]) -> usize
-    ensures { result ≡ agreed_of a.now b.now }
+    ensures value { result ≡ agreed_of a.now b.now }
+    ensures within { result ≤ length b.now }
 {
     a.iter()
         .zip(b.iter())
@@ -75,6 +77,7 @@ fn agreed(a: &[u8], b: &[u8]) -> usize
 }
 
 /// The number in the four bytes from this place on, if they are all there.
+#[tactic(auto, unfolding(crate::specs::PlainFiles::number_at))]
 fn number_at(file: &[u8], place: usize) -> Option<u32>
     requires { place ≤ length file.now }
     ensures { SomeIff result (place + 4 ≤ length file.now) (number_of file.now place) }

@@ -60,3 +60,11 @@ fn a_file_that_ends_early_is_bad_at_its_length(rt: HostRuntime) -> Result<(), Fa
     }
     Ok(())
 }
+
+#[test]
+fn faults_are_told(rt: HostRuntime) -> Result<(), Fail> {
+    let bad = ImageFault::Bad(10);
+    let text = format!(in rt.alloc(); "{bad}, {}", ImageFault::NoMemory)?;
+    assert_eq!(rt; text.as_str(), "byte 10: bad, out of memory");
+    Ok(())
+}
