@@ -1,7 +1,7 @@
 -- The journal as a list of entries, with a number of bytes that are spare for more.
-use Rattle.std.specs.Prelude.{ℕ, ◌+◌, ◌-◌, ◌≤◌, List, [], ◌∷◌, ◌++◌, length}
+use Rattle.std.specs.Prelude.{ℕ, ◌+◌, ◌-◌, List, [], ◌∷◌, ◌++◌, length}
 use Rattle.xom_base.specs.declared.entry.Entry.{Entry}
-use Rattle.xom_base.specs.declared.entry.Entry.TheVariants.{Install, Step, Trap, Seal, Accept, Hash, Stop, Kill, Out}
+use Rattle.xom_base.specs.declared.entry.Entry.TheVariants.{Seal, Accept, Hash}
 
 pub record Log : Type 0 where
   pub entries : List Entry

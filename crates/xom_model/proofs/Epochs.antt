@@ -1,5 +1,5 @@
 -- An event raises an epoch by one at most.
-use Rattle.std.proofs.Common.{◌≡◌, ◌⊎◌, inl, inr, ℕ, ◌+◌, ◌<◌, ◌≤◌, List, Option, Some, None, Result, Ok, Err, length, get_or, set, refl, sym, ap, subst, arith, Bool, true, false, cond}
+use Rattle.std.proofs.Common.{◌≡◌, inl, inr, ℕ, ◌+◌, ◌≤◌, List, Option, Some, None, Result, Ok, Err, length, set, refl, sym, ap, subst, arith, Bool, true, false, cond}
 use Rattle.std.specs.Prelude.{nat_le, ◌==◌}
 use Rattle.std.proofs.lemmas.List.{get_or-set_same, get_or-set_other, set_past}
 use Rattle.std.proofs.lemmas.Bool.Decides.{eqb_tells}
@@ -17,26 +17,27 @@ use Rattle.mips_plain.specs.Instruction.{step_made}
 use Rattle.session_table.specs.declared.session.Session.{Session}
 use Rattle.session_table.specs.declared.session.SlotState.{SlotState}
 use Rattle.session_table.specs.declared.session.SlotState.TheVariants as state
-use Rattle.session_table.specs.Sessions.{free, session_at, entered, left, paused, resumed}
+use Rattle.session_table.specs.Sessions.{free, session_at, entered, paused, resumed}
 use Rattle.xom_model.specs.State.{CoreState, memory_of, session_of}
 use Rattle.xom_model.specs.Guest.{after_step, finished, guest, moved, ran, received_by, retired, trapped}
-use Rattle.xom_model.specs.Operation.{enter, go_on, is_cell, is_slot, missing, operation, resume, resume_paused, set_register, stopped}
+use Rattle.xom_model.specs.Operation.{enter, go_on, is_cell, is_slot, missing, operation, resume, resume_paused}
 use Rattle.xom_model.specs.Epochs.{AreBelow}
 
 -- a session is set to one whose epoch isn't above
 set_below : (sessions : List Session) (slot n : ℕ) (s : Session) → s.epoch ≤ n → AreBelow sessions n → AreBelow (set sessions slot s) n
 set_below sessions slot n s low below other = elim (eqb_tells other slot) [
-    inl is ↦ elim (dec_lt slot (length sessions)) [
-        yes inside ↦ let its = ap (λ t. t.epoch) (get_or-set_same sessions slot s free inside) in subst (λ k. (session_at (set sessions slot s) k).epoch ≤ n) (sym is.1) (omega arith)
-      | no past ↦ subst (λ list. (session_at list other).epoch ≤ n) (sym (set_past sessions slot s (omega arith))) (below other) ]
-  | inr differs ↦ let its = ap (λ t. t.epoch) (get_or-set_other sessions slot other s free differs.1) in let low = below other in omega arith ]
+  | inl is ↦ elim (dec_lt slot (length sessions)) [
+    | yes inside ↦ let its = ap (λ t. t.epoch) (get_or-set_same sessions slot s free inside) in subst (λ k. (session_at (set sessions slot s) k).epoch ≤ n) (sym is.1) (omega arith)
+    | no past ↦ subst (λ list. (session_at list other).epoch ≤ n) (sym (set_past sessions slot s (omega arith))) (below other)
+  ]
+  | inr differs ↦ let its = ap (λ t. t.epoch) (get_or-set_other sessions slot other s free differs.1) in let low = below other in omega arith
+]
 
 -- a higher bound
 pub AreBelow-more : (sessions : List Session) (n : ℕ) → AreBelow sessions n → AreBelow sessions (n + 1)
 AreBelow-more sessions n below slot = let low = below slot in omega arith
 
 module _ (core : CoreState) (slot n : ℕ) (below : AreBelow core.sessions n) where
-
   trapped_below : (why : Cause) → AreBelow (trapped core slot why).0.sessions (n + 1)
   trapped_below why = set_below core.sessions slot (n + 1) (paused (session_of core slot)) (let low = below slot in omega arith) (AreBelow-more core.sessions n below)
 
@@ -64,7 +65,6 @@ unfolding guest
 guest_below core slot interrupt n below = ran_below core slot n interrupt _ below
 
 module _ (core : CoreState) (n : ℕ) (below : AreBelow core.sessions n) where
-
   same_below : (slot : ℕ) (s : Session) → s.epoch ≡ (session_of core slot).epoch → AreBelow (set core.sessions slot s) n
   same_below slot s same = set_below core.sessions slot n s (let low = below slot in omega arith) below
 
@@ -83,10 +83,12 @@ module _ (core : CoreState) (n : ℕ) (below : AreBelow core.sessions n) where
   resume_paused_below : (slot signal : ℕ) → AreBelow (resume_paused core slot signal).0.sessions n
   resume_paused_below slot signal =
       elim (nat_le signal 63) as (λ small. AreBelow (cond {A = CoreState × ℕ} small (cond (signal == 0) (go_on core slot (missing slot (session_of core slot).mask core.cells)) (core, 2)) (core, 7)).0.sessions n) [
-        true ↦ elim (signal == 0) as (λ nothing. AreBelow (cond {A = CoreState × ℕ} nothing (go_on core slot (missing slot (session_of core slot).mask core.cells)) (core, 2)).0.sessions n) [
-            true ↦ go_on_below slot _
-          | false ↦ below ]
-      | false ↦ below ]
+        | true ↦ elim (signal == 0) as (λ nothing. AreBelow (cond {A = CoreState × ℕ} nothing (go_on core slot (missing slot (session_of core slot).mask core.cells)) (core, 2)).0.sessions n) [
+          | true ↦ go_on_below slot _
+          | false ↦ below
+        ]
+        | false ↦ below
+      ]
 
   resume_below : (slot signal : ℕ) (at : SlotState) → AreBelow (resume core slot signal at).0.sessions n
   resume_below slot signal state.Free = below

@@ -1,14 +1,11 @@
 -- A fault of a guest is its program's own, and changes nothing.
-use Rattle.std.proofs.Common.{◌≡◌, ◌⊎◌, inl, inr, ℕ, ◌≤◌, List, [], ◌∷◌, ◌++◌, Option, Some, None, Result, Ok, Err, refl, sym, ◌∙◌, ap, subst, Bool, true, false, cond}
+use Rattle.std.proofs.Common.{◌≡◌, ◌⊎◌, inl, inr, ℕ, Option, Some, None, Result, Ok, Err, refl, sym, ◌∙◌, ap, subst, Bool, true, false, cond}
 use Rattle.std.specs.Prelude.{nat_le, ◌==◌}
-use Rattle.xom_base.specs.declared.event.Cause.{Cause}
 use Rattle.xom_base.specs.declared.event.Cause.TheVariants as cause
-use Rattle.xom_base.specs.declared.event.Op.{Op}
 use Rattle.xom_base.specs.declared.event.Op.TheVariants.{Install, Enter, Resume, Save, Restore, Map, Unmap, SetReg, Kill, Out, Halt}
 use Rattle.xom_base.specs.declared.event.OwnFault.{OwnFault}
 use Rattle.xom_base.specs.declared.step.StepEnd.{StepEnd}
 use Rattle.xom_base.specs.declared.step.StepEnd.TheVariants as ended
-use Rattle.image_sealer.specs.declared.owner.Owner.{Owner}
 use Rattle.mips_effect.specs.declared.effects.Effect.{Effect}
 use Rattle.mips_plain.specs.declared.given.Given.TheVariants as given
 use Rattle.mips_plain.specs.Machine.{answered}
@@ -16,9 +13,8 @@ use Rattle.session_table.specs.declared.session.SlotState.{SlotState}
 use Rattle.session_table.specs.declared.session.SlotState.TheVariants as state
 use Rattle.xom_model.specs.State.{CoreState, session_of}
 use Rattle.xom_model.specs.Guest.{after_step, guest, ran}
-use Rattle.xom_model.specs.Operation.{enter, go_on, is_cell, is_slot, missing, operation, resume, resume_paused, set_register}
-use Rattle.xom_model.specs.Holds.{Holds, IsRunning}
-use Rattle.xom_model.specs.Laws.{ChangesNothing, FaultsAlone, FaultsAreOwn, FaultsChangeNothing, RefusalsChangeNothing}
+use Rattle.xom_model.specs.Operation.{enter, go_on, is_cell, is_slot, missing, operation, resume}
+use Rattle.xom_model.specs.Laws.{ChangesNothing, FaultsAreOwn, FaultsChangeNothing, RefusalsChangeNothing}
 use Rattle.xom_model.proofs.Retired.{plain-answered}
 use Rattle.xom_model.proofs.Steps.{comes, comes_same, held}
 
@@ -38,10 +34,13 @@ pub faults_are_own : FaultsAreOwn
 unfolding guest
 faults_are_own owners core slot interrupt fault some known runs holds is =
     let h = held owners core slot some known runs holds in
-    let found = ran-fault core slot interrupt (comes owners core slot some known runs holds) fault is in
-    (h.0, h.1, h.2,
+    let found = ran-fault core slot interrupt (comes owners core slot some known runs holds) fault is in (
+      h.0,
+      h.1,
+      h.2,
       plain-answered h.1 given.Nothing h.3.over
-      ∙ ap (answered h.1 given.Nothing) (comes_same owners core slot some known runs holds ∙ found))
+          ∙ ap (answered h.1 given.Nothing) (comes_same owners core slot some known runs holds ∙ found),
+    )
 
 changes_nothing : (core : CoreState) (slot : ℕ) (interrupt : Bool) (result : Result Effect OwnFault) (fault : OwnFault) → result ≡ Err fault → ChangesNothing core (ran core slot interrupt result).0 slot fault
 changes_nothing core slot interrupt result fault is =
@@ -77,8 +76,8 @@ resume_outcome core slot signal state.Fresh = inr (inr refl)
 resume_outcome core slot signal state.Running = inr (inr refl)
 resume_outcome core slot signal state.Paused =
     either core (nat_le signal 63) (cond (signal == 0) (go_on core slot (missing slot (session_of core slot).mask core.cells)) (core, 2)) (core, 7)
-      (either core (signal == 0) (go_on core slot (missing slot (session_of core slot).mask core.cells)) (core, 2) (go_on_outcome core slot _) (inr (inr refl)))
-      (inr (inr refl))
+    (either core (signal == 0) (go_on core slot (missing slot (session_of core slot).mask core.cells)) (core, 2) (go_on_outcome core slot _) (inr (inr refl)))
+    (inr (inr refl))
 resume_outcome core slot signal state.Ended = inr (inr refl)
 resume_outcome core slot signal (state.Stopped why) = inr (inr refl)
 

@@ -1,5 +1,5 @@
 -- One event changes one slot. What it owes about that slot, and about the rest, so that what holds of every slot still does.
-use Rattle.std.proofs.Common.{◌≡◌, ◌≢◌, ◌⊎◌, inl, inr, ℕ, ◌<◌, ◌≤◌, List, [], ◌∷◌, ◌++◌, Option, Some, None, length, refl, sym, ◌∙◌, ap, subst, arith, Bool, true, false}
+use Rattle.std.proofs.Common.{◌≡◌, ◌≢◌, inl, inr, ℕ, ◌<◌, ◌≤◌, List, length, sym, ◌∙◌, ap, subst, arith, true}
 use Rattle.std.proofs.lemmas.Bool.Decides.{eqb_tells}
 use Rattle.std.specs.Int.{bit_at}
 use Rattle.xom_base.specs.Entries.{steps_of}
@@ -11,7 +11,6 @@ use Rattle.mips_plain.specs.declared.cell.PlainCell.TheVariants.{Own}
 use Rattle.mips_plain.specs.Follows.{Reaches}
 use Rattle.tag_regs.specs.TaggedCells.{cell_at}
 use Rattle.session_table.specs.declared.session.Session.{Session}
-use Rattle.session_table.specs.declared.session.SlotState.{SlotState}
 use Rattle.session_table.specs.Sessions.{is_live}
 use Rattle.xom_model.specs.State.{CoreState, session_of, memory_of}
 use Rattle.xom_model.specs.Holds.{was_entered, Agrees, FollowsAlone, IsAlone, IsHeld, IsInstalled, IsLive, SlotsHold}
@@ -51,11 +50,11 @@ IsAlone-same owners old new install id same alone =
 
 -- a slot whose session, memory, cells and steps are as they were agrees as it did
 pub Agrees-same : (core new : CoreState) (slot : ℕ) (owner : Owner) (p : State)
-  → session_of new slot ≡ session_of core slot
-  → memory_of new slot ≡ memory_of core slot
-  → ((reg : ℕ) → 1 ≤ reg → reg < 34 → (cell_at new.cells reg).tag ≡ slot → cell_at new.cells reg ≡ cell_at core.cells reg)
-  → steps_of (session_of core slot).install new.entries ≡ steps_of (session_of core slot).install core.entries
-  → Agrees core slot owner p → Agrees new slot owner p
+    → session_of new slot ≡ session_of core slot
+    → memory_of new slot ≡ memory_of core slot
+    → ((reg : ℕ) → 1 ≤ reg → reg < 34 → (cell_at new.cells reg).tag ≡ slot → cell_at new.cells reg ≡ cell_at core.cells reg)
+    → steps_of (session_of core slot).install new.entries ≡ steps_of (session_of core slot).install core.entries
+    → Agrees core slot owner p → Agrees new slot owner p
 Agrees-same core new slot owner p session memory cell steps agrees = record {
   key = ap (λ s. s.key) session ∙ agrees.key;
   entry = ap (λ s. s.entry) session ∙ agrees.entry;
@@ -73,7 +72,6 @@ Agrees-same core new slot owner p session memory cell steps agrees = record {
 }
 
 module _ (owners : List Owner) (core new : CoreState) (slot : ℕ) (holds : SlotsHold owners core) (owes : Owes owners core new slot) where
-
   -- the slot isn't the null compartment
   slot_some : slot ≢ 0
   slot_some none = absurd (cc (ap (λ k. is_live (session_of core k).state) none, owes.live, holds.null))
@@ -98,48 +96,54 @@ module _ (owners : List Owner) (core new : CoreState) (slot : ℕ) (holds : Slot
       let steps = owes.steps (session_of core other).install (install_differs other differs before) in
       let some = live_some other before in
       let agrees = Agrees-same core new other held.0 held.1 session (owes.memories other differs)
-            (λ reg from to tag. owes.foreign reg from to (λ none. some (sym tag ∙ none)) (λ own. differs (sym tag ∙ own)))
-            steps held.3 in
+      (λ reg from to tag. owes.foreign reg from to (λ none. some (sym tag ∙ none)) (λ own. differs (sym tag ∙ own)))
+      steps held.3 in
       let alone = FollowsAlone-same owners core.entries new.entries (session_of core other).install (session_of core other).id held.0 held.1 steps held.2 in
       (held.0, held.1, subst (λ (s : Session). FollowsAlone owners new.entries s.install s.id held.0 held.1) (sym session) alone, agrees)
 
   held_new : (other : ℕ) → IsLive new other → IsHeld owners new other
   held_new other live = elim (eqb_tells other slot) [
-      inl is ↦ subst (λ k. IsHeld owners new k) (sym is.1) (owes.held (subst (λ k. IsLive new k) is.1 live))
-    | inr differs ↦ held_other other differs.1 live ]
+    | inl is ↦ subst (λ k. IsHeld owners new k) (sym is.1) (owes.held (subst (λ k. IsLive new k) is.1 live))
+    | inr differs ↦ held_other other differs.1 live
+  ]
 
   alone_new : (install : ℕ) (id : ImageId) → IsInstalled new.entries install id → IsAlone owners new.entries install id
   alone_new install id installed =
       let before = owes.installed install id installed in
       elim (eqb_tells install (session_of core slot).install) [
-        inl is ↦ subst (λ n. IsAlone owners new.entries n id) (sym is.1) (owes.alone id (subst (λ n. IsInstalled core.entries n id) is.1 before))
-      | inr differs ↦ IsAlone-same owners core.entries new.entries install id (owes.steps install differs.1) (holds.alone install id before) ]
+        | inl is ↦ subst (λ n. IsAlone owners new.entries n id) (sym is.1) (owes.alone id (subst (λ n. IsInstalled core.entries n id) is.1 before))
+        | inr differs ↦ IsAlone-same owners core.entries new.entries install id (owes.steps install differs.1) (holds.alone install id before)
+      ]
 
   -- whether the slot's or another's, a live slot was live before
   was_live : (other : ℕ) → IsLive new other → IsLive core other
   was_live other live = elim (eqb_tells other slot) [
-      inl is ↦ subst (λ k. IsLive core k) (sym is.1) owes.live
-    | inr differs ↦ live_before other differs.1 live ]
+    | inl is ↦ subst (λ k. IsLive core k) (sym is.1) owes.live
+    | inr differs ↦ live_before other differs.1 live
+  ]
 
   -- no install number changed
   install_same : (other : ℕ) → (session_of new other).install ≡ (session_of core other).install
   install_same other = elim (eqb_tells other slot) [
-      inl is ↦ subst (λ k. (session_of new k).install ≡ (session_of core k).install) (sym is.1) owes.install
-    | inr differs ↦ ap (λ s. s.install) (owes.sessions other differs.1) ]
+    | inl is ↦ subst (λ k. (session_of new k).install ≡ (session_of core k).install) (sym is.1) owes.install
+    | inr differs ↦ ap (λ s. s.install) (owes.sessions other differs.1)
+  ]
 
   id_same : (other : ℕ) → (session_of new other).id ≡ (session_of core other).id
   id_same other = elim (eqb_tells other slot) [
-      inl is ↦ subst (λ k. (session_of new k).id ≡ (session_of core k).id) (sym is.1) owes.id
-    | inr differs ↦ ap (λ s. s.id) (owes.sessions other differs.1) ]
+    | inl is ↦ subst (λ k. (session_of new k).id ≡ (session_of core k).id) (sym is.1) owes.id
+    | inr differs ↦ ap (λ s. s.id) (owes.sessions other differs.1)
+  ]
 
   tags_new : (reg : ℕ) → 1 ≤ reg → reg < 34 → (cell_at new.cells reg).tag ≢ 0 → IsLive new (cell_at new.cells reg).tag
   tags_new reg from to some = elim (eqb_tells (cell_at new.cells reg).tag slot) [
-      inl is ↦ subst (λ k. IsLive new k) (sym is.1) (owes.tags reg from to is.1)
+    | inl is ↦ subst (λ k. IsLive new k) (sym is.1) (owes.tags reg from to is.1)
     | inr differs ↦
         let same = owes.foreign reg from to some differs.1 in
         let before = holds.tags reg from to (λ none. some (ap (λ c. c.tag) same ∙ none)) in
         let live = subst (λ c. IsLive core c.tag) (sym same) before in
-        ap (λ s. is_live s.state) (owes.sessions (cell_at new.cells reg).tag differs.1) ∙ live ]
+        ap (λ s. is_live s.state) (owes.sessions (cell_at new.cells reg).tag differs.1) ∙ live
+  ]
 
   -- what holds of every slot still does
   pub changed_holds : SlotsHold owners new

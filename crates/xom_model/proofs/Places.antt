@@ -1,7 +1,5 @@
 -- Reading a place after it, or another, was written; and what one more entry adds to a journal.
-use Rattle.std.proofs.Common.{◌≡◌, ◌≢◌, ◌⊎◌, inl, inr, ℕ, ◌<◌, List, [], ◌∷◌, ◌++◌, Option, Some, None, length, get_or, set, refl, sym, ◌∙◌, ap, arith, eqb, Bool, true, false, cond, append-nil}
-use Rattle.std.specs.List.{filter_map}
-use Rattle.std.proofs.lemmas.List.{get_or-set_same, get_or-set_other}
+use Rattle.std.proofs.Common.{◌≡◌, ◌≢◌, ◌⊎◌, inl, inr, ℕ, List, [], ◌∷◌, ◌++◌, Some, None, refl, sym, ◌∙◌, eqb, true, false, cond, append-nil}
 use Rattle.std.proofs.lemmas.List.Elements.{filter_map-append}
 use Rattle.std.proofs.lemmas.Bool.{eq-eqb, eqb-true}
 use Rattle.xom_base.specs.Entries.{step_in, steps_of}
@@ -28,8 +26,9 @@ step_in-other n m step other = elim (eqb m n) as (λ b. eqb m n ≡ b → cond b
 pub IsInstalled-more : (entries : List Entry) (e : Entry) (n : ℕ) (id : ImageId) → IsInstalled (entries ++ e ∷ []) n id → IsInstalled entries n id ⊎ Installs e n id
 IsInstalled-more [] e n id h = elim h [ inl here ↦ inr here | inr nowhere ↦ absurd nowhere ]
 IsInstalled-more (first ∷ entries) e n id h = elim h [
-    inl here ↦ inl (inl here)
-  | inr later ↦ elim (IsInstalled-more entries e n id later) [ inl before ↦ inl (inr before) | inr last ↦ inr last ] ]
+  | inl here ↦ inl (inl here)
+  | inr later ↦ elim (IsInstalled-more entries e n id later) [ inl before ↦ inl (inr before) | inr last ↦ inr last ]
+]
 
 -- what was installed stays so
 pub IsInstalled-stays : (entries : List Entry) (e : Entry) (n : ℕ) (id : ImageId) → IsInstalled entries n id → IsInstalled (entries ++ e ∷ []) n id

@@ -1,20 +1,10 @@
 -- An instruction that retires is the step of the program alone, which receives the same value.
-use Rattle.std.proofs.Common.{◌≡◌, ◌≢◌, ◌⊎◌, inl, inr, ℕ, ◌<◌, ◌≤◌, List, [], ◌∷◌, ◌++◌, Option, Some, None, Result, Ok, Err, length, get_or, set, refl, sym, ◌∙◌, ap, subst, arith, Bool, true, false, length-set}
+use Rattle.std.proofs.Common.{◌≡◌, ◌≢◌, inl, inr, ℕ, ◌<◌, List, [], Ok, length, refl, ◌∙◌, ap, arith, false, length-set}
 use Rattle.std.proofs.lemmas.List.{get_or-set_same, get_or-set_other}
 use Rattle.std.proofs.lemmas.Bool.Decides.{eqb_tells}
-use Rattle.std.specs.Int.{bit_at}
-use Rattle.xom_base.specs.Entries.{steps_of}
-use Rattle.xom_base.specs.declared.entry.Entry.{Entry}
-use Rattle.xom_base.specs.declared.entry.Entry.TheVariants as entry
-use Rattle.xom_base.specs.declared.event.OwnFault.{OwnFault}
-use Rattle.xom_base.specs.declared.key.ImageId.{ImageId}
 use Rattle.xom_base.specs.declared.step.Writes.{Writes}
-use Rattle.xom_base.specs.declared.step.Writes.TheVariants as writes
 use Rattle.xom_base.specs.declared.step.Stored.{Stored}
 use Rattle.xom_base.specs.declared.step.Stored.TheVariants as stored
-use Rattle.xom_base.specs.declared.step.Step.{Step}
-use Rattle.image_sealer.specs.declared.owner.Owner.{Owner}
-use Rattle.mips_isa.specs.Words.{IsMoved}
 use Rattle.mips_effect.specs.declared.effects.Effect.{Effect}
 use Rattle.mips_effect.specs.declared.wish.Wish.{Wish}
 use Rattle.mips_effect.specs.declared.wish.Wish.TheVariants as wish
@@ -22,10 +12,9 @@ use Rattle.mips_effect.specs.Effects.{AreCells, IsInRange, Ranged, set as set_re
 use Rattle.mips_plain.specs.declared.given.Given.{Given}
 use Rattle.mips_plain.specs.declared.given.PlainStep.TheVariants.{Did}
 use Rattle.mips_plain.specs.Memory.{stored_in}
-use Rattle.mips_plain.specs.Instruction.{fetched, tried, receives, made, step_made}
-use Rattle.mips_plain.specs.Machine.{State, start, plain, answered, did, stepped, seen, is_exit}
-use Rattle.mips_plain.specs.Follows.{given_of, Reaches}
-use Rattle.mips_plain.proofs.Runs.{Reaches-more}
+use Rattle.mips_plain.specs.Instruction.{fetched, tried, made, step_made}
+use Rattle.mips_plain.specs.Machine.{State, plain, answered, did, stepped, seen}
+use Rattle.mips_plain.specs.Follows.{given_of}
 use Rattle.tag_regs.specs.declared.cell.Cell.{Cell}
 use Rattle.xom_model.specs.State.{memory_at, stored_at}
 use Rattle.xom_model.specs.Guest.{received_by}
@@ -34,8 +23,9 @@ use Rattle.xom_model.proofs.Tied.{IsKnown}
 -- a register that an instruction sets is a cell, or none
 set-AreCells : (reg value : ℕ) → reg < 32 → AreCells (set_register reg value)
 set-AreCells reg value known = elim (eqb_tells reg 0) [
-    inl none ↦ rw none.0 tt
-  | inr some ↦ rw some.0 (let differs : reg ≢ 0 = some.1 in (omega arith, omega arith)) ]
+  | inl none ↦ rw none.0 tt
+  | inr some ↦ rw some.0 (let differs : reg ≢ 0 = some.1 in (omega arith, omega arith))
+]
 
 -- the cells that a step writes are known
 made-AreCells : (pc npc : ℕ) (written : Writes) (wished : Wish) (bytes : List ℕ) (got : ℕ) → AreCells written → IsInRange wished → AreCells (made pc npc written wished bytes got).writes
@@ -71,7 +61,7 @@ step_made-IsKnown pc npc effect bytes got ranged = made-IsKnown pc npc effect.wr
 
 -- given what a step received, the plain machine does it
 answered-made : (p : State) (cells : List Cell) (pc npc next after : ℕ) (written : Writes) (wished : Wish) (bytes : List ℕ)
-  → answered p (given_of (made pc npc written wished bytes (received_by cells wished)).received) (Ok (record { writes = written; wish = wished; pc = next; npc = after }))
+    → answered p (given_of (made pc npc written wished bytes (received_by cells wished)).received) (Ok (record { writes = written; wish = wished; pc = next; npc = after }))
     ≡ did p (record { writes = written; wish = wished; pc = next; npc = after }) (received_by cells wished)
 answered-made p cells pc npc next after written wish.Nothing bytes = refl
 answered-made p cells pc npc next after written (wish.Load reg address how old) bytes = refl
@@ -84,7 +74,7 @@ answered-made p cells pc npc next after written (wish.Do operation) bytes = refl
 answered-made p cells pc npc next after written (wish.Ask reg what) bytes = refl
 
 answered-step : (p : State) (cells : List Cell) (pc npc : ℕ) (effect : Effect) (bytes : List ℕ)
-  → answered p (given_of (step_made pc npc effect bytes (received_by cells effect.wish)).received) (Ok effect) ≡ did p effect (received_by cells effect.wish)
+    → answered p (given_of (step_made pc npc effect bytes (received_by cells effect.wish)).received) (Ok effect) ≡ did p effect (received_by cells effect.wish)
 unfolding step_made
 answered-step p cells pc npc effect bytes = answered-made p cells pc npc effect.pc effect.npc effect.writes effect.wish bytes
 
@@ -95,7 +85,7 @@ plain-answered p given over = rw over refl
 
 -- the step of an effect that comes to a running guest is that of its program
 pub plain-does : (p : State) (cells : List Cell) (effect : Effect) → p.over ≡ false → tried (seen p.cells) (fetched p.bytes p.pc) p.pc p.npc ≡ Ok effect
-  → plain p (given_of (step_made p.pc p.npc effect p.bytes (received_by cells effect.wish)).received)
+    → plain p (given_of (step_made p.pc p.npc effect p.bytes (received_by cells effect.wish)).received)
     ≡ (Did (step_made p.pc p.npc effect p.bytes (received_by cells effect.wish)), stepped p effect (step_made p.pc p.npc effect p.bytes (received_by cells effect.wish)))
 plain-does p cells effect over comes =
     plain-answered p _ over

@@ -1,5 +1,5 @@
 -- While a guest runs, it sees in each cell what its program alone sees there; so an instruction comes to the same.
-use Rattle.std.proofs.Common.{◌≡◌, ◌≢◌, ◌⊎◌, inl, inr, ℕ, ◌<◌, ◌≤◌, List, Option, Some, None, Result, Ok, Err, refl, sym, ◌∙◌, ap, arith, Bool, true, false, cond, eqb}
+use Rattle.std.proofs.Common.{◌≡◌, ◌≢◌, inl, inr, ℕ, ◌<◌, ◌≤◌, List, Option, Some, None, Result, Ok, Err, refl, ◌∙◌, ap, arith, Bool, true, false, cond}
 use Rattle.std.proofs.lemmas.Bool.{eq-eqb}
 use Rattle.std.proofs.lemmas.Bool.Decides.{eqb_tells}
 use Rattle.std.specs.Int.{bit_at}
@@ -8,7 +8,6 @@ use Rattle.mips_isa.specs.declared.instruction.Ins.{Ins}
 use Rattle.mips_isa.specs.Words.{Fits, read}
 use Rattle.mips_isa.proofs.Reading.{read-Fits}
 use Rattle.mips_effect.specs.declared.seen.Seen.{Seen}
-use Rattle.mips_effect.specs.declared.seen.Seen.TheVariants.{Value, Foreign}
 use Rattle.mips_effect.specs.declared.seen.Mode.TheVariants.{Guest}
 use Rattle.mips_effect.specs.declared.effects.Effect.{Effect}
 use Rattle.mips_effect.specs.Effects.{sources_of, effect_of, Ranged}
@@ -57,17 +56,19 @@ sight-of_cell slot cell (Own value) bit is owned tagged =
     let same : Own value ≡ Own cell.value = owned tag in
     rw (eq-eqb cell.tag slot tag) (cc)
 sight-of_cell slot cell Lent bit is owned tagged = elim (eqb_tells cell.tag slot) [
-    inl tag ↦ absurd (let same : Lent ≡ Own cell.value = owned tag.1 in cc)
-  | inr other ↦ rw other.0 refl ]
+  | inl tag ↦ absurd (let same : Lent ≡ Own cell.value = owned tag.1 in cc)
+  | inr other ↦ rw other.0 refl
+]
 
 -- a running guest sees what its program sees
 pub sight-same : (slot : ℕ) (cells : List Cell) (owns : List PlainCell) (mask : ℕ)
-  → ((reg : ℕ) → 1 ≤ reg → reg < 34 → bit_at mask reg ≡ own_bit (plain_cell owns reg))
-  → ((reg : ℕ) → 1 ≤ reg → reg < 34 → (cell_at cells reg).tag ≡ slot → plain_cell owns reg ≡ Own (cell_at cells reg).value)
-  → ((reg : ℕ) → 1 ≤ reg → reg < 34 → bit_at mask reg ≡ 1 → (cell_at cells reg).tag ≡ slot)
-  → (reg : ℕ) → reg < 34 → seen owns reg ≡ seen_by slot cells reg
+    → ((reg : ℕ) → 1 ≤ reg → reg < 34 → bit_at mask reg ≡ own_bit (plain_cell owns reg))
+    → ((reg : ℕ) → 1 ≤ reg → reg < 34 → (cell_at cells reg).tag ≡ slot → plain_cell owns reg ≡ Own (cell_at cells reg).value)
+    → ((reg : ℕ) → 1 ≤ reg → reg < 34 → bit_at mask reg ≡ 1 → (cell_at cells reg).tag ≡ slot)
+    → (reg : ℕ) → reg < 34 → seen owns reg ≡ seen_by slot cells reg
 sight-same slot cells owns mask bits owned tagged reg known = elim (eqb_tells reg 0) [
-    inl none ↦ rw none.0 refl
+  | inl none ↦ rw none.0 refl
   | inr some ↦
       let from : 1 ≤ reg = let differs : reg ≢ 0 = some.1 in omega arith in
-      rw some.0 (sight-of_cell slot (cell_at cells reg) (plain_cell owns reg) (bit_at mask reg) (bits reg from known) (owned reg from known) (tagged reg from known)) ]
+      rw some.0 (sight-of_cell slot (cell_at cells reg) (plain_cell owns reg) (bit_at mask reg) (bits reg from known) (owned reg from known) (tagged reg from known))
+]

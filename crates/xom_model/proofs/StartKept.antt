@@ -1,30 +1,22 @@
 -- What the machine keeps holds at power-on, and after a guest was installed there.
-use Rattle.std.proofs.Common.{◌≡◌, ◌≢◌, ◌⊎◌, inl, inr, ℕ, ◌+◌, ◌<◌, ◌≤◌, List, [], ◌∷◌, ◌++◌, Option, Some, None, length, get_or, set, replicate, refl, sym, ◌∙◌, ap, subst, arith, Bool, true, false, length-set}
-use Rattle.std.proofs.lemmas.List.{get_or-set_same, get_or-set_other, get_or-replicate, length-replicate}
+use Rattle.std.proofs.Common.{◌≡◌, ◌≢◌, ◌⊎◌, inl, inr, ℕ, ◌<◌, ◌≤◌, List, [], Some, length, replicate, refl, sym, ◌∙◌, ap, subst, arith, length-set}
+use Rattle.std.proofs.lemmas.List.{get_or-set_same, get_or-set_other, get_or-replicate}
 use Rattle.std.proofs.lemmas.List.{get_or_past}
 use Rattle.std.proofs.lemmas.Bool.Decides.{eqb_tells}
 use Rattle.std.proofs.Math.Decide.{dec_lt}
 use Rattle.std.specs.Int.{bit_at}
 use Rattle.std.proofs.lemmas.Nat.Bits.{bit_at-zero}
-use Rattle.xom_base.specs.Entries.{steps_of}
-use Rattle.xom_base.specs.Padded.{filled}
-use Rattle.xom_base.specs.declared.entry.Entry.{Entry}
-use Rattle.xom_base.specs.declared.entry.Entry.TheVariants as entry
 use Rattle.xom_base.specs.declared.key.ImageId.{ImageId}
 use Rattle.image_sealer.specs.declared.owner.Owner.{Owner}
 use Rattle.image_sealer.specs.Owners.{owner_of}
-use Rattle.mips_plain.specs.Machine.{State, start, cell_at as plain_cell}
-use Rattle.mips_plain.specs.declared.cell.PlainCell.TheVariants.{Own, Lent}
-use Rattle.mips_plain.specs.Memory.{private_size}
-use Rattle.tag_regs.specs.declared.cell.Cell.{Cell}
+use Rattle.mips_plain.specs.Machine.{start}
+use Rattle.mips_plain.specs.declared.cell.PlainCell.TheVariants.{Lent}
 use Rattle.tag_regs.specs.TaggedCells.{all_empty, cell_at, empty}
-use Rattle.session_table.specs.declared.session.Session.{Session}
-use Rattle.session_table.specs.declared.session.SlotState.TheVariants as state
 use Rattle.session_table.specs.Sessions.{free, fresh, is_live, none_held, session_at}
-use Rattle.xom_model.specs.State.{CoreState, all_blank, core_at_start, session_of, memory_of}
+use Rattle.xom_model.specs.State.{CoreState, all_blank, core_at_start, session_of}
 use Rattle.xom_model.specs.Install.{installed, lines_of}
 use Rattle.xom_model.specs.Laws.{StopsHoldAtStart, StopsHoldInstalled}
-use Rattle.xom_model.specs.Holds.{Agrees, Holds, IsAlone, IsHeld, IsInstalled, IsLive, IsRunning, RunningHolds, SlotsHold, own_bit, was_entered}
+use Rattle.xom_model.specs.Holds.{Agrees, Holds, IsAlone, IsHeld, IsInstalled, IsLive, IsRunning, own_bit, was_entered}
 
 -- a number is below another, or isn't
 less : (a b : ℕ) → (a < b) ⊎ (b ≤ a)
@@ -34,8 +26,9 @@ less a b = elim (dec_lt a b) [ yes low ↦ inl low | no high ↦ inr (omega arit
 free_at : (slot : ℕ) → session_at none_held slot ≡ free
 unfolding none_held
 free_at slot = elim (less slot 17) [
-    inl within ↦ get_or-replicate 17 slot free free within
-  | inr past ↦ get_or_past (replicate 17 free) slot free past ]
+  | inl within ↦ get_or-replicate 17 slot free free within
+  | inr past ↦ get_or_past (replicate 17 free) slot free past
+]
 
 length-none_held : length none_held ≡ 17
 unfolding none_held
@@ -94,7 +87,6 @@ start_stops = record {
 
 -- the guest of an owner is installed at power-on
 module _ (owners : List Owner) (owner : Owner) (whose : owner_of owners owner.id ≡ Some owner) where
-
   abbrev new : CoreState
   new = installed core_at_start owner.id owner.key owner.plain
 
@@ -106,18 +98,21 @@ module _ (owners : List Owner) (owner : Owner) (whose : owner_of owners owner.id
 
   only : (slot : ℕ) → IsLive new slot → slot ≡ 1
   only slot live = elim (eqb_tells slot 1) [
-      inl is ↦ is.1
-    | inr differs ↦ absurd (let its = ap (λ s. is_live s.state) (other_session slot differs.1) in cc) ]
+    | inl is ↦ is.1
+    | inr differs ↦ absurd (let its = ap (λ s. is_live s.state) (other_session slot differs.1) in cc)
+  ]
 
   none_runs : (slot : ℕ) → ¬ IsRunning new slot
   none_runs slot runs = elim (eqb_tells slot 1) [
-      inl is ↦ let its = ap (λ s. s.state) its_session in let one : IsRunning new 1 = subst (λ k. IsRunning new k) is.1 runs in cc
-    | inr differs ↦ let its = ap (λ s. s.state) (other_session slot differs.1) in cc ]
+    | inl is ↦ let its = ap (λ s. s.state) its_session in let one : IsRunning new 1 = subst (λ k. IsRunning new k) is.1 runs in cc
+    | inr differs ↦ let its = ap (λ s. s.state) (other_session slot differs.1) in cc
+  ]
 
   alone_new : (install : ℕ) (id : ImageId) → IsInstalled new.entries install id → IsAlone owners new.entries install id
   alone_new install id is = elim is [
-      inl here ↦ (owner, start owner.plain, record { whose = subst (λ its. owner_of owners its ≡ Some owner) here.1 whose; reaches = refl })
-    | inr nothing ↦ absurd nothing ]
+    | inl here ↦ (owner, start owner.plain, record { whose = subst (λ its. owner_of owners its ≡ Some owner) here.1 whose; reaches = refl })
+    | inr nothing ↦ absurd nothing
+  ]
 
   agrees_new : Agrees new 1 owner (start owner.plain)
   unfolding start
@@ -146,12 +141,14 @@ module _ (owners : List Owner) (owner : Owner) (whose : owner_of owners owner.id
       held = held_new;
       tags = λ reg from to some. absurd (some (ap (λ c. c.tag) (empty_at reg to)));
       ids = λ slot live id is. elim is [
-          inl here ↦ sym here.1 ∙ sym (ap (λ s. s.id) (ap (session_of new) (only slot live) ∙ its_session))
-        | inr nothing ↦ absurd nothing ];
+        | inl here ↦ sym here.1 ∙ sym (ap (λ s. s.id) (ap (session_of new) (only slot live) ∙ its_session))
+        | inr nothing ↦ absurd nothing
+      ];
       apart = λ slot other live live' same. only slot live ∙ sym (only other live');
       numbers = λ slot. elim (eqb_tells slot 1) [
-          inl is ↦ let its = ap (λ s. s.install) (ap (session_of new) is.1 ∙ its_session) in omega arith
-        | inr differs ↦ let its = ap (λ s. s.install) (other_session slot differs.1) in omega arith ];
+        | inl is ↦ let its = ap (λ s. s.install) (ap (session_of new) is.1 ∙ its_session) in omega arith
+        | inr differs ↦ let its = ap (λ s. s.install) (other_session slot differs.1) in omega arith
+      ];
       steps = λ install above. refl;
       installs = λ install id is. elim is [ inl here ↦ omega (arith, here.0) | inr nothing ↦ absurd nothing ];
       null = ap (λ s. is_live s.state) (other_session 0 (omega arith));
@@ -167,8 +164,9 @@ module _ (owners : List Owner) (owner : Owner) (whose : owner_of owners owner.id
 
 only_one : (owner : Owner) (slot : ℕ) → IsLive (installed core_at_start owner.id owner.key owner.plain) slot → slot ≡ 1
 only_one owner slot live = elim (eqb_tells slot 1) [
-    inl is ↦ is.1
-  | inr differs ↦ absurd (let its = ap (λ s. is_live s.state) (get_or-set_other none_held 1 slot (fresh 1 owner.id owner.key owner.plain.entry (lines_of owner.plain)) free differs.1 ∙ free_at slot) in cc) ]
+  | inl is ↦ is.1
+  | inr differs ↦ absurd (let its = ap (λ s. is_live s.state) (get_or-set_other none_held 1 slot (fresh 1 owner.id owner.key owner.plain.entry (lines_of owner.plain)) free differs.1 ∙ free_at slot) in cc)
+]
 
 -- nor after an install
 pub installed_stops : StopsHoldInstalled

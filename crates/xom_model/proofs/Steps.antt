@@ -1,43 +1,35 @@
 -- The step of a running guest, beside its program: the same step, and the same state after it.
-use Rattle.std.proofs.Common.{◌≡◌, ◌≢◌, ◌⊎◌, inl, inr, ℕ, ◌<◌, ◌≤◌, List, [], ◌∷◌, ◌++◌, Option, Some, None, Result, Ok, Err, length, get_or, set, refl, sym, ◌∙◌, ap, subst, arith, Bool, true, false, length-set}
+use Rattle.std.proofs.Common.{◌≡◌, ◌≢◌, inl, inr, ℕ, ◌<◌, ◌≤◌, List, [], ◌∷◌, ◌++◌, Result, Ok, length, set, refl, sym, ◌∙◌, ap, subst, arith, false, length-set}
 use Rattle.std.proofs.lemmas.List.{get_or-set_same, get_or-set_other}
-use Rattle.std.proofs.lemmas.Bool.Decides.{eqb_tells}
 use Rattle.std.specs.Int.{bit_at}
-use Rattle.xom_base.specs.Entries.{steps_of, step_in}
+use Rattle.xom_base.specs.Entries.{steps_of}
 use Rattle.xom_base.specs.declared.entry.Entry.{Entry}
 use Rattle.xom_base.specs.declared.entry.Entry.TheVariants as entry
-use Rattle.xom_base.specs.declared.event.Cause.{Cause}
-use Rattle.xom_base.specs.declared.event.Cause.TheVariants as cause
 use Rattle.xom_base.specs.declared.event.OwnFault.{OwnFault}
 use Rattle.xom_base.specs.declared.key.ImageId.{ImageId}
-use Rattle.xom_base.specs.declared.step.StepEnd.{StepEnd}
-use Rattle.xom_base.specs.declared.step.StepEnd.TheVariants as ended
 use Rattle.xom_base.specs.declared.step.Step.{Step}
 use Rattle.image_sealer.specs.declared.owner.Owner.{Owner}
-use Rattle.image_sealer.specs.Owners.{owner_of}
 use Rattle.mips_isa.specs.declared.instruction.Ins.{Ins}
 use Rattle.mips_isa.specs.Words.{Fits}
 use Rattle.mips_effect.specs.declared.effects.Effect.{Effect}
-use Rattle.mips_effect.specs.Effects.{AreCells, Ranged}
-use Rattle.mips_plain.specs.declared.given.PlainStep.{PlainStep}
+use Rattle.mips_effect.specs.Effects.{Ranged}
 use Rattle.mips_plain.specs.declared.given.PlainStep.TheVariants.{Did}
 use Rattle.mips_plain.specs.Memory.{stored_in}
 use Rattle.mips_plain.specs.Instruction.{fetched, tried, step_made}
 use Rattle.mips_plain.specs.Machine.{State, start, plain, owned, stepped, seen, is_exit}
 use Rattle.mips_plain.specs.Follows.{given_of, Reaches}
 use Rattle.mips_plain.proofs.Runs.{Reaches-more}
-use Rattle.tag_regs.specs.declared.cell.Cell.{Cell}
-use Rattle.tag_regs.specs.TaggedCells.{cell_at, scrubbed}
+use Rattle.tag_regs.specs.TaggedCells.{cell_at}
 use Rattle.session_table.specs.declared.session.Session.{Session}
 use Rattle.session_table.specs.declared.session.SlotState.TheVariants as state
-use Rattle.session_table.specs.Sessions.{free, is_live, paused, left}
+use Rattle.session_table.specs.Sessions.{free, is_live, left}
 use Rattle.xom_model.specs.State.{CoreState, session_of, memory_of}
-use Rattle.xom_model.specs.Guest.{seen_by, received_by, cells_after, mask_after, mask_written, moved, retired, trapped, finished, after_step, ran, guest, tagged}
-use Rattle.xom_model.specs.Holds.{Agrees, FollowsAlone, Holds, Installs, IsAlone, IsHeld, IsInstalled, IsLive, IsRunning, RunningHolds, SlotsHold}
+use Rattle.xom_model.specs.Guest.{seen_by, received_by, cells_after, mask_after, mask_written, moved, retired, finished, tagged}
+use Rattle.xom_model.specs.Holds.{Agrees, FollowsAlone, Holds, Installs, IsAlone, IsHeld, IsInstalled, IsLive, IsRunning}
 use Rattle.xom_model.proofs.Places.{steps_of-other, steps_of-step, step_in-other, IsInstalled-more}
-use Rattle.xom_model.proofs.Frame.{FollowsAlone-same, IsAlone-same, Owes, changed_holds}
+use Rattle.xom_model.proofs.Frame.{Owes, changed_holds}
 use Rattle.xom_model.proofs.SameSight.{fetched-Fits, tried-same, tried-Ranged, sight-same}
-use Rattle.xom_model.proofs.Tied.{Tied, Tied-written, Tied-released, IsKnown, foreign-written, foreign-released, length-written}
+use Rattle.xom_model.proofs.Tied.{Tied, Tied-written, Tied-released, foreign-written, foreign-released, length-written}
 use Rattle.xom_model.proofs.Retired.{step_made-AreCells, step_made-IsKnown, plain-does, memory-stored, memory-other, length-stored}
 use Rattle.xom_model.proofs.Left.{scrubbed-tag, scrubbed-tagged, length-scrubbed, RunningHolds-one}
 
@@ -46,7 +38,6 @@ pub no_install : (entries : List Entry) (e : Entry) (install : ℕ) (id : ImageI
 no_install entries e install id none installed = elim (IsInstalled-more entries e install id installed) [ inl before ↦ before | inr here ↦ absurd (none here) ]
 
 module _ (owners : List Owner) (core : CoreState) (slot : ℕ) (some : 1 ≤ slot) (known : slot ≤ 16) (runs : IsRunning core slot) (holds : Holds owners core) where
-
   live : IsLive core slot
   live = rw runs refl
 
@@ -88,11 +79,10 @@ module _ (owners : List Owner) (core : CoreState) (slot : ℕ) (some : 1 ≤ slo
       ∙ ap (λ pc. tried (seen held.1.cells) (fetched (memory_of core slot) pc) pc held.1.npc) (sym pc_same)
       ∙ ap (λ npc. tried (seen held.1.cells) (fetched (memory_of core slot) (session_of core slot).pc) (session_of core slot).pc npc) (sym npc_same)
       ∙ tried-same (seen held.1.cells) (seen_by slot core.cells) (fetched (memory_of core slot) (session_of core slot).pc) (session_of core slot).pc (session_of core slot).npc fits
-          (sight-same slot core.cells held.1.cells (session_of core slot).mask tied.bits tied.values tied.tags)
+      (sight-same slot core.cells held.1.cells (session_of core slot).mask tied.bits tied.values tied.tags)
 
   -- The step that retires, and the state of the program after it.
   module _ (effect : Effect) (is : comes ≡ Ok effect) where
-
     abbrev pub step : Step
     step = step_made (session_of core slot).pc (session_of core slot).npc effect (memory_of core slot) (received_by core.cells effect.wish)
 
@@ -123,7 +113,7 @@ module _ (owners : List Owner) (core : CoreState) (slot : ℕ) (some : 1 ≤ slo
       whose = held.2.whose;
       reaches = subst (λ steps. Reaches (start held.0.plain) steps next) (sym (steps_of-step (session_of core slot).install core.entries step))
           (subst (λ q. Reaches (start held.0.plain) (steps_of (session_of core slot).install core.entries ++ step ∷ []) q) (ap (λ r. r.1) does)
-            (Reaches-more (start held.0.plain) (steps_of (session_of core slot).install core.entries) held.1 step held.2.reaches (ap (λ r. r.0) does)));
+          (Reaches-more (start held.0.plain) (steps_of (session_of core slot).install core.entries) held.1 step held.2.reaches (ap (λ r. r.0) does)));
     }
 
     -- the registers are those of the program after it
@@ -139,7 +129,7 @@ module _ (owners : List Owner) (core : CoreState) (slot : ℕ) (some : 1 ≤ slo
         let places = length-written slot core.cells step.writes ∙ holds.slots.cell_places in
         let same = foreign-released slot reg written step.released places (step_made-IsKnown _ _ effect _ _ ranged) has other in
         same ∙ foreign-written slot reg core.cells step.writes holds.slots.cell_places (step_made-AreCells _ _ effect _ _ ranged)
-          (λ none. has (ap (λ c. c.tag) same ∙ none)) (λ its. other (ap (λ c. c.tag) same ∙ its))
+        (λ none. has (ap (λ c. c.tag) same ∙ none)) (λ its. other (ap (λ c. c.tag) same ∙ its))
 
     -- each install with the number of this slot's is this slot's guest
     alone_next : (id : ImageId) → IsInstalled core.entries (session_of core slot).install id → IsAlone owners longer (session_of core slot).install id

@@ -1,5 +1,5 @@
 -- After a stop of an install there is no further step or trap of it.
-use Rattle.std.proofs.Common.{◌≡◌, ◌≢◌, ◌⊎◌, inl, inr, ℕ, ◌<◌, ◌≤◌, List, [], ◌∷◌, ◌++◌, Option, Some, None, Result, Ok, Err, length, get_or, set, refl, sym, ◌∙◌, ap, subst, arith, Bool, true, false, cond, not, ◌&&◌, length-set}
+use Rattle.std.proofs.Common.{◌≡◌, ◌≢◌, ◌⊎◌, inl, inr, ℕ, ◌≤◌, List, [], ◌∷◌, ◌++◌, Option, Some, None, Result, Ok, Err, length, get_or, set, refl, sym, ◌∙◌, ap, subst, arith, Bool, true, false, cond, length-set}
 use Rattle.std.specs.Prelude.{nat_le, ◌==◌}
 use Rattle.std.proofs.lemmas.List.{get_or-set_same, get_or-set_other}
 use Rattle.std.proofs.lemmas.Bool.Decides.{eqb_tells, nat_tests}
@@ -7,7 +7,6 @@ use Rattle.xom_base.specs.declared.entry.Entry.{Entry}
 use Rattle.xom_base.specs.declared.entry.Entry.TheVariants as entry
 use Rattle.xom_base.specs.declared.event.Cause.{Cause}
 use Rattle.xom_base.specs.declared.event.Cause.TheVariants as cause
-use Rattle.xom_base.specs.declared.event.Event.{Event}
 use Rattle.xom_base.specs.declared.event.Event.TheVariants as event
 use Rattle.xom_base.specs.declared.event.Op.{Op}
 use Rattle.xom_base.specs.declared.event.Op.TheVariants.{Install, Enter, Resume, Save, Restore, Map, Unmap, SetReg, Kill, Out, Halt}
@@ -25,30 +24,33 @@ use Rattle.session_table.specs.declared.session.SlotState.TheVariants as state
 use Rattle.session_table.specs.Sessions.{entered, free, is_live, left, paused, resumed}
 use Rattle.xom_model.specs.State.{CoreState, Record, memory_of, session_of}
 use Rattle.xom_model.specs.Guest.{after_step, finished, guest, moved, ran, received_by, retired, trapped}
-use Rattle.xom_model.specs.Operation.{enter, go_on, is_cell, is_slot, missing, operation, resume, resume_paused, set_register, stopped}
-use Rattle.xom_model.specs.Event.{fits, guest_turn, on, running}
-use Rattle.xom_model.specs.Holds.{IsLive, IsRunning}
+use Rattle.xom_model.specs.Operation.{enter, go_on, is_cell, is_slot, missing, operation, resume, set_register, stopped}
+use Rattle.xom_model.specs.Event.{guest_turn, on, running}
+use Rattle.xom_model.specs.Holds.{IsLive}
 use Rattle.xom_model.specs.Laws.{EventsKeepStops, MovesIt, StopsAreLast, StopsHold, StopsIt, WasMoved, WasStopped}
 use Rattle.xom_model.proofs.Turns.{ran_on-core, running-runs, running-slot}
 
 WasStopped-more : (entries : List Entry) (e : Entry) (n : ℕ) → WasStopped (entries ++ e ∷ []) n → WasStopped entries n ⊎ StopsIt n e
 WasStopped-more [] e n h = elim h [ inl here ↦ inr here | inr nowhere ↦ absurd nowhere ]
 WasStopped-more (first ∷ entries) e n h = elim h [
-    inl here ↦ inl (inl here)
-  | inr later ↦ elim (WasStopped-more entries e n later) [ inl before ↦ inl (inr before) | inr last ↦ inr last ] ]
+  | inl here ↦ inl (inl here)
+  | inr later ↦ elim (WasStopped-more entries e n later) [ inl before ↦ inl (inr before) | inr last ↦ inr last ]
+]
 
 WasMoved-more : (entries : List Entry) (e : Entry) (n : ℕ) → WasMoved (entries ++ e ∷ []) n → WasMoved entries n ⊎ MovesIt n e
 WasMoved-more [] e n h = elim h [ inl here ↦ inr here | inr nowhere ↦ absurd nowhere ]
 WasMoved-more (first ∷ entries) e n h = elim h [
-    inl here ↦ inl (inl here)
-  | inr later ↦ elim (WasMoved-more entries e n later) [ inl before ↦ inl (inr before) | inr last ↦ inr last ] ]
+  | inl here ↦ inl (inl here)
+  | inr later ↦ elim (WasMoved-more entries e n later) [ inl before ↦ inl (inr before) | inr last ↦ inr last ]
+]
 
 -- an entry that moves no stopped install
 StopsAreLast-more : (entries : List Entry) (e : Entry) → StopsAreLast entries → ((n : ℕ) → MovesIt n e → ¬ WasStopped entries n) → StopsAreLast (entries ++ e ∷ [])
 StopsAreLast-more [] e last free_to = (λ n stops nowhere. nowhere, tt)
-StopsAreLast-more (first ∷ entries) e last free_to =
-    (λ n stops moved. elim (WasMoved-more entries e n moved) [ inl before ↦ last.0 n stops before | inr here ↦ free_to n here (inl stops) ],
-     StopsAreLast-more entries e last.1 (λ n moves was. free_to n moves (inr was)))
+StopsAreLast-more (first ∷ entries) e last free_to = (
+  λ n stops moved. elim (WasMoved-more entries e n moved) [ inl before ↦ last.0 n stops before | inr here ↦ free_to n here (inl stops) ],
+  StopsAreLast-more entries e last.1 (λ n moves was. free_to n moves (inr was)),
+)
 
 -- one slot's session changed, and the journal grew by an entry or not
 record Grows (core new : CoreState) (slot : ℕ) : Type 0 where
@@ -61,16 +63,17 @@ record Grows (core new : CoreState) (slot : ℕ) : Type 0 where
   some : slot ≢ 0
 
 module _ (core new : CoreState) (slot : ℕ) (holds : StopsHold core) (grows : Grows core new slot) where
-
   install_same : (other : ℕ) → (session_of new other).install ≡ (session_of core other).install
   install_same other = elim (eqb_tells other slot) [
-      inl is ↦ subst (λ k. (session_of new k).install ≡ (session_of core k).install) (sym is.1) grows.install
-    | inr differs ↦ ap (λ s. s.install) (grows.sessions other differs.1) ]
+    | inl is ↦ subst (λ k. (session_of new k).install ≡ (session_of core k).install) (sym is.1) grows.install
+    | inr differs ↦ ap (λ s. s.install) (grows.sessions other differs.1)
+  ]
 
   live_before : (other : ℕ) → IsLive new other → IsLive core other
   live_before other live = elim (eqb_tells other slot) [
-      inl is ↦ subst (λ k. IsLive core k) (sym is.1) (grows.was_live (subst (λ k. IsLive new k) is.1 live))
-    | inr differs ↦ sym (ap (λ s. is_live s.state) (grows.sessions other differs.1)) ∙ live ]
+    | inl is ↦ subst (λ k. IsLive core k) (sym is.1) (grows.was_live (subst (λ k. IsLive new k) is.1 live))
+    | inr differs ↦ sym (ap (λ s. is_live s.state) (grows.sessions other differs.1)) ∙ live
+  ]
 
   stops_grow : StopsHold new
   stops_grow = record {
@@ -83,7 +86,6 @@ module _ (core new : CoreState) (slot : ℕ) (holds : StopsHold core) (grows : G
 
 -- a session is set
 module _ (core : CoreState) (slot : ℕ) (some : 1 ≤ slot) (known : slot ≤ 16) (live : IsLive core slot) (holds : StopsHold core) where
-
   here : (s : Session) → session_of (record core { sessions = set core.sessions slot s }) slot ≡ s
   here s = get_or-set_same core.sessions slot s free (let places : length core.sessions ≡ 17 = holds.places in omega arith)
 
@@ -104,15 +106,16 @@ module _ (core : CoreState) (slot : ℕ) (some : 1 ≤ slot) (known : slot ≤ 1
 
   -- with a step or a trap of its install
   moved_stops : (new : CoreState) (s : Session) (e : Entry) → new.sessions ≡ set core.sessions slot s → new.entries ≡ core.entries ++ e ∷ [] → s.install ≡ (session_of core slot).install
-    → ((n : ℕ) → MovesIt n e → n ≡ (session_of core slot).install) → ((n : ℕ) → ¬ StopsIt n e) → StopsHold new
+      → ((n : ℕ) → MovesIt n e → n ≡ (session_of core slot).install) → ((n : ℕ) → ¬ StopsIt n e) → StopsHold new
   moved_stops new s e sessions entries install its no_stop = stops_grow core new slot holds record {
     sessions = λ other differs. ap (λ list. get_or list other free) sessions ∙ get_or-set_other core.sessions slot other s free differs;
     install = ap (λ list. (get_or list slot free).install) sessions ∙ ap (λ t. t.install) (here s) ∙ install;
     was_live = λ _. live;
     last = subst StopsAreLast (sym entries) (StopsAreLast-more core.entries e holds.last (λ n moves was. holds.unstopped slot live (subst (WasStopped core.entries) (its n moves) was)));
     unstopped = λ other lives was. elim (WasStopped-more core.entries e (session_of core other).install (subst (λ list. WasStopped list (session_of core other).install) entries was)) [
-        inl before ↦ before
-      | inr stops ↦ absurd (no_stop (session_of core other).install stops) ];
+      | inl before ↦ before
+      | inr stops ↦ absurd (no_stop (session_of core other).install stops)
+    ];
     places = ap length sessions ∙ length-set core.sessions slot s ∙ holds.places;
     some = not_null;
   }
@@ -139,10 +142,12 @@ module _ (core : CoreState) (slot : ℕ) (some : 1 ≤ slot) (known : slot ≤ 1
         was_live = λ _. live;
         last = StopsAreLast-more core.entries e holds.last (λ n none. absurd none);
         unstopped = λ other lives was. elim (WasStopped-more core.entries e (session_of core other).install was) [
-            inl before ↦ before
+          | inl before ↦ before
           | inr same ↦ absurd (elim (eqb_tells other slot) [
-              inl is ↦ dead (subst (λ k. IsLive new k) is.1 lives)
-            | inr differs ↦ differs.1 (sym (holds.apart slot other live (sym (ap (λ t. is_live t.state) (get_or-set_other core.sessions slot other s free differs.1)) ∙ lives) same)) ]) ];
+            | inl is ↦ dead (subst (λ k. IsLive new k) is.1 lives)
+            | inr differs ↦ differs.1 (sym (holds.apart slot other live (sym (ap (λ t. is_live t.state) (get_or-set_other core.sessions slot other s free differs.1)) ∙ lives) same))
+          ])
+        ];
         places = length-set core.sessions slot s ∙ holds.places;
         some = not_null;
       }
@@ -165,7 +170,6 @@ unfolding guest
 guest_stops core slot interrupt some known live holds = ran_stops core slot interrupt _ some known live holds
 
 module _ (core : CoreState) (holds : StopsHold core) where
-
   either_stops : (b : Bool) (one other : CoreState × ℕ) → (b ≡ true → StopsHold one.0) → StopsHold other.0 → StopsHold (cond b one other).0
   either_stops true one other first second = first refl
   either_stops false one other first second = second
@@ -188,8 +192,8 @@ module _ (core : CoreState) (holds : StopsHold core) where
   resume_stops slot signal some known state.Running is = holds
   resume_stops slot signal some known state.Paused is =
       either_stops (nat_le signal 63) (cond (signal == 0) (go_on core slot (missing slot (session_of core slot).mask core.cells)) (core, 2)) (core, 7)
-        (λ _. either_stops (signal == 0) (go_on core slot (missing slot (session_of core slot).mask core.cells)) (core, 2) (λ _. go_on_stops slot some known is _) holds)
-        holds
+      (λ _. either_stops (signal == 0) (go_on core slot (missing slot (session_of core slot).mask core.cells)) (core, 2) (λ _. go_on_stops slot some known is _) holds)
+      holds
   resume_stops slot signal some known state.Ended is = holds
   resume_stops slot signal some known (state.Stopped why) is = holds
 
@@ -218,7 +222,7 @@ guest_turn_stops r interrupt None is holds = holds
 guest_turn_stops r interrupt (Some slot) is holds =
     let known = running-slot r.core slot is holds.places holds.null in
     subst StopsHold (sym (ran_on-core r slot (guest r.core slot interrupt).0 (guest r.core slot interrupt).1))
-      (guest_stops r.core slot interrupt known.0 known.1 (ap is_live (running-runs r.core slot is)) holds)
+    (guest_stops r.core slot interrupt known.0 known.1 (ap is_live (running-runs r.core slot is)) holds)
 
 pub events_keep_stops : EventsKeepStops
 unfolding on

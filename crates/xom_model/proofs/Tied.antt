@@ -1,11 +1,10 @@
 -- The registers of a running guest beside those of its program: its mask is what the program owns, and just the cells of the mask have its slot's tag, with the program's values. A step changes both alike.
-use Rattle.std.proofs.Common.{◌≡◌, ◌≢◌, ◌⊎◌, inl, inr, ℕ, ◌+◌, ◌-◌, ◌*◌, ◌^◌, ◌<◌, ◌≤◌, min, max, List, length, get_or, set, refl, sym, ◌∙◌, ap, subst, arith, Bool, true, false, length-set}
+use Rattle.std.proofs.Common.{◌≡◌, ◌≢◌, ◌⊎◌, inl, inr, ℕ, ◌^◌, ◌<◌, ◌≤◌, List, length, set, refl, sym, ◌∙◌, ap, arith, length-set}
 use Rattle.std.proofs.lemmas.List.{get_or-set_same, get_or-set_other}
 use Rattle.std.proofs.lemmas.Bool.Decides.{eqb_tells}
 use Rattle.std.proofs.lemmas.Nat.{pow_below}
 use Rattle.std.proofs.lemmas.Nat.Bits.{bit_at_or, bit_at_and, bit_at_not, bit_at-pow_same, bit_at-pow_other, bit_at-lt}
 use Rattle.std.specs.Int.{bit_at, bit_not, w64}
-use Rattle.std.specs.Int.RustNames.{bit_or, bit_and}
 use Rattle.xom_base.specs.declared.step.Writes.{Writes}
 use Rattle.xom_base.specs.declared.step.Writes.TheVariants as writes
 use Rattle.xom_base.specs.declared.step.Released.{Released}
@@ -50,7 +49,6 @@ pub record Tied (slot : ℕ) (cells : List Cell) (owns : List PlainCell) (mask :
   pub own_places : length owns ≡ 34
 
 module _ (slot : ℕ) (cells : List Cell) (owns : List PlainCell) (mask reg value : ℕ) (known : reg < 34) (tied : Tied slot cells owns mask) where
-
   new_cell : (tag : ℕ) → cell_at (set cells reg (record { value = value; tag = tag })) reg ≡ record { value = value; tag = tag }
   new_cell tag = get_or-set_same cells reg _ empty (let whole : length cells ≡ 34 = tied.cell_places in omega arith)
 
@@ -61,18 +59,21 @@ module _ (slot : ℕ) (cells : List Cell) (owns : List PlainCell) (mask reg valu
   Tied-owned : Tied slot (set cells reg (record { value = value; tag = slot })) (set owns reg (Own value)) (with_cell mask reg)
   Tied-owned = record {
     bits = λ r from to. elim (eqb_tells r reg) [
-        inl is ↦ rw is.1 (with_cell-same mask reg ∙ sym (ap own_bit (new_own (Own value))))
-      | inr other ↦ with_cell-other mask reg r other.1 ∙ tied.bits r from to ∙ sym (ap own_bit (get_or-set_other owns reg r (Own value) Lent other.1)) ];
+      | inl is ↦ rw is.1 (with_cell-same mask reg ∙ sym (ap own_bit (new_own (Own value))))
+      | inr other ↦ with_cell-other mask reg r other.1 ∙ tied.bits r from to ∙ sym (ap own_bit (get_or-set_other owns reg r (Own value) Lent other.1))
+    ];
     values = λ r from to tag. elim (eqb_tells r reg) [
-        inl is ↦ rw is.1 (new_own (Own value) ∙ ap (λ c. Own c.value) (sym (new_cell slot)))
+      | inl is ↦ rw is.1 (new_own (Own value) ∙ ap (λ c. Own c.value) (sym (new_cell slot)))
       | inr other ↦
           let same = get_or-set_other cells reg r (record { value = value; tag = slot }) empty other.1 in
-          get_or-set_other owns reg r (Own value) Lent other.1 ∙ tied.values r from to (ap (λ c. c.tag) (sym same) ∙ tag) ∙ ap (λ c. Own c.value) (sym same) ];
+          get_or-set_other owns reg r (Own value) Lent other.1 ∙ tied.values r from to (ap (λ c. c.tag) (sym same) ∙ tag) ∙ ap (λ c. Own c.value) (sym same)
+    ];
     tags = λ r from to bit. elim (eqb_tells r reg) [
-        inl is ↦ rw is.1 (ap (λ c. c.tag) (new_cell slot))
+      | inl is ↦ rw is.1 (ap (λ c. c.tag) (new_cell slot))
       | inr other ↦
           ap (λ c. c.tag) (get_or-set_other cells reg r (record { value = value; tag = slot }) empty other.1)
-          ∙ tied.tags r from to (sym (with_cell-other mask reg r other.1) ∙ bit) ];
+          ∙ tied.tags r from to (sym (with_cell-other mask reg r other.1) ∙ bit)
+    ];
     cell_places = length-set cells reg _ ∙ tied.cell_places;
     own_places = length-set owns reg _ ∙ tied.own_places;
   }
@@ -81,18 +82,21 @@ module _ (slot : ℕ) (cells : List Cell) (owns : List PlainCell) (mask reg valu
   Tied-lent : slot ≢ 0 → Tied slot (set cells reg (record { value = value; tag = 0 })) (set owns reg Lent) (without_cell mask reg)
   Tied-lent some = record {
     bits = λ r from to. elim (eqb_tells r reg) [
-        inl is ↦ rw is.1 (without_cell-same mask reg (omega arith) ∙ sym (ap own_bit (new_own Lent)))
-      | inr other ↦ without_cell-other mask reg r (omega arith) (omega arith) other.1 ∙ tied.bits r from to ∙ sym (ap own_bit (get_or-set_other owns reg r Lent Lent other.1)) ];
+      | inl is ↦ rw is.1 (without_cell-same mask reg (omega arith) ∙ sym (ap own_bit (new_own Lent)))
+      | inr other ↦ without_cell-other mask reg r (omega arith) (omega arith) other.1 ∙ tied.bits r from to ∙ sym (ap own_bit (get_or-set_other owns reg r Lent Lent other.1))
+    ];
     values = λ r from to tag. elim (eqb_tells r reg) [
-        inl is ↦ absurd (some (sym (rw is.1 at tag) ∙ ap (λ c. c.tag) (new_cell 0)))
+      | inl is ↦ absurd (some (sym (rw is.1 at tag) ∙ ap (λ c. c.tag) (new_cell 0)))
       | inr other ↦
           let same = get_or-set_other cells reg r (record { value = value; tag = 0 }) empty other.1 in
-          get_or-set_other owns reg r Lent Lent other.1 ∙ tied.values r from to (ap (λ c. c.tag) (sym same) ∙ tag) ∙ ap (λ c. Own c.value) (sym same) ];
+          get_or-set_other owns reg r Lent Lent other.1 ∙ tied.values r from to (ap (λ c. c.tag) (sym same) ∙ tag) ∙ ap (λ c. Own c.value) (sym same)
+    ];
     tags = λ r from to bit. elim (eqb_tells r reg) [
-        inl is ↦ absurd (let none : bit_at (without_cell mask reg) reg ≡ 0 = without_cell-same mask reg (omega arith) in let one : bit_at (without_cell mask reg) reg ≡ 1 = rw is.1 at bit in omega arith)
+      | inl is ↦ absurd (let none : bit_at (without_cell mask reg) reg ≡ 0 = without_cell-same mask reg (omega arith) in let one : bit_at (without_cell mask reg) reg ≡ 1 = rw is.1 at bit in omega arith)
       | inr other ↦
           ap (λ c. c.tag) (get_or-set_other cells reg r (record { value = value; tag = 0 }) empty other.1)
-          ∙ tied.tags r from to (sym (without_cell-other mask reg r (omega arith) (omega arith) other.1) ∙ bit) ];
+          ∙ tied.tags r from to (sym (without_cell-other mask reg r (omega arith) (omega arith) other.1) ∙ bit)
+    ];
     cell_places = length-set cells reg _ ∙ tied.cell_places;
     own_places = length-set owns reg _ ∙ tied.own_places;
   }
@@ -118,16 +122,17 @@ Tied-released slot cells owns mask (released.Null address value) known some tied
 
 -- a cell with another slot's tag is as it was before a step
 foreign-set : (slot tag reg r value : ℕ) (cells : List Cell) → length cells ≡ 34 → reg < 34 → (tag ≡ 0) ⊎ (tag ≡ slot)
-  → (cell_at (set cells reg (record { value = value; tag = tag })) r).tag ≢ 0 → (cell_at (set cells reg (record { value = value; tag = tag })) r).tag ≢ slot
-  → cell_at (set cells reg (record { value = value; tag = tag })) r ≡ cell_at cells r
+    → (cell_at (set cells reg (record { value = value; tag = tag })) r).tag ≢ 0 → (cell_at (set cells reg (record { value = value; tag = tag })) r).tag ≢ slot
+    → cell_at (set cells reg (record { value = value; tag = tag })) r ≡ cell_at cells r
 foreign-set slot tag reg r value cells whole known own some other = elim (eqb_tells r reg) [
-    inl is ↦
+  | inl is ↦
       let here : (cell_at (set cells reg (record { value = value; tag = tag })) r).tag ≡ tag = rw is.1 (ap (λ c. c.tag) (get_or-set_same cells reg _ empty (omega arith))) in
       absurd (elim own [ inl none ↦ some (here ∙ none) | inr its ↦ other (here ∙ its) ])
-  | inr differs ↦ get_or-set_other cells reg r _ empty differs.1 ]
+  | inr differs ↦ get_or-set_other cells reg r _ empty differs.1
+]
 
 pub foreign-written : (slot r : ℕ) (cells : List Cell) (written : Writes) → length cells ≡ 34 → AreCells written
-  → (cell_at (tagged slot cells written) r).tag ≢ 0 → (cell_at (tagged slot cells written) r).tag ≢ slot → cell_at (tagged slot cells written) r ≡ cell_at cells r
+    → (cell_at (tagged slot cells written) r).tag ≢ 0 → (cell_at (tagged slot cells written) r).tag ≢ slot → cell_at (tagged slot cells written) r ≡ cell_at cells r
 foreign-written slot r cells writes.Nothing whole known some other = refl
 foreign-written slot r cells (writes.One reg value) whole known some other = foreign-set slot slot reg r value cells whole known.1 (inr refl) some other
 foreign-written slot r cells (writes.Pair hi lo) whole known some other =
@@ -141,7 +146,7 @@ length-written slot cells (writes.One reg value) = length-set cells reg _
 length-written slot cells (writes.Pair hi lo) = length-set _ 33 _ ∙ length-set cells 32 _
 
 pub foreign-released : (slot r : ℕ) (cells : List Cell) (given : Released) → length cells ≡ 34 → IsKnown given
-  → (cell_at (untagged cells given) r).tag ≢ 0 → (cell_at (untagged cells given) r).tag ≢ slot → cell_at (untagged cells given) r ≡ cell_at cells r
+    → (cell_at (untagged cells given) r).tag ≢ 0 → (cell_at (untagged cells given) r).tag ≢ slot → cell_at (untagged cells given) r ≡ cell_at cells r
 foreign-released slot r cells released.Nothing whole known some other = refl
 foreign-released slot r cells (released.Cell reg value) whole known some other = foreign-set slot 0 reg r value cells whole known.1 (inl refl) some other
 foreign-released slot r cells (released.Null address value) whole known some other = refl

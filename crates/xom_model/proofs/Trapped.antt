@@ -1,27 +1,24 @@
 -- A trap of a running guest keeps what the machine keeps.
-use Rattle.std.proofs.Common.{◌≡◌, ◌≢◌, ℕ, ◌<◌, ◌≤◌, List, [], ◌∷◌, ◌++◌, length, get_or, set, refl, sym, ◌∙◌, ap, subst, arith, Bool, true, false, None, length-set}
+use Rattle.std.proofs.Common.{◌≡◌, ℕ, ◌≤◌, List, length, refl, sym, ◌∙◌, ap, subst, arith, length-set}
 use Rattle.std.proofs.lemmas.List.{get_or-set_same, get_or-set_other}
 use Rattle.std.specs.Int.{bit_at}
-use Rattle.xom_base.specs.Entries.{steps_of, step_in}
+use Rattle.xom_base.specs.Entries.{steps_of}
 use Rattle.xom_base.specs.declared.entry.Entry.{Entry}
 use Rattle.xom_base.specs.declared.entry.Entry.TheVariants as entry
 use Rattle.xom_base.specs.declared.event.Cause.{Cause}
-use Rattle.xom_base.specs.declared.key.ImageId.{ImageId}
 use Rattle.image_sealer.specs.declared.owner.Owner.{Owner}
-use Rattle.tag_regs.specs.TaggedCells.{cell_at}
 use Rattle.session_table.specs.declared.session.Session.{Session}
 use Rattle.session_table.specs.declared.session.SlotState.TheVariants as state
-use Rattle.session_table.specs.Sessions.{free, is_live, paused}
+use Rattle.session_table.specs.Sessions.{free, paused}
 use Rattle.xom_model.specs.State.{CoreState, session_of}
 use Rattle.xom_model.specs.Guest.{trapped}
-use Rattle.xom_model.specs.Holds.{Agrees, FollowsAlone, Holds, IsHeld, IsInstalled, IsLive, IsRunning}
+use Rattle.xom_model.specs.Holds.{Agrees, FollowsAlone, Holds, IsHeld, IsLive, IsRunning}
 use Rattle.xom_model.proofs.Places.{steps_of-other}
 use Rattle.xom_model.proofs.Frame.{FollowsAlone-same, IsAlone-same, Owes, changed_holds}
 use Rattle.xom_model.proofs.Left.{RunningHolds-one}
 use Rattle.xom_model.proofs.Steps.{no_install}
 
 module _ (owners : List Owner) (core : CoreState) (slot : ℕ) (known : slot ≤ 16) (runs : IsRunning core slot) (holds : Holds owners core) (why : Cause) where
-
   abbrev pub out : CoreState
   out = (trapped core slot why).0
 
@@ -71,10 +68,13 @@ module _ (owners : List Owner) (core : CoreState) (slot : ℕ) (known : slot ≤
     id = ap (λ s. s.id) session_out;
     tags = λ reg from to tag. rw state_out refl;
     alone = λ id installed. IsAlone-same owners core.entries out.entries (session_of core slot).install id (steps_out (session_of core slot).install) (holds.slots.alone (session_of core slot).install id installed);
-    held = λ _. (held.0, held.1,
-        subst (λ (s : Session). FollowsAlone owners out.entries s.install s.id held.0 held.1) (sym session_out)
+    held = λ _. (
+      held.0,
+      held.1,
+      subst (λ (s : Session). FollowsAlone owners out.entries s.install s.id held.0 held.1) (sym session_out)
           (FollowsAlone-same owners core.entries out.entries (session_of core slot).install (session_of core slot).id held.0 held.1 (steps_out (session_of core slot).install) held.2),
-        agrees_out);
+      agrees_out,
+    );
     cell_places = holds.slots.cell_places;
     session_places = length-set core.sessions slot _ ∙ holds.slots.session_places;
     memory_places = holds.slots.memory_places;

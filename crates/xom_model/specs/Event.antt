@@ -4,7 +4,7 @@ use Rattle.xom_base.specs.declared.event.Cause.{Cause}
 use Rattle.xom_base.specs.declared.event.Event.{Event}
 use Rattle.xom_base.specs.declared.event.Event.TheVariants as event
 use Rattle.xom_base.specs.declared.event.Op.{Op}
-use Rattle.xom_base.specs.declared.event.Op.TheVariants.{Install, Enter, Resume, Save, Restore, Map, Unmap, SetReg, Kill, Out, Halt}
+use Rattle.xom_base.specs.declared.event.Op.TheVariants.{Halt}
 use Rattle.xom_base.specs.declared.event.Outcome.{Outcome}
 use Rattle.xom_base.specs.declared.event.Outcome.TheVariants as outcome
 use Rattle.session_table.specs.Sessions.{running_in}

@@ -1,6 +1,5 @@
 -- One event of the running guest: an instruction that retires, or a fault before it, and the trap or the end that may follow.
-use Rattle.std.specs.Prelude.{ℕ, ◌==◌, Bool, true, false, List, Option, Some, None, Result, Ok, Err, slice_set, if◌then◌else◌}
-use Rattle.xom_base.specs.declared.entry.Entry.{Entry}
+use Rattle.std.specs.Prelude.{ℕ, ◌==◌, Bool, List, Option, Some, None, Result, Ok, Err, slice_set, if◌then◌else◌}
 use Rattle.xom_base.specs.declared.entry.Entry.TheVariants as entry
 use Rattle.xom_base.specs.declared.event.Cause.{Cause}
 use Rattle.xom_base.specs.declared.event.Cause.TheVariants as cause
@@ -78,18 +77,18 @@ moved s effect step = record s { pc = effect.pc; npc = effect.npc; mask = mask_a
 -- the core after the instruction retired with this step
 abbrev pub retired : CoreState → ℕ → Effect → Step → CoreState
 retired core slot effect step =
-  noted (with_stored (with_session (with_cells core (cells_after slot core.cells step)) slot (moved (session_of core slot) effect step)) slot step.stored)
+    noted (with_stored (with_session (with_cells core (cells_after slot core.cells step)) slot (moved (session_of core slot) effect step)) slot step.stored)
     (entry.Step (session_of core slot).install step)
 
 -- the guest leaves to come back: the pair is kept, and the epoch is raised
 abbrev pub trapped : CoreState → ℕ → Cause → CoreState × Option Cause
 trapped core slot why =
-  (noted (with_session core slot (paused (session_of core slot))) (entry.Trap (session_of core slot).install why), Some why)
+    (noted (with_session core slot (paused (session_of core slot))) (entry.Trap (session_of core slot).install why), Some why)
 
 -- the guest leaves for good
 abbrev pub finished : CoreState → ℕ → CoreState × Option Cause
 finished core slot =
-  (with_session (with_cells core (scrubbed slot core.cells)) slot (left (session_of core slot) state.Ended), Some cause.Exit)
+    (with_session (with_cells core (scrubbed slot core.cells)) slot (left (session_of core slot) state.Ended), Some cause.Exit)
 
 -- what follows a step: its own end comes before the interrupt line
 abbrev pub after_step : CoreState → ℕ → Bool → StepEnd → CoreState × Option Cause
@@ -101,11 +100,11 @@ after_step core slot interrupt ended.Goes = if interrupt then trapped core slot 
 abbrev pub ran : CoreState → ℕ → Bool → Result Effect OwnFault → CoreState × Option Cause
 ran core slot interrupt (Err fault) = trapped core slot (cause.Fault fault)
 ran core slot interrupt (Ok effect) =
-  let step = step_made (session_of core slot).pc (session_of core slot).npc effect (memory_of core slot) (received_by core.cells effect.wish) in
-  after_step (retired core slot effect step) slot interrupt step.end
+    let step = step_made (session_of core slot).pc (session_of core slot).npc effect (memory_of core slot) (received_by core.cells effect.wish) in
+    after_step (retired core slot effect step) slot interrupt step.end
 
 -- an event of the guest in a slot, with the interrupt line after it; the cause where the guest leaves
 unfoldable pub guest : CoreState → ℕ → Bool → CoreState × Option Cause
 guest core slot interrupt =
-  ran core slot interrupt
+    ran core slot interrupt
     (tried (seen_by slot core.cells) (fetched (memory_of core slot) (session_of core slot).pc) (session_of core slot).pc (session_of core slot).npc)

@@ -1,5 +1,5 @@
 -- What the machine keeps at every moment between events, for every list of owners with distinct ids: each installed guest's recorded steps are its program's run alone, and what the processor holds of a live guest is the state of that run.
-use Rattle.std.specs.Prelude.{◌≡◌, ◌≢◌, ℕ, ◌<◌, ◌≤◌, ◌+◌, Bool, true, false, List, [], ◌∷◌, ◌⊎◌, Option, Some, None, length}
+use Rattle.std.specs.Prelude.{◌≡◌, ◌≢◌, ℕ, ◌<◌, ◌≤◌, Bool, true, false, List, [], ◌∷◌, ◌⊎◌, Some, length}
 use Rattle.std.specs.Int.{bit_at}
 use Rattle.xom_base.specs.Entries.{steps_of}
 use Rattle.xom_base.specs.declared.entry.Entry.{Entry}
@@ -12,10 +12,9 @@ use Rattle.mips_plain.specs.declared.cell.PlainCell.TheVariants.{Own, Lent}
 use Rattle.mips_plain.specs.Machine.{State, start, cell_at as plain_cell}
 use Rattle.mips_plain.specs.Follows.{Reaches}
 use Rattle.tag_regs.specs.TaggedCells.{cell_at}
-use Rattle.session_table.specs.declared.session.Session.{Session}
 use Rattle.session_table.specs.declared.session.SlotState.{SlotState}
 use Rattle.session_table.specs.declared.session.SlotState.TheVariants as state
-use Rattle.session_table.specs.Sessions.{is_live, is_running}
+use Rattle.session_table.specs.Sessions.{is_live}
 use Rattle.xom_model.specs.State.{CoreState, session_of, memory_of}
 use Rattle.xom_model.specs.Install.{lines_of}
 
@@ -60,9 +59,9 @@ pub record Agrees (core : CoreState) (slot : ℕ) (owner : Owner) (p : State) : 
 -- a live slot's guest agrees with its program after its recorded steps
 abbrev pub IsHeld : List Owner → CoreState → ℕ → Type 0
 IsHeld owners core slot =
-  (owner : Owner) × (p : State)
-  × FollowsAlone owners core.entries (session_of core slot).install (session_of core slot).id owner p
-  × Agrees core slot owner p
+    (owner : Owner) × (p : State)
+    × FollowsAlone owners core.entries (session_of core slot).install (session_of core slot).id owner p
+    × Agrees core slot owner p
 
 -- the entry installs a guest under this number and id
 abbrev pub Installs : Entry → ℕ → ImageId → Type 0

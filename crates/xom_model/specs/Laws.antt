@@ -1,10 +1,9 @@
 -- What may be said of the machine's events in its own words.
-use Rattle.std.specs.Prelude.{◌≡◌, ◌≢◌, ◌⊎◌, ℕ, ◌≤◌, ◌<◌, Bool, true, false, List, [], ◌∷◌, ◌++◌, Option, Some, None, length}
+use Rattle.std.specs.Prelude.{◌≡◌, ◌⊎◌, ℕ, ◌≤◌, Bool, true, false, List, [], ◌∷◌, ◌++◌, Some, length}
 use Rattle.xom_base.specs.declared.entry.Entry.{Entry}
 use Rattle.xom_base.specs.declared.entry.Entry.TheVariants as entry
 use Rattle.xom_base.specs.declared.event.Cause.TheVariants as cause
 use Rattle.xom_base.specs.declared.event.Event.{Event}
-use Rattle.xom_base.specs.declared.event.Event.TheVariants as event
 use Rattle.xom_base.specs.declared.event.Op.{Op}
 use Rattle.xom_base.specs.declared.event.OwnFault.{OwnFault}
 use Rattle.image_sealer.specs.declared.owner.Owner.{Owner}
@@ -12,8 +11,6 @@ use Rattle.image_sealer.specs.Owners.{owner_of}
 use Rattle.mips_plain.specs.Machine.{State, plain}
 use Rattle.mips_plain.specs.declared.given.Given.TheVariants as given
 use Rattle.mips_plain.specs.declared.given.PlainStep.TheVariants as plain_step
-use Rattle.tag_regs.specs.TaggedCells.{cell_at}
-use Rattle.session_table.specs.declared.session.SlotState.TheVariants as state
 use Rattle.session_table.specs.Sessions.{is_live}
 use Rattle.xom_model.specs.State.{CoreState, Record, core_at_start, session_of}
 use Rattle.xom_model.specs.Guest.{guest}
@@ -37,15 +34,15 @@ EventsKeep = (owners : List Owner) (r : Record) (e : Event) → fits r e ≡ tru
 -- the program of the guest in a slot, after its recorded steps, gives this fault, and stays as it is
 abbrev pub FaultsAlone : List Owner → CoreState → ℕ → OwnFault → Type 0
 FaultsAlone owners core slot fault =
-  (owner : Owner) × (p : State)
-  × FollowsAlone owners core.entries (session_of core slot).install (session_of core slot).id owner p
-  × (plain p given.Nothing ≡ (plain_step.Fault fault, p))
+    (owner : Owner) × (p : State)
+    × FollowsAlone owners core.entries (session_of core slot).install (session_of core slot).id owner p
+    × (plain p given.Nothing ≡ (plain_step.Fault fault, p))
 
 -- a guest leaves with an own fault only where its program gives that fault
 abbrev pub FaultsAreOwn : Type 0
 FaultsAreOwn = (owners : List Owner) (core : CoreState) (slot : ℕ) (interrupt : Bool) (fault : OwnFault)
-  → 1 ≤ slot → slot ≤ 16 → IsRunning core slot → Holds owners core
-  → (guest core slot interrupt).1 ≡ Some (cause.Fault fault) → FaultsAlone owners core slot fault
+    → 1 ≤ slot → slot ≤ 16 → IsRunning core slot → Holds owners core
+    → (guest core slot interrupt).1 ≡ Some (cause.Fault fault) → FaultsAlone owners core slot fault
 
 -- a trap without retirement: no cell and no private byte changes, and no step is recorded
 pub record ChangesNothing (core new : CoreState) (slot : ℕ) (fault : OwnFault) : Type 0 where
@@ -55,12 +52,12 @@ pub record ChangesNothing (core new : CoreState) (slot : ℕ) (fault : OwnFault)
 
 abbrev pub FaultsChangeNothing : Type 0
 FaultsChangeNothing = (core : CoreState) (slot : ℕ) (interrupt : Bool) (fault : OwnFault)
-  → (guest core slot interrupt).1 ≡ Some (cause.Fault fault) → ChangesNothing core (guest core slot interrupt).0 slot fault
+    → (guest core slot interrupt).1 ≡ Some (cause.Fault fault) → ChangesNothing core (guest core slot interrupt).0 slot fault
 
 -- an operation is done with 0 or stops its guest with 8; with any other status it is refused and changes nothing
 abbrev pub RefusalsChangeNothing : Type 0
 RefusalsChangeNothing = (core : CoreState) (op : Op)
-  → ((operation core op).1 ≡ 0) ⊎ ((operation core op).1 ≡ 8) ⊎ ((operation core op).0 ≡ core)
+    → ((operation core op).1 ≡ 0) ⊎ ((operation core op).1 ≡ 8) ⊎ ((operation core op).0 ≡ core)
 
 -- the entry stops this install
 abbrev pub StopsIt : ℕ → Entry → Type 0

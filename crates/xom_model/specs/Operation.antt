@@ -1,7 +1,6 @@
 -- The privileged operations: what each does, or the status with which it is refused.
-use Rattle.std.specs.Prelude.{ℕ, zero, suc, ◌+◌, ◌-◌, ◌==◌, ◌&&◌, not, nat_le, Bool, true, false, List, Option, Some, None, slice_set, if◌then◌else◌}
+use Rattle.std.specs.Prelude.{ℕ, zero, suc, ◌+◌, ◌==◌, ◌&&◌, not, nat_le, Bool, List, Option, Some, None, slice_set, if◌then◌else◌}
 use Rattle.std.specs.Int.{bit_at}
-use Rattle.xom_base.specs.declared.entry.Entry.{Entry}
 use Rattle.xom_base.specs.declared.entry.Entry.TheVariants as entry
 use Rattle.xom_base.specs.declared.event.Op.{Op}
 use Rattle.xom_base.specs.declared.event.Op.TheVariants.{Install, Enter, Resume, Save, Restore, Map, Unmap, SetReg, Kill, Out, Halt}
@@ -46,7 +45,7 @@ is_missing slot mask cells reg = (bit_at mask reg == 1) && not ((cell_at cells r
 abbrev pub missing_from : ℕ → ℕ → List Cell → ℕ → ℕ → Option ℕ
 missing_from slot mask cells zero reg = None
 missing_from slot mask cells (suc count) reg =
-  if is_missing slot mask cells reg then Some reg else missing_from slot mask cells count (reg + 1)
+    if is_missing slot mask cells reg then Some reg else missing_from slot mask cells count (reg + 1)
 
 -- the least cell that is missing
 unfoldable pub missing : ℕ → ℕ → List Cell → Option ℕ
@@ -55,7 +54,7 @@ missing slot mask cells = missing_from slot mask cells 33 1
 -- the guest is stopped for good by a rule
 abbrev pub stopped : CoreState → ℕ → Rule → CoreState
 stopped core slot why =
-  noted (with_session (with_cells core (scrubbed slot core.cells)) slot (left (session_of core slot) (state.Stopped why)))
+    noted (with_session (with_cells core (scrubbed slot core.cells)) slot (left (session_of core slot) (state.Stopped why)))
     (entry.Stop (session_of core slot).install why)
 
 -- a guest goes on only where each cell that it owns has its tag; else it is stopped for good
@@ -66,9 +65,9 @@ go_on core slot (Some reg) = (stopped core slot (rule.RegisterMissing reg), 8)
 -- Resume of a paused guest: a signal above 63 is no signal, and no guest is ready for one yet
 abbrev pub resume_paused : CoreState → ℕ → ℕ → CoreState × ℕ
 resume_paused core slot signal =
-  if nat_le signal 63
-  then (if signal == 0 then go_on core slot (missing slot (session_of core slot).mask core.cells) else refused core 2)
-  else refused core 7
+    if nat_le signal 63
+    then (if signal == 0 then go_on core slot (missing slot (session_of core slot).mask core.cells) else refused core 2)
+    else refused core 7
 
 abbrev pub resume : CoreState → ℕ → ℕ → SlotState → CoreState × ℕ
 resume core slot signal state.Free = refused core 1
@@ -81,7 +80,7 @@ resume core slot signal (state.Stopped rule) = refused core 2
 -- SetReg: the cell is of the null compartment, whatever it was
 abbrev pub set_register : CoreState → ℕ → ℕ → CoreState × ℕ
 set_register core reg value =
-  if is_cell reg then done (with_cells core (slice_set core.cells reg (record { value = value; tag = 0 }))) else refused core 7
+    if is_cell reg then done (with_cells core (slice_set core.cells reg (record { value = value; tag = 0 }))) else refused core 7
 
 -- an operation, with its status. Those that aren't built yet are refused with 7
 unfoldable pub operation : CoreState → Op → CoreState × ℕ

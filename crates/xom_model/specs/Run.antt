@@ -1,5 +1,5 @@
 -- A run of the machine under a kernel and a schedule of interrupts.
-use Rattle.std.specs.Prelude.{ℕ, zero, suc, ◌+◌, ◌%◌, ◌==◌, ◌≤◌, Bool, true, false, List, [], ◌∷◌, Option, Some, None, All, if◌then◌else◌}
+use Rattle.std.specs.Prelude.{ℕ, zero, suc, ◌+◌, ◌%◌, ◌==◌, ◌≤◌, Bool, false, Option, Some, None, All, if◌then◌else◌}
 use Rattle.std.specs.List.{list_any}
 use Rattle.std.specs.List.Sorted.{IsStrictlyIncreasing}
 use Rattle.xom_base.specs.declared.event.Event.{Event}
@@ -30,7 +30,6 @@ event_of (turn.Do op) = event.Do op
 
 -- Where the kernel tells its turns, as a function of its own state and of what it is told of the machine, a run is a function too.
 module _ {K : Type 0} (told : K → Seen → Option (Turn × K)) (line : Interrupts) where
-
   -- how a run goes on: guest events so far, record and kernel
   abbrev pub Next : Type 0
   Next = ℕ → Record → K → Option Record

@@ -1,5 +1,5 @@
 -- What a kernel is told of the machine: no value of another compartment, and no private byte.
-use Rattle.std.specs.Prelude.{ℕ, ◌==◌, Bool, false, List, Option, Some, None, map, if◌then◌else◌}
+use Rattle.std.specs.Prelude.{ℕ, ◌==◌, false, List, Option, Some, None, map, if◌then◌else◌}
 use Rattle.xom_base.specs.declared.event.Cause.{Cause}
 use Rattle.tag_regs.specs.declared.cell.Cell.{Cell}
 use Rattle.session_table.specs.declared.session.Session.{Session}
@@ -26,7 +26,11 @@ unfoldable pub seen_of : Record → Seen
 seen_of r = record {
   cells = map shown_cell r.core.cells;
   slots = map shown_slot r.core.sessions;
-  status = r.status; cause = r.cause; who = r.who; events = r.events }
+  status = r.status;
+  cause = r.cause;
+  who = r.who;
+  events = r.events;
+}
 
 -- the value of a cell of the null compartment
 abbrev pub open_cell : Cell → Option ℕ

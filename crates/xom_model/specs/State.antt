@@ -1,5 +1,5 @@
 -- All that the processor keeps, as a record.
-use Rattle.std.specs.Prelude.{ℕ, ◌+◌, Bool, true, false, List, [], ◌∷◌, ◌++◌, replicate, slice_set, slice_index_or}
+use Rattle.std.specs.Prelude.{ℕ, Bool, false, List, [], ◌∷◌, ◌++◌, replicate, slice_set, slice_index_or}
 use Rattle.xom_base.specs.declared.entry.Entry.{Entry}
 use Rattle.xom_base.specs.declared.event.Cause.{Cause}
 use Rattle.xom_base.specs.declared.event.Cause.TheVariants as cause
@@ -63,7 +63,7 @@ with_session core slot session = record core { sessions = slice_set core.session
 abbrev pub stored_at : List (List ℕ) → ℕ → Stored → List (List ℕ)
 stored_at memories slot stored.Nothing = memories
 stored_at memories slot (stored.Bytes address count value) =
-  slice_set memories slot (written_at (memory_at memories slot) address (low_bytes count value))
+    slice_set memories slot (written_at (memory_at memories slot) address (low_bytes count value))
 
 -- the core with what a step stored in a slot's private memory
 abbrev pub with_stored : CoreState → ℕ → Stored → CoreState

@@ -4,6 +4,7 @@ use std::test::Fail;
 use xom_base::{ByteList, ImageId, Key256, PlainImage, Rule, Stored};
 
 #[test]
+#[tactic(auto, using(mips_plain::proofs::Sizes::private_size_is))]
 fn a_guest_is_given_and_stopped(rt: HostRuntime) -> Result<(), Fail> {
     let mut bytes = ByteList::new(rt.alloc());
     bytes.push(7)?;

@@ -1,5 +1,5 @@
 -- One more cell is scrubbed.
-use Rattle.std.proofs.Common.{◌≡◌, ◌<◌, length, get_or, ◌∙◌, sym, ap, arith}
+use Rattle.std.proofs.Common.{◌<◌, length, get_or, ◌∙◌, ap, arith}
 use Rattle.std.proofs.lemmas.List.{get_or_default}
 use Rattle.std.proofs.lemmas.List.Edits.{map_over_more}
 use Rattle.tag_regs.specs.TaggedCells.{empty, scrubbed_cell}
