@@ -229,6 +229,27 @@ fn a_sink_that_fails_in_a_report_is_told(rt: HostRuntime) -> Result<(), Fail> {
 }
 
 #[test]
+fn a_sink_that_fails_later_has_a_prefix(rt: HostRuntime) -> Result<(), Fail> {
+    let scene = Scene {
+        budget: "100",
+        kernel: SCRIPTED,
+        interrupt: "interrupt at 1",
+        image: &ADDS,
+        script: RESUMED,
+    };
+    let mut files = files(rt.alloc(), &scene)?;
+    let mut out = MemSink::new(rt.alloc());
+    out.reserve(10)?;
+    out.fail(2)?;
+    let status = call(rt.alloc(), &["trace", "r.run"], &mut files, &mut out)?;
+    let text = report(rt.alloc(), "follows 4 steps ended", "events 7 halted")?;
+    assert_ne!(rt; out.bytes().len(), 0);
+    assert_eq!(rt; text.as_bytes().starts_with(out.bytes()), true);
+    assert_eq!(rt; status, 3);
+    Ok(())
+}
+
+#[test]
 fn a_sink_that_fails_in_a_message_leaves_its_status(rt: HostRuntime) -> Result<(), Fail> {
     let mut files = MemFiles::new(rt.alloc());
     let mut out = MemSink::new(rt.alloc());
