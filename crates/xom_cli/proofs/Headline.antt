@@ -22,7 +22,7 @@ use Rattle.xom_model.specs.Holds.{Holds, Installs, IsAlone, IsInstalled}
 use Rattle.xom_model.proofs.StartKept.{installed_holds}
 use Rattle.xom_model.proofs.Turns.{events_keep}
 use Rattle.xom_script.specs.Turns.{script_told}
-use Rattle.xom_cli.specs.declared.reading.Parts.{Parts}
+use Rattle.xom_cli.specs.declared.trace.Parts.{Parts}
 use Rattle.xom_cli.specs.Trace.{AllFollow, first_of, last_of, last_record, owner_in, report_of}
 
 -- what holds does so after an event that comes next

@@ -6,7 +6,7 @@ use Rattle.std.proofs.lemmas.Bool.{eq-eqb, eqb-true}
 use Rattle.xom_base.specs.declared.image.PlainImage.{PlainImage}
 use Rattle.xom_image.proofs.Images.{PlainImage-equal}
 use Rattle.xom_image.specs.PlainFiles.{plain_image_at}
-use Rattle.xom_cli.specs.Trace.{image_at, image_read, valid_image}
+use Rattle.xom_cli.specs.Inputs.{valid_image}
 
 module _ (image : PlainImage) where
   -- the image, once its entry was found to be aligned

@@ -5,4 +5,6 @@ pub mod Traced
 pub mod Headline
 pub mod Statuses
 pub mod Unread
+pub mod Targets
+pub mod Delivered
 pub mod Kept

@@ -11,7 +11,8 @@ use Rattle.xom_script.specs.declared.fault.FormFault.TheVariants as form_fault
 use Rattle.xom_script.specs.declared.run_file.RunFile.{RunFile}
 use Rattle.xom_script.specs.RunFiles.{Ascends, IsInterrupts, IsRunFile}
 use Rattle.xom_cli.specs.declared.refusal.Stop.{Stop}
-use Rattle.xom_cli.specs.Readings.{IsFormed}
+use Rattle.xom_cli.specs.declared.refusal.InputStop.{InputStop}
+use Rattle.xom_cli.specs.Readings.{IsBuilt, IsNamed}
 use Rattle.xom_cli.specs.Trace.{IsRunnable}
 
 -- numbers that ascend from a number are above it
@@ -44,7 +45,9 @@ IsRunFile-runnable text file is = record {
 }
 
 -- what came of a run file that was read
-pub formed-runnable : (text name : List ℕ) (read : Result RunFile FormFault) (result : Result RunFile Stop) → IfOk read (IsRunFile text) → IsFormed name read result → IfOk result IsRunnable
-formed-runnable text name (Ok file) result found formed = subst (λ r. IfOk r IsRunnable) (sym formed) (IsRunFile-runnable text file found)
-formed-runnable text name (Err form_fault.NotBuilt) result found formed = elim formed [ inl is ↦ subst (λ r. IfOk r IsRunnable) (sym is) tt | inr is ↦ subst (λ r. IfOk r IsRunnable) (sym is) tt ]
-formed-runnable text name (Err form_fault.NoMemory) result found formed = subst (λ r. IfOk r IsRunnable) (sym formed) tt
+pub named-runnable : (text name : List ℕ) (read : Result RunFile FormFault) (mid : Result RunFile InputStop) (result : Result RunFile Stop) → IfOk read (IsRunFile text) → IsBuilt read mid → IsNamed name mid result → IfOk result IsRunnable
+named-runnable text name (Ok file) mid result found built named =
+    let is : result ≡ Ok file = subst (λ m. IsNamed name m result) built named in
+    subst (λ r. IfOk r IsRunnable) (sym is) (IsRunFile-runnable text file found)
+named-runnable text name (Err form_fault.NotBuilt) mid result found built named = elim (subst (λ m. IsNamed name m result) built named) [ inl is ↦ subst (λ r. IfOk r IsRunnable) (sym is) tt | inr is ↦ subst (λ r. IfOk r IsRunnable) (sym is) tt ]
+named-runnable text name (Err form_fault.NoMemory) mid result found built named = subst (λ r. IfOk r IsRunnable) (sym (subst (λ m. IsNamed name m result) built named)) tt

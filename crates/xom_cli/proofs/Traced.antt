@@ -5,7 +5,7 @@ use Rattle.image_sealer.specs.declared.owner.Owner.{Owner}
 use Rattle.trace_judge.specs.declared.report.Report.{Report}
 use Rattle.trace_judge.specs.Judgement.{judgement}
 use Rattle.xom_model.specs.State.{Record}
-use Rattle.xom_cli.specs.declared.reading.Parts.{Parts}
+use Rattle.xom_cli.specs.declared.trace.Parts.{Parts}
 use Rattle.xom_cli.specs.Trace.{answer_of, last_record, owner_in, report_of, traced}
 
 pub traced-is : (parts : Parts) (state : Record) (report : Report) (owners : List Owner) (entries : List Entry)

@@ -2,11 +2,14 @@
 use Rattle.std.proofs.Common.{◌≡◌, ◌⊎◌, inl, inr, ℕ, List, Option, Some, None, Result, Ok, Err, Bool, true, false, cond, length, refl, sym, ◌∙◌, ap, subst}
 use Rattle.std.specs.Prelude.{nat_le}
 use Rattle.xom_cli.specs.declared.answer.Answer.{Answer}
+use Rattle.xom_cli.specs.declared.refusal.InputFault.{InputFault}
+use Rattle.xom_cli.specs.declared.refusal.InputFault.TheVariants.{TooLong}
 use Rattle.xom_cli.specs.declared.refusal.Refusal.{Refusal}
-use Rattle.xom_cli.specs.declared.refusal.Refusal.TheVariants.{Unread, TooLong, NotBuilt}
+use Rattle.xom_cli.specs.declared.refusal.Refusal.TheVariants.{Unread, Bad}
+use Rattle.xom_cli.specs.Inputs.{◌>>=◌, Held, fetched, fetched_bytes, image_of, in_file, input_of, run_file_of, script_of}
 use Rattle.xom_cli.specs.Outcome.{row_outcome}
 use Rattle.xom_cli.specs.Rows.{Row, Trace}
-use Rattle.xom_cli.specs.Trace.{◌>>=◌, Held, fetched, fetched_bytes, image_of, in_form, parts_of, run_file_of, script_of, trace_of, traced}
+use Rattle.xom_cli.specs.Trace.{parts_of, trace_of, traced}
 
 -- where a step and what follows it are refused, one of them is
 bind-err : {A B : Type 0} (o : Result A Refusal) (f : A → Result B Refusal) (e : Refusal) → (o >>= f) ≡ Err e → (o ≡ Err e) ⊎ ((x : A) × (o ≡ Ok x) × (f x ≡ Err e))
@@ -16,33 +19,33 @@ bind-err (Err other) f e is = inl (cc)
 bytes-unread : (n name : List ℕ) (limit : ℕ) (o : Option (List ℕ)) → fetched_bytes n limit o ≡ Err (Unread name) → (n ≡ name) × (o ≡ None)
 bytes-unread n name limit None is = (cc, refl)
 bytes-unread n name limit (Some bytes) is =
-    absurd (elim (nat_le (length bytes) limit) as (λ b. cond b (Ok bytes) (Err (TooLong n)) ≡ Err (Unread name) → ⊥) [ true ↦ λ ok. cc | false ↦ λ long. cc ] is)
+    absurd (elim (nat_le (length bytes) limit) as (λ b. cond b (Ok bytes) (Err (Bad n TooLong)) ≡ Err (Unread name) → ⊥) [ true ↦ λ ok. cc | false ↦ λ long. cc ] is)
 
 fetched-unread : (held : Held) (n name : List ℕ) (limit : ℕ) → fetched held n limit ≡ Err (Unread name) → held name ≡ None
 unfolding fetched
 fetched-unread held n name limit is = let both = bytes-unread n name limit (held n) is in subst (λ m. held m ≡ None) both.0 both.1
 
-form-unread : {A : Type 0} (n name : List ℕ) (o : Option A) → in_form n o ≡ Err (Unread name) → ⊥
-form-unread n name None is = cc
-form-unread n name (Some value) is = cc
+in_file-unread : {A : Type 0} (n name : List ℕ) (o : Result A InputFault) → in_file n o ≡ Err (Unread name) → ⊥
+in_file-unread n name (Ok value) is = cc
+in_file-unread n name (Err fault) is = cc
 
-file-unread : {A : Type 0} (held : Held) (n name : List ℕ) (limit : ℕ) (read : List ℕ → Option A) → (fetched held n limit >>= λ bytes. in_form n (read bytes)) ≡ Err (Unread name) → held name ≡ None
-file-unread held n name limit read is = elim (bind-err (fetched held n limit) (λ bytes. in_form n (read bytes)) (Unread name) is) [
+input-unread : {A : Type 0} (limit : ℕ) (format : List ℕ → Result A InputFault) (held : Held) (n name : List ℕ) → input_of limit format held n ≡ Err (Unread name) → held name ≡ None
+input-unread limit format held n name is = elim (bind-err (fetched held n limit) (λ bytes. in_file n (format bytes)) (Unread name) is) [
   | inl here ↦ fetched-unread held n name limit here
-  | inr later ↦ absurd (form-unread n name (read later.0) later.2)
+  | inr later ↦ absurd (in_file-unread n name (format later.0) later.2)
 ]
 
 run_file-unread : (held : Held) (n name : List ℕ) → run_file_of held n ≡ Err (Unread name) → held name ≡ None
 unfolding run_file_of
-run_file-unread held n name is = file-unread held n name _ _ is
+run_file-unread held n name is = input-unread _ _ held n name is
 
 image-unread : (held : Held) (n name : List ℕ) → image_of held n ≡ Err (Unread name) → held name ≡ None
 unfolding image_of
-image-unread held n name is = file-unread held n name _ _ is
+image-unread held n name is = input-unread _ _ held n name is
 
 script-unread : (held : Held) (n name : List ℕ) → script_of held n ≡ Err (Unread name) → held name ≡ None
 unfolding script_of
-script-unread held n name is = file-unread held n name _ _ is
+script-unread held n name is = input-unread _ _ held n name is
 
 parts-unread : (held : Held) (run name : List ℕ) → parts_of held run ≡ Err (Unread name) → held name ≡ None
 unfolding parts_of

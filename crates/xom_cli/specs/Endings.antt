@@ -1,13 +1,16 @@
 -- How a call ends, and what it has done to files and sink by then.
 use Rattle.std.specs.Prelude.{◌≡◌, ◌⊎◌, ℕ, List, Option, Some, None, Result, Ok, Err, MatchOption}
+use Rattle.xom_io.specs.declared.files.FileFault.{FileFault}
+use Rattle.xom_io.specs.declared.files.FileFault.TheVariants as file_fault
 use Rattle.xom_io.specs.declared.sink.SinkFault.{SinkFault}
 use Rattle.xom_io.specs.declared.sink.SinkFault.TheVariants as sink_fault
-use Rattle.xom_io.specs.Answers.{TakesAll, Told}
+use Rattle.xom_io.specs.Answers.{KeepsOthers, Puts, TakesAll, Told}
 use Rattle.xom_cli.specs.declared.answer.Answer.{Answer}
+use Rattle.xom_cli.specs.declared.answer.OutputFile.{OutputFile}
 use Rattle.xom_cli.specs.declared.ending.Ending.{Ending}
 use Rattle.xom_cli.specs.declared.ending.Ending.TheVariants as ending
 use Rattle.xom_cli.specs.declared.refusal.Refusal.{Refusal}
-use Rattle.xom_cli.specs.declared.refusal.Refusal.TheVariants.{Unread, TooLong, NotBuilt}
+use Rattle.xom_cli.specs.declared.refusal.Refusal.TheVariants.{Unread, Bad}
 use Rattle.xom_cli.specs.declared.refusal.Stop.{Stop}
 use Rattle.xom_cli.specs.declared.refusal.Stop.TheVariants as stop
 use Rattle.xom_cli.specs.Outcome.{row_outcome}
@@ -15,23 +18,31 @@ use Rattle.xom_cli.specs.Readings.{Gives}
 use Rattle.xom_cli.specs.Refusals.{line_of, words_line}
 use Rattle.xom_cli.specs.Rows.{Row, row_of}
 
+-- what files tell, and their count of writes that failed
+pub record Disk : Type 0 where
+  pub held : Told
+  pub writes : ℕ
+
 -- what a sink tells, and its count of faults
 pub record Output : Type 0 where
   pub written : Option (List ℕ)
   pub faults : ℕ
 
--- what files tell, their count of reads that failed, and the sink
+-- the files, their count of reads that failed, and the sink
 pub record Outside : Type 0 where
-  pub held : Told
+  pub disk : Disk
   pub reads : ℕ
   pub output : Output
 
--- both, from what is told and counted
+-- each of them, from what is told and counted
+abbrev pub disk : Told → ℕ → Disk
+disk held writes = record { held = held; writes = writes }
+
 abbrev pub output : Option (List ℕ) → ℕ → Output
 output written faults = record { written = written; faults = faults }
 
-abbrev pub outside : Told → ℕ → Option (List ℕ) → ℕ → Outside
-outside held reads written faults = record { held = held; reads = reads; output = output written faults }
+abbrev pub outside : Disk → ℕ → Output → Outside
+outside files reads sink = record { disk = files; reads = reads; output = sink }
 
 -- the status of an ending
 abbrev pub status_of : Ending → ℕ
@@ -46,6 +57,8 @@ status_of ending.NoMemory = 5
 abbrev pub IsDone : ℕ → Type 0
 IsDone status = (status ≡ 0) ⊎ (status ≡ 6) ⊎ (status ≡ 8) ⊎ (status ≡ 9)
 
+-- ---- The sink
+
 -- the ending of a call whose text was put with this answer of the sink
 abbrev pub ended : Ending → Ending → Result (Unit {0}) SinkFault → Ending
 ended whole broken (Ok done) = whole
@@ -57,29 +70,54 @@ abbrev pub Prints : Output → Output → List ℕ → Ending → Ending → End
 Prints before after text whole broken result =
     (put : Result (Unit {0}) SinkFault) × TakesAll before.written after.written text before.faults after.faults put × (result ≡ ended whole broken put)
 
--- nothing was put, for want of memory
-abbrev pub IsSilent : Output → Output → Ending → Type 0
-IsSilent before after result = (result ≡ ending.NoMemory) × (after.written ≡ before.written) × (after.faults ≡ before.faults)
+-- nothing was put, and the call ends so
+abbrev pub IsSilent : Output → Output → Ending → Ending → Type 0
+IsSilent before after wanted result = (result ≡ wanted) × (after ≡ before)
 
 -- the ending of a refusal, whether or not its line could be printed
 abbrev pub refused : Refusal → Ending
 refused (Unread name) = ending.Unread
-refused (TooLong name) = ending.BadInput
-refused (NotBuilt name) = ending.BadInput
+refused (Bad name fault) = ending.BadInput
 
--- what was answered is printed
-abbrev pub Finishes : Output → Output → Result Answer Stop → Ending → Type 0
-Finishes before after (Ok answer) result = IsDone answer.status × Prints before after answer.text (ending.Done answer.status) ending.WriteFault result
-Finishes before after (Err (stop.Refused refusal)) result = IsSilent before after result ⊎ Prints before after (line_of refusal) (refused refusal) (refused refusal) result
-Finishes before after (Err stop.NoMemory) result = IsSilent before after result
+-- ---- The files
 
--- the row's command answered, and what it answered is printed
+-- the file of an answer was put, where it has one
+abbrev pub PutsFile : Disk → Disk → Option OutputFile → Result (Unit {0}) FileFault → Type 0
+PutsFile before after None put = (after ≡ before) × (put ≡ Ok tt)
+PutsFile before after (Some file) put = Puts before.held after.held file.name file.bytes before.writes after.writes put × KeepsOthers before.held after.held file.name
+
+-- its text was printed where the file was put, and nothing else was
+abbrev pub PrintsBehind : Output → Output → Answer → Result (Unit {0}) FileFault → Ending → Type 0
+PrintsBehind before after answer (Ok done) result = Prints before after answer.text (ending.Done answer.status) ending.WriteFault result
+PrintsBehind before after answer (Err file_fault.Failed) result = IsSilent before after ending.WriteFault result
+PrintsBehind before after answer (Err file_fault.TooLong) result = IsSilent before after ending.WriteFault result
+PrintsBehind before after answer (Err file_fault.NoMemory) result = IsSilent before after ending.NoMemory result
+
+-- ---- The call
+
+-- the file of an answer was put, and then its text
+abbrev pub Delivers : Disk → Disk → Output → Output → Answer → Ending → Type 0
+Delivers disk_before disk_after before after answer result =
+    (put : Result (Unit {0}) FileFault) × PutsFile disk_before disk_after answer.file put × PrintsBehind before after answer put result
+
+-- the line of a refusal was printed, unless memory ran out
+abbrev pub PrintsRefusal : Output → Output → Refusal → Ending → Type 0
+PrintsRefusal before after refusal result = IsSilent before after ending.NoMemory result ⊎ Prints before after (line_of refusal) (refused refusal) (refused refusal) result
+
+-- what was answered is delivered
+abbrev pub Finishes : Disk → Disk → Output → Output → Result Answer Stop → Ending → Type 0
+Finishes disk_before disk_after before after (Ok answer) result = IsDone answer.status × Delivers disk_before disk_after before after answer result
+Finishes disk_before disk_after before after (Err (stop.Refused refusal)) result = (disk_after ≡ disk_before) × PrintsRefusal before after refusal result
+Finishes disk_before disk_after before after (Err stop.NoMemory) result = (disk_after ≡ disk_before) × IsSilent before after ending.NoMemory result
+
+-- the row's command answered, and what it answered is delivered
 abbrev pub EndsRow : Outside → Outside → Row → Ending → Type 0
-EndsRow before after row result = (answered : Result Answer Stop) × Gives before.held (row_outcome row) before.reads after.reads answered × Finishes before.output after.output answered result
+EndsRow before after row result =
+    (answered : Result Answer Stop) × Gives before.disk.held (row_outcome row) before.reads after.reads answered × Finishes before.disk after.disk before.output after.output answered result
 
 -- the words matched no row, and that is printed
 abbrev pub EndsWords : Outside → Outside → Ending → Type 0
-EndsWords before after result = (after.reads ≡ before.reads) × Prints before.output after.output words_line ending.NoRow ending.NoRow result
+EndsWords before after result = (after.disk ≡ before.disk) × (after.reads ≡ before.reads) × Prints before.output after.output words_line ending.NoRow ending.NoRow result
 
 -- a whole call
 abbrev pub Ends : List (List ℕ) → Outside → Outside → Ending → Type 0

@@ -1,14 +1,16 @@
 -- What may be said of every call: its status with its cause, what it wrote, and what the owner of a guest may believe.
-use Rattle.std.specs.Prelude.{◌≡◌, ◌≢◌, ◌⊎◌, ℕ, ◌<◌, List, ◌++◌, Option, Some, None, Result, Ok, Err, IsSomeAnd, take}
-use Rattle.xom_io.specs.Answers.{Appends, Rises}
+use Rattle.std.specs.Prelude.{◌≡◌, ◌≢◌, ◌⊎◌, ℕ, ◌<◌, List, ◌++◌, Option, Some, None, Result, Ok, Err, IsSomeAnd, MatchOption, option_and_then, take}
+use Rattle.xom_io.specs.Answers.{Appends, Holds, KeepsOthers, Rises}
 use Rattle.trace_judge.specs.ReportText.{report_text}
-use Rattle.xom_cli.specs.declared.reading.Parts.{Parts}
+use Rattle.xom_cli.specs.declared.answer.OutputFile.{OutputFile}
+use Rattle.xom_cli.specs.declared.trace.Parts.{Parts}
 use Rattle.xom_cli.specs.declared.refusal.Refusal.TheVariants.{Unread}
-use Rattle.xom_cli.specs.Endings.{IsDone, Outside}
+use Rattle.xom_cli.specs.Endings.{Disk, IsDone, Outside}
+use Rattle.xom_cli.specs.Inputs.{Held}
 use Rattle.xom_cli.specs.Outcome.{printed}
 use Rattle.xom_cli.specs.Refusals.{line_of}
-use Rattle.xom_cli.specs.Rows.{Trace, row_of}
-use Rattle.xom_cli.specs.Trace.{AllFollow, Held, events_line, last_record, parts_of, report_of}
+use Rattle.xom_cli.specs.Rows.{Row, Trace, row_of, target_of}
+use Rattle.xom_cli.specs.Trace.{AllFollow, events_line, last_record, parts_of, report_of}
 
 -- the statuses that there are
 abbrev pub IsStatus : ℕ → Type 0
@@ -22,39 +24,64 @@ pub record WordsCause (words : List (List ℕ)) (status : ℕ) : Type 0 where
 -- 2 only where the count of reads rose or, where it is told, a file that is read isn't held
 abbrev pub ReadCause : List (List ℕ) → Outside → Outside → ℕ → Type 0
 ReadCause words before after status =
-    status ≡ 2 → Rises before.reads after.reads ⊎ IsSomeAnd before.held (λ held. ((printed words held).status ≡ 2) × ((name : List ℕ) × (held name ≡ None)))
+    status ≡ 2 → Rises before.reads after.reads ⊎ IsSomeAnd before.disk.held (λ held. ((printed words held).status ≡ 2) × ((name : List ℕ) × (held name ≡ None)))
 
--- 3 only where the sink's count rose
+-- the sink's count rose, or that of writes
+abbrev pub FailsWriting : Outside → Outside → Type 0
+FailsWriting before after = Rises before.output.faults after.output.faults ⊎ Rises before.disk.writes after.disk.writes
+
+-- 3 only there
 abbrev pub WriteCause : Outside → Outside → ℕ → Type 0
-WriteCause before after status = status ≡ 3 → Rises before.output.faults after.output.faults
+WriteCause before after status = status ≡ 3 → FailsWriting before after
 
 -- a command is carried out without a fault
 abbrev pub DoneCause : Outside → Outside → ℕ → Type 0
-DoneCause before after status = IsDone status → (after.reads ≡ before.reads) × (after.output.faults ≡ before.output.faults)
+DoneCause before after status = IsDone status → (after.reads ≡ before.reads) × (after.disk.writes ≡ before.disk.writes) × (after.output.faults ≡ before.output.faults)
 
 -- where it is told what files hold: but for the statuses 2, 3 and 5, the status is the defined one
 abbrev pub IsDefined : List (List ℕ) → Outside → ℕ → Type 0
-IsDefined words before status = (held : Held) → before.held ≡ Some held → status ≢ 2 → status ≢ 3 → status ≢ 5 → (printed words held).status ≡ status
+IsDefined words before status = (held : Held) → before.disk.held ≡ Some held → status ≢ 2 → status ≢ 3 → status ≢ 5 → (printed words held).status ≡ status
 
--- and where no count of reads rose, it is the defined one, or 5, or the sink failed in the text of a command
+-- and where no count of reads rose, it is the defined one, or 5, or the command's text or file couldn't be written
 abbrev pub IsSure : List (List ℕ) → Outside → Outside → ℕ → Type 0
-IsSure words before after status = (held : Held) → before.held ≡ Some held → ¬ Rises before.reads after.reads
-    → (status ≡ (printed words held).status) ⊎ (status ≡ 5) ⊎ ((status ≡ 3) × Rises before.output.faults after.output.faults × IsDone (printed words held).status)
+IsSure words before after status = (held : Held) → before.disk.held ≡ Some held → ¬ Rises before.reads after.reads
+    → (status ≡ (printed words held).status) ⊎ (status ≡ 5) ⊎ ((status ≡ 3) × FailsWriting before after × IsDone (printed words held).status)
 
--- where no count rose, and memory was found, all of the defined text was written
+-- the files hold what they held, and this file beside, where there is one
+abbrev pub WritesFile : Disk → Disk → Option OutputFile → Type 0
+WritesFile before after None = after.held ≡ before.held
+WritesFile before after (Some file) = Holds after.held file.name file.bytes × KeepsOthers before.held after.held file.name
+
+-- where no count rose, and memory was found, all of the defined text and file was written
 abbrev pub WritesAll : List (List ℕ) → Outside → Outside → ℕ → Type 0
-WritesAll words before after status = (held : Held) → before.held ≡ Some held → ¬ Rises before.reads after.reads → ¬ Rises before.output.faults after.output.faults → status ≢ 5
-    → Appends before.output.written after.output.written (printed words held).text
+WritesAll words before after status = (held : Held) → before.disk.held ≡ Some held → ¬ Rises before.reads after.reads → ¬ FailsWriting before after → status ≢ 5
+    → Appends before.output.written after.output.written (printed words held).text × WritesFile before.disk after.disk (printed words held).file
 
--- always some first bytes of it were written; where a read failed, of the line that says so
+-- always some first bytes of the text were written; where a read failed, of the line that says so
 abbrev pub WritesPrefix : List (List ℕ) → Outside → Outside → Type 0
-WritesPrefix words before after = (held : Held) → before.held ≡ Some held
+WritesPrefix words before after = (held : Held) → before.disk.held ≡ Some held
     → (n : ℕ) × (Appends before.output.written after.output.written (take n (printed words held).text)
     ⊎ (Rises before.reads after.reads × ((name : List ℕ) × Appends before.output.written after.output.written (take n (line_of (Unread name))))))
 
+-- the file that the words name to be written
+abbrev pub target_in : List (List ℕ) → Option (List ℕ)
+target_in words = option_and_then target_of (row_of words)
+
+-- no name changes but the one that the command writes
+abbrev pub ChangesOnly : List (List ℕ) → Outside → Outside → Type 0
+ChangesOnly words before after = MatchOption (target_in words) (after.disk.held ≡ before.disk.held) (KeepsOthers before.disk.held after.disk.held)
+
+-- and none where the words, a file that is read, or an input is refused
+abbrev pub KeepsFiles : Outside → Outside → ℕ → Type 0
+KeepsFiles before after status = (status ≡ 1) ⊎ (status ≡ 2) ⊎ (status ≡ 4) → after.disk ≡ before.disk
+
+-- where a file couldn't be put, nothing is printed
+abbrev pub IsUnprinted : Outside → Outside → Type 0
+IsUnprinted before after = before.disk.writes < after.disk.writes → after.output ≡ before.output
+
 -- The headline: where `trace` was carried out, its text is the report on the journal that the run made, and each installed guest's recorded steps are those of its owner's program, run alone with the values that it received.
 abbrev pub GuestsRunAlone : List (List ℕ) → Outside → Outside → ℕ → Type 0
-GuestsRunAlone words before after status = (held : Held) → before.held ≡ Some held → (run : List ℕ) → row_of words ≡ Some (Trace run) → IsDone status
+GuestsRunAlone words before after status = (held : Held) → before.disk.held ≡ Some held → (run : List ℕ) → row_of words ≡ Some (Trace run) → IsDone status
     → (parts : Parts) × (parts_of held run ≡ Ok parts) × Appends before.output.written after.output.written (report_text (report_of parts) ++ events_line (last_record parts)) × AllFollow (report_of parts)
 
 -- all of this, of a call with these words
@@ -68,4 +95,7 @@ pub record Promises (words : List (List ℕ)) (before after : Outside) (status :
   pub sure : IsSure words before after status
   pub all : WritesAll words before after status
   pub prefix : WritesPrefix words before after
+  pub changes : ChangesOnly words before after
+  pub keeps : KeepsFiles before after status
+  pub unprinted : IsUnprinted before after
   pub headline : GuestsRunAlone words before after status

@@ -3,11 +3,15 @@ use Rattle.std.specs.Prelude.{◌≡◌, ◌⊎◌, ℕ, ◌≤◌, List, Option
 use Rattle.xom_io.specs.Answers.{Rises, Told}
 use Rattle.xom_script.specs.declared.fault.FormFault.{FormFault}
 use Rattle.xom_script.specs.declared.fault.FormFault.TheVariants as form_fault
+use Rattle.xom_cli.specs.declared.refusal.InputFault.{InputFault}
+use Rattle.xom_cli.specs.declared.refusal.InputFault.TheVariants.{NotBuilt}
+use Rattle.xom_cli.specs.declared.refusal.InputStop.{InputStop}
+use Rattle.xom_cli.specs.declared.refusal.InputStop.TheVariants as input_stop
 use Rattle.xom_cli.specs.declared.refusal.Refusal.{Refusal}
-use Rattle.xom_cli.specs.declared.refusal.Refusal.TheVariants.{Unread, TooLong, NotBuilt}
+use Rattle.xom_cli.specs.declared.refusal.Refusal.TheVariants.{Unread, Bad}
 use Rattle.xom_cli.specs.declared.refusal.Stop.{Stop}
 use Rattle.xom_cli.specs.declared.refusal.Stop.TheVariants as stop
-use Rattle.xom_cli.specs.Trace.{Held}
+use Rattle.xom_cli.specs.Inputs.{Held}
 
 -- where it is told what files hold, this is what was wanted
 abbrev pub IsWanted : {Y : Type 0} → Told → (Held → Result Y Refusal) → Result Y Refusal → Type 0
@@ -16,8 +20,7 @@ IsWanted told wanted result = (held : Held) → told ≡ Some held → wanted he
 -- why reading stopped. The counts are those of reads, before and after
 abbrev pub Refuses : {Y : Type 0} → Told → (Held → Result Y Refusal) → ℕ → ℕ → Refusal → Type 0
 Refuses told wanted before after (Unread name) = (before ≤ after) × (Rises before after ⊎ IsSomeAnd told (λ held. wanted held ≡ Err (Unread name)))
-Refuses told wanted before after (TooLong name) = (after ≡ before) × IsWanted told wanted (Err (TooLong name))
-Refuses told wanted before after (NotBuilt name) = (after ≡ before) × IsWanted told wanted (Err (NotBuilt name))
+Refuses told wanted before after (Bad name fault) = (after ≡ before) × IsWanted told wanted (Err (Bad name fault))
 
 -- want of memory comes freely
 abbrev pub Stops : {Y : Type 0} → Told → (Held → Result Y Refusal) → ℕ → ℕ → Stop → Type 0
@@ -33,8 +36,14 @@ Gives told wanted before after (Err why) = Stops told wanted before after why
 abbrev pub IsRefusal : Stop → Refusal → Type 0
 IsRefusal made refusal = (made ≡ stop.Refused refusal) ⊎ (made ≡ stop.NoMemory)
 
--- what a reader of a form answered, with the name of the file
-abbrev pub IsFormed : {A : Type 0} → List ℕ → Result A FormFault → Result A Stop → Type 0
-IsFormed name (Ok value) result = result ≡ Ok value
-IsFormed name (Err form_fault.NotBuilt) result = (result ≡ Err (stop.Refused (NotBuilt name))) ⊎ (result ≡ Err stop.NoMemory)
-IsFormed name (Err form_fault.NoMemory) result = result ≡ Err stop.NoMemory
+-- what the reader of a form that isn't built whole answered
+abbrev pub IsBuilt : {A : Type 0} → Result A FormFault → Result A InputStop → Type 0
+IsBuilt (Ok value) result = result ≡ Ok value
+IsBuilt (Err form_fault.NotBuilt) result = result ≡ Err (input_stop.Fault NotBuilt)
+IsBuilt (Err form_fault.NoMemory) result = result ≡ Err input_stop.NoMemory
+
+-- what a reader answered, with the name of the file
+abbrev pub IsNamed : {A : Type 0} → List ℕ → Result A InputStop → Result A Stop → Type 0
+IsNamed name (Ok value) result = result ≡ Ok value
+IsNamed name (Err (input_stop.Fault fault)) result = (result ≡ Err (stop.Refused (Bad name fault))) ⊎ (result ≡ Err stop.NoMemory)
+IsNamed name (Err input_stop.NoMemory) result = result ≡ Err stop.NoMemory

@@ -1,20 +1,28 @@
 -- Why a command wasn't carried out, and the line that says so.
 use Rattle.std.specs.Prelude.{ℕ, List, [], ◌∷◌, ◌++◌, codes}
+use Rattle.std.specs.Fmt.{decimal}
+use Rattle.xom_cli.specs.declared.refusal.InputFault.{InputFault}
+use Rattle.xom_cli.specs.declared.refusal.InputFault.TheVariants.{TooLong, NotBuilt, BadByte, BadLine}
 use Rattle.xom_cli.specs.declared.refusal.Refusal.{Refusal}
-use Rattle.xom_cli.specs.declared.refusal.Refusal.TheVariants.{Unread, TooLong, NotBuilt}
+use Rattle.xom_cli.specs.declared.refusal.Refusal.TheVariants.{Unread, Bad}
 
 -- the line of words that match no row
 abbrev pub words_line : List ℕ
 words_line = codes "xom: words\n"
 
+-- what is said of a file behind its name: offsets count from 0, lines from 1
+abbrev pub fault_text : InputFault → List ℕ
+fault_text TooLong = codes ": too long\n"
+fault_text NotBuilt = codes ": not built\n"
+fault_text (BadByte offset) = codes " byte " ++ (decimal offset ++ codes ": bad\n")
+fault_text (BadLine line) = codes " line " ++ (decimal line ++ codes ": bad\n")
+
 -- the line of a refusal
 abbrev pub line_of : Refusal → List ℕ
 line_of (Unread name) = codes "xom: cannot read " ++ (name ++ codes "\n")
-line_of (TooLong name) = codes "xom: " ++ (name ++ codes ": too long\n")
-line_of (NotBuilt name) = codes "xom: " ++ (name ++ codes ": not built\n")
+line_of (Bad name fault) = codes "xom: " ++ (name ++ fault_text fault)
 
 -- the status of a refusal: a file that can't be read, or bad input
 abbrev pub refusal_status : Refusal → ℕ
 refusal_status (Unread name) = 2
-refusal_status (TooLong name) = 4
-refusal_status (NotBuilt name) = 4
+refusal_status (Bad name fault) = 4

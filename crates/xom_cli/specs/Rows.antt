@@ -10,3 +10,7 @@ pub data Row : Type 0 where
 abbrev pub row_of : List (List ℕ) → Option Row
 row_of (command ∷ run ∷ []) = if bytes_eq command (codes "trace") then Some (Trace run) else None
 row_of other = None
+
+-- the file that a row's command writes, if it writes one
+abbrev pub target_of : Row → Option (List ℕ)
+target_of (Trace run) = None

@@ -1,10 +1,22 @@
 use xom_base::ByteList;
+use xom_script::Name;
+
+/// A file that a command writes.
+#[derive(Drop)]
+pub struct OutputFile {
+    /// Its name.
+    pub name: Name,
+    /// All that it is to hold.
+    pub bytes: ByteList,
+}
 
 /// What a command that was carried out has to say.
 #[derive(Drop)]
 pub struct Answer {
     /// All that it prints.
     pub text: ByteList,
+    /// The file that it writes before it prints, if it writes one.
+    pub file: Option<OutputFile>,
     /// Its status: 0, 6, 8 or 9.
     pub status: u8,
 }

@@ -10,9 +10,9 @@ pub enum Ending {
     NoRow,
     /// A file couldn't be read.
     Unread,
-    /// The command was carried out, and the sink failed in its text.
+    /// The command was carried out, and its file or its text couldn't be written.
     WriteFault,
-    /// A file was off its form, or over its limit.
+    /// A file was off its format, or over its limit.
     BadInput,
     /// No memory was found.
     NoMemory,

@@ -1,15 +1,18 @@
 //! The top call: words, files and a sink to a status.
 //!
-//! The way of a call: words to a row of the table of commands; the row's files, each read and
-//! looked at in turn; the work; the text to the sink; the status.
+//! The way of a call: words to a row of the table of commands (`row`); the row's files, each read
+//! and looked at in turn (`reading`); the work of the command (`trace`); its file and its text to
+//! the outside (`delivery`); the status (`ending`).
 #![tactic(auto)]
 
 mod answer;
+mod delivery;
 mod ending;
 mod reading;
 mod refusal;
+mod row;
 mod top;
-mod work;
+mod trace;
 
-pub use answer::Answer;
+pub use answer::{Answer, OutputFile};
 pub use top::xom_main;

@@ -1,18 +1,46 @@
 ghost use Rattle.std.specs.Prelude.{◌≡◌, string_bytes};
+ghost use Rattle.xom_cli.specs.declared.refusal.InputStop.TheVariants.{NoMemory as InputOutOfMemory};
 ghost use Rattle.xom_cli.specs.declared.refusal.Stop.TheVariants.{NoMemory as OutOfMemory};
 
 use xom_base::NoMemory;
 use xom_script::Name;
+
+/// What is wrong with a file that was read.
+#[derive(Clone, Copy)]
+pub enum InputFault {
+    /// It is over its limit.
+    TooLong,
+    /// It isn't in the form that is built.
+    NotBuilt,
+    /// It breaks its format at this byte first, counted from 0.
+    BadByte(u64),
+    /// This line, counted from 1, is the first that is off the grammar.
+    BadLine(u64),
+}
+
+/// Why the bytes of a file gave no input.
+pub enum InputStop {
+    /// For a fault of theirs.
+    Fault(InputFault),
+    /// For want of memory.
+    NoMemory,
+}
+
+impl From<NoMemory> for InputStop {
+    ghost from_gives = { λ _ e. e ≡ InputOutOfMemory };
+
+    fn from(_: NoMemory) -> InputStop {
+        InputStop::NoMemory
+    }
+}
 
 /// Why a command wasn't carried out. Nothing was written to any file.
 #[derive(Drop)]
 pub enum Refusal {
     /// A file of this name can't be read.
     Unread(Name),
-    /// It is over its limit.
-    TooLong(Name),
-    /// It isn't in the form that is built.
-    NotBuilt(Name),
+    /// The file of this name is no input for the command.
+    Bad(Name, InputFault),
 }
 
 /// Why reading or working stopped.

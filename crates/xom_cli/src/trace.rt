@@ -1,21 +1,69 @@
 ghost use Rattle.std.specs.Prelude.{◌≡◌, ◌≤◌, ◌^◌, ◌++◌, IfOk, string_bytes};
 ghost use Rattle.std.specs.List.{list_any};
-ghost use Rattle.xom_cli.specs.Trace.{IsRunnable, answer_of, ending_text, events_line, is_doubted as is_doubted_by, is_stop as is_stop_by, is_suspect as is_suspect_by, last_of, trace_status, traced as traced_of};
+ghost use Rattle.xom_cli.specs.Endings.{IsDone};
+ghost use Rattle.xom_cli.specs.Readings.{Gives};
+ghost use Rattle.xom_cli.specs.Trace.{IsRunnable, answer_of, ending_text, events_line, is_doubted as is_doubted_by, is_stop as is_stop_by, is_suspect as is_suspect_by, last_of, parts_of, trace_of, trace_status, traced as traced_of};
 ghost use Rattle.xom_model.specs.Run.{IsSchedule};
 
 use crate::answer::Answer;
-use crate::reading::Parts;
+use crate::reading::{image, run_file, script};
+use crate::refusal::Stop;
 use image_sealer::{Owner, OwnerList};
 use mips_plain::Verdict;
 use std::alloc::Global;
 use trace_judge::{GuestLine, Report, judge, print_report};
-use xom_base::{ByteList, Entry, NoMemory, RunEnd, Schedule};
+use xom_base::{ByteList, Entry, NoMemory, PlainImage, RunEnd, Schedule};
+use xom_io::Files;
 use xom_machine::{Machine, run};
-use xom_script::{Script, ScriptKernel};
+use xom_script::{RunFile, Script, ScriptKernel};
+
+/// All that a run is made of.
+#[derive(Drop)]
+pub struct Parts {
+    /// The run file.
+    pub file: RunFile,
+    /// The image of its owner, which is its guest.
+    pub image: PlainImage,
+    /// What its kernel does.
+    pub script: Script,
+}
+
+/// `trace RUN`: reads what a run is made of, makes it, and judges its journal.
+#[tactic(auto, unfolding(crate::specs::Trace::trace_of))]
+pub fn trace<F: Files>(alloc: Global, files: &mut F, run: &String) -> Result<Answer, Stop>
+    ensures gives { Gives (F.held files.old) (λ held. trace_of held (string_bytes run.now))
+        (F.reads files.old) (F.reads files.new) result }
+    ensures done { IfOk result (λ answer. IsDone answer.status) }
+    ensures names { F.held files.new ≡ F.held files.old }
+    ensures writes { F.writes files.new ≡ F.writes files.old }
+{
+    let parts = read_parts(alloc, files, run)?;
+    Ok(traced(alloc, parts)?)
+}
+
+/// Reads the run file, the image of its owner and the script of its kernel, in this order. The
+/// first that can't be read or is off its form is refused.
+#[tactic(auto, unfolding(crate::specs::Trace::parts_of))]
+fn read_parts<F: Files>(alloc: Global, files: &mut F, run: &String) -> Result<Parts, Stop>
+    ensures gives { Gives (F.held files.old) (λ held. parts_of held (string_bytes run.now))
+        (F.reads files.old) (F.reads files.new) result }
+    ensures runnable { IfOk result (λ parts. IsRunnable parts.file) }
+    ensures names { F.held files.new ≡ F.held files.old }
+    ensures writes { F.writes files.new ≡ F.writes files.old }
+{
+    let file = run_file(alloc, files, run)?;
+    let image = image(alloc, files, file.owner.plain.as_string())?;
+    let script = script(alloc, files, file.kernel.as_string())?;
+    Ok(Parts {
+        file,
+        image,
+        script,
+    })
+}
 
 /// Makes the run and judges its journal.
 #[tactic(auto, unfolding(crate::specs::Trace::traced))]
-pub fn traced(alloc: Global, parts: Parts) -> Result<Answer, NoMemory>
+fn traced(alloc: Global, parts: Parts) -> Result<Answer, NoMemory>
     requires { IsRunnable parts.file }
     ensures { IfOk result (λ answer. answer ≡ traced_of parts) }
 {
@@ -68,6 +116,7 @@ fn answer(alloc: Global, report: &Report, machine: &Machine) -> Result<Answer, N
     text.extend_from_slice(events.as_bytes())?;
     Ok(Answer {
         text: ByteList::from_vec(text),
+        file: None,
         status: status(report, machine),
     })
 }

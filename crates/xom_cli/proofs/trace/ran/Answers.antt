@@ -2,7 +2,7 @@ use Rattle.xom_cli.proofs.Told.{run_from-some, told-whole}
 use Rattle.xom_cli.specs.Trace.{first_of, last_of}
 use Rattle.xom_model.specs.Run.{run_from}
 use Rattle.xom_script.specs.Turns.{script_told}
-use Rattle.xom_cli.proofs.work.ran.Goals as goal
+use Rattle.xom_cli.proofs.trace.ran.Goals as goal
 
 pub returns-in_default : goal.returns-in_default
 unfolding last_of

@@ -1,6 +1,6 @@
 use Rattle.std.proofs.Common.{◌≡◌, IfOk, ap, subst}
 use Rattle.xom_cli.proofs.Traced.{traced-is}
-use Rattle.xom_cli.proofs.work.traced.Goals as goal
+use Rattle.xom_cli.proofs.trace.traced.Goals as goal
 
 pub returns : goal.returns
 returns c =

@@ -1,0 +1,109 @@
+-- What a call left in the files and in the sink.
+use Rattle.std.proofs.Common.{◌≡◌, ◌≢◌, ◌⊎◌, inl, inr, ℕ, ◌<◌, List, [], ◌++◌, Option, Some, None, Result, Ok, Err, length, take, refl, sym, ◌∙◌, ap, subst, arith, append-nil, option_map}
+use Rattle.std.specs.Prelude.{MatchOption, option_and_then}
+use Rattle.std.proofs.Math.Seq.{take-length}
+use Rattle.xom_io.specs.declared.files.FileFault.{FileFault}
+use Rattle.xom_io.specs.declared.files.FileFault.TheVariants as file_fault
+use Rattle.xom_io.specs.declared.sink.SinkFault.{SinkFault}
+use Rattle.xom_io.specs.declared.sink.SinkFault.TheVariants as sink_fault
+use Rattle.xom_io.specs.Answers.{Appends, KeepsOthers, Puts, Rises, TakesAll, Told}
+use Rattle.xom_cli.specs.declared.answer.Answer.{Answer}
+use Rattle.xom_cli.specs.declared.answer.OutputFile.{OutputFile}
+use Rattle.xom_cli.specs.Endings.{Disk, IsDone, Output, PutsFile}
+use Rattle.xom_cli.specs.Inputs.{Held}
+use Rattle.xom_cli.specs.Outcome.{row_outcome}
+use Rattle.xom_cli.specs.Promises.{WritesFile}
+use Rattle.xom_cli.specs.Rows.{Row, target_of}
+use Rattle.xom_cli.proofs.Targets.{target-written}
+
+-- ---- statuses
+
+pub not_done : (n : ℕ) → (n ≢ 0) → (n ≢ 6) → (n ≢ 8) → (n ≢ 9) → ¬ IsDone n
+not_done n a b c d is = elim is [ inl e ↦ a e | inr r ↦ elim r [ inl e ↦ b e | inr q ↦ elim q [ inl e ↦ c e | inr e ↦ d e ] ] ]
+
+pub done_not_1 : ¬ IsDone 1
+done_not_1 = not_done 1 (λ e. omega arith) (λ e. omega arith) (λ e. omega arith) (λ e. omega arith)
+
+pub done_not_2 : ¬ IsDone 2
+done_not_2 = not_done 2 (λ e. omega arith) (λ e. omega arith) (λ e. omega arith) (λ e. omega arith)
+
+pub done_not_3 : ¬ IsDone 3
+done_not_3 = not_done 3 (λ e. omega arith) (λ e. omega arith) (λ e. omega arith) (λ e. omega arith)
+
+pub done_not_4 : ¬ IsDone 4
+done_not_4 = not_done 4 (λ e. omega arith) (λ e. omega arith) (λ e. omega arith) (λ e. omega arith)
+
+pub done_not_5 : ¬ IsDone 5
+done_not_5 = not_done 5 (λ e. omega arith) (λ e. omega arith) (λ e. omega arith) (λ e. omega arith)
+
+-- ---- the sink
+
+nothing-appended : (old : Option (List ℕ)) → Appends old old []
+nothing-appended None = refl
+nothing-appended (Some written) = ap Some (sym (append-nil written))
+
+-- a sink that is as it was
+pub same-appended : (before after : Output) → after ≡ before → Appends before.written after.written []
+same-appended before after same = subst (λ (o : Output). Appends before.written o.written []) (sym same) (nothing-appended before.written)
+
+pub takes-prefix : (old new : Option (List ℕ)) (text : List ℕ) (before after : ℕ) (put : Result (Unit {0}) SinkFault) → TakesAll old new text before after put → (n : ℕ) × Appends old new (take n text)
+takes-prefix old new text before after (Ok whole) takes = (length text, subst (Appends old new) (sym (take-length text)) takes.1)
+takes-prefix old new text before after (Err sink_fault.Failed) takes = (takes.0.0, takes.0.2)
+takes-prefix old new text before after (Err sink_fault.NoMemory) takes = (takes.0.0, takes.0.2)
+
+-- ---- the files
+
+keeps-self : (told : Told) (name : List ℕ) → KeepsOthers told told name
+keeps-self None name = tt
+keeps-self (Some held) name = λ other differs. refl
+
+-- files that are as they were
+pub same-changes : (target : Option (List ℕ)) (before after : Disk) → after ≡ before → MatchOption target (after.held ≡ before.held) (KeepsOthers before.held after.held)
+same-changes None before after same = ap (λ (d : Disk). d.held) same
+same-changes (Some name) before after same = subst (λ (d : Disk). KeepsOthers before.held d.held name) (sym same) (keeps-self before.held name)
+
+pub same-count : (before after : Disk) → after ≡ before → ¬ (before.writes < after.writes)
+same-count before after same rises = let is : after.writes ≡ before.writes = ap (λ (d : Disk). d.writes) same in omega arith
+
+-- what two files tell is the same
+abbrev Same : Told → Told → Type 0
+Same a b = a ≡ b
+
+untold-changes : (target : Option (List ℕ)) → MatchOption target (Same None None) (KeepsOthers None None)
+untold-changes None = refl
+untold-changes (Some name) = tt
+
+-- the file that a command answers is the one that its words name
+told-changes : (row : Row) (answer : Answer) (file : OutputFile) (old new : Told) → ((held : Held) → old ≡ Some held → row_outcome row held ≡ Ok answer) → answer.file ≡ Some file → KeepsOthers old new file.name
+    → MatchOption (target_of row) (new ≡ old) (KeepsOthers old new)
+told-changes row answer file None None wanted is keeps = untold-changes (target_of row)
+told-changes row answer file None (Some later) wanted is keeps = absurd keeps
+told-changes row answer file (Some held) None wanted is keeps = absurd keeps
+told-changes row answer file (Some held) (Some later) wanted is keeps =
+    subst (λ (o : Option (List ℕ)). MatchOption o (Same (Some later) (Some held)) (KeepsOthers (Some held) (Some later))) (sym (target-written row held answer file (wanted held refl) is)) keeps
+
+pub puts-changes : (row : Row) (answer : Answer) (before after : Disk) (put : Result (Unit {0}) FileFault) → ((held : Held) → before.held ≡ Some held → row_outcome row held ≡ Ok answer) → (o : Option OutputFile) → answer.file ≡ o → PutsFile before after o put
+    → MatchOption (target_of row) (after.held ≡ before.held) (KeepsOthers before.held after.held)
+puts-changes row answer before after put wanted None is puts = same-changes (target_of row) before after puts.0
+puts-changes row answer before after put wanted (Some file) is puts = told-changes row answer file before.held after.held wanted is puts.1
+
+module _ (before after : Disk) where
+  pub puts-file : (file : Option OutputFile) (done : Unit {0}) → PutsFile before after file (Ok done) → WritesFile before after file
+  puts-file None done puts = ap (λ (d : Disk). d.held) puts.0
+  puts-file (Some file) done puts = (puts.0.1, puts.1)
+
+  pub puts-count : (file : Option OutputFile) (done : Unit {0}) → PutsFile before after file (Ok done) → after.writes ≡ before.writes
+  puts-count None done puts = ap (λ (d : Disk). d.writes) puts.0
+  puts-count (Some file) done puts = puts.0.0
+
+  pub fails-rising : (file : Option OutputFile) → PutsFile before after file (Err file_fault.Failed) → Rises before.writes after.writes
+  fails-rising None puts = absurd (let is = puts.1 in cc)
+  fails-rising (Some file) puts = puts.0.1
+
+  pub never-long : (file : Option OutputFile) → ¬ PutsFile before after file (Err file_fault.TooLong)
+  never-long None puts = absurd (let is = puts.1 in cc)
+  never-long (Some file) puts = puts.0
+
+  pub lacks-count : (file : Option OutputFile) → PutsFile before after file (Err file_fault.NoMemory) → after.writes ≡ before.writes
+  lacks-count None puts = absurd (let is = puts.1 in cc)
+  lacks-count (Some file) puts = puts.0.0
