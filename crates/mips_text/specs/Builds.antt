@@ -18,12 +18,12 @@ in_rows name [] = None
 in_rows name (row ∷ rows) = if bytes_eq name row.0 then Some row.1 else in_rows name rows
 
 -- no operand
-abbrev pub plain_rows : List Row
+unfoldable pub plain_rows : List Row
 plain_rows =
     (codes "xexit", Xexit) ∷ (codes "xsigret", Xsigret) ∷ (codes "xhalt", Xhalt) ∷ []
 
 -- one register
-abbrev pub register_rows : (a : ℕ) → List Row
+unfoldable pub register_rows : (a : ℕ) → List Row
 register_rows a =
     (codes "jr", Jr a) ∷ (codes "mfhi", Mfhi a) ∷ (codes "mthi", Mthi a) ∷ (codes "mflo", Mflo a) ∷
     (codes "mtlo", Mtlo a) ∷ (codes "xmvtn", Xmvtn a) ∷ (codes "xhand", Xhand a) ∷ (codes "xenter", Xenter a) ∷
@@ -31,13 +31,13 @@ register_rows a =
     (codes "xarg", Xarg a) ∷ (codes "xwho", Xwho a) ∷ []
 
 -- two registers
-abbrev pub two_registers_rows : (a b : ℕ) → List Row
+unfoldable pub two_registers_rows : (a b : ℕ) → List Row
 two_registers_rows a b =
     (codes "jalr", Jalr a b) ∷ (codes "mult", Mult a b) ∷ (codes "multu", Multu a b) ∷ (codes "div", Div a b) ∷
     (codes "divu", Divu a b) ∷ (codes "xmvfn", Xmvfn a b) ∷ (codes "xresume", Xresume a b) ∷ (codes "xunmap", Xunmap a b) ∷ []
 
 -- three registers
-abbrev pub three_registers_rows : (a b c : ℕ) → List Row
+unfoldable pub three_registers_rows : (a b c : ℕ) → List Row
 three_registers_rows a b c =
     (codes "sllv", Sllv a b c) ∷ (codes "srlv", Srlv a b c) ∷ (codes "srav", Srav a b c) ∷ (codes "add", Add a b c) ∷
     (codes "addu", Addu a b c) ∷ (codes "sub", Sub a b c) ∷ (codes "subu", Subu a b c) ∷ (codes "and", And a b c) ∷
@@ -46,27 +46,27 @@ three_registers_rows a b c =
     (codes "xmap", Xmap a b c) ∷ []
 
 -- two registers and a shift amount
-abbrev pub shift_rows : (a b amount : ℕ) → List Row
+unfoldable pub shift_rows : (a b amount : ℕ) → List Row
 shift_rows a b amount =
     (codes "sll", Sll a b amount) ∷ (codes "srl", Srl a b amount) ∷ (codes "sra", Sra a b amount) ∷ []
 
 -- two registers and an immediate with its sign
-abbrev pub signed_rows : (a b imm : ℕ) → List Row
+unfoldable pub signed_rows : (a b imm : ℕ) → List Row
 signed_rows a b imm =
     (codes "addi", Addi a b imm) ∷ (codes "addiu", Addiu a b imm) ∷ (codes "slti", Slti a b imm) ∷ (codes "sltiu", Sltiu a b imm) ∷ []
 
 -- two registers and an immediate without a sign
-abbrev pub unsigned_rows : (a b imm : ℕ) → List Row
+unfoldable pub unsigned_rows : (a b imm : ℕ) → List Row
 unsigned_rows a b imm =
     (codes "andi", Andi a b imm) ∷ (codes "ori", Ori a b imm) ∷ (codes "xori", Xori a b imm) ∷ []
 
 -- a register and an immediate without a sign
-abbrev pub upper_rows : (a imm : ℕ) → List Row
+unfoldable pub upper_rows : (a imm : ℕ) → List Row
 upper_rows a imm =
     (codes "lui", Lui a imm) ∷ []
 
 -- a register, and an offset from a base register
-abbrev pub access_rows : (a imm base : ℕ) → List Row
+unfoldable pub access_rows : (a imm base : ℕ) → List Row
 access_rows a imm base =
     (codes "lb", Lb a imm base) ∷ (codes "lh", Lh a imm base) ∷ (codes "lwl", Lwl a imm base) ∷ (codes "lw", Lw a imm base) ∷
     (codes "lbu", Lbu a imm base) ∷ (codes "lhu", Lhu a imm base) ∷ (codes "lwr", Lwr a imm base) ∷ (codes "sb", Sb a imm base) ∷
@@ -74,23 +74,23 @@ access_rows a imm base =
     (codes "xlwn", Xlwn a imm base) ∷ (codes "xswn", Xswn a imm base) ∷ []
 
 -- two registers and a branch target
-abbrev pub compare_rows : (a b imm : ℕ) → List Row
+unfoldable pub compare_rows : (a b imm : ℕ) → List Row
 compare_rows a b imm =
     (codes "beq", Beq a b imm) ∷ (codes "bne", Bne a b imm) ∷ []
 
 -- a register and a branch target
-abbrev pub test_rows : (a imm : ℕ) → List Row
+unfoldable pub test_rows : (a imm : ℕ) → List Row
 test_rows a imm =
     (codes "bltz", Bltz a imm) ∷ (codes "bgez", Bgez a imm) ∷ (codes "bltzal", Bltzal a imm) ∷ (codes "bgezal", Bgezal a imm) ∷
     (codes "blez", Blez a imm) ∷ (codes "bgtz", Bgtz a imm) ∷ []
 
 -- a jump target
-abbrev pub jump_rows : (index : ℕ) → List Row
+unfoldable pub jump_rows : (index : ℕ) → List Row
 jump_rows index =
     (codes "j", J index) ∷ (codes "jal", Jal index) ∷ []
 
 -- a code
-abbrev pub coded_rows : (code : ℕ) → List Row
+unfoldable pub coded_rows : (code : ℕ) → List Row
 coded_rows code =
     (codes "syscall", Syscall code) ∷ (codes "break", Break code) ∷ []
 

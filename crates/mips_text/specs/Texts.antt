@@ -1,6 +1,6 @@
 -- Instructions and images as text. Numbers are printed in decimal, with a sign where they have one, and
 -- addresses and words in hexadecimal; the layout of a listing is this project's own.
-use Rattle.std.specs.Prelude.{ℕ, ◌+◌, ◌*◌, ◌/◌, List, [], ◌∷◌, ◌++◌, length, map, codes, Option, Some, None, slice_index, ℤ, pos}
+use Rattle.std.specs.Prelude.{ℕ, zero, suc, ◌+◌, ◌*◌, ◌/◌, List, [], ◌∷◌, ◌++◌, length, map, codes, Option, Some, None, slice_index, ℤ, pos}
 use Rattle.std.specs.Fmt.{decimal, signed_decimal}
 use Rattle.std.specs.Int.{w32, to_be_bytes, from_be_bytes}
 use Rattle.hex.specs.Hex.{encode_lower}
@@ -33,6 +33,10 @@ register_text reg = codes "$" ++ decimal reg
 abbrev pub address_text : ℕ → List ℕ
 address_text address = codes "0x" ++ hex8 address
 
+-- an offset, and its base register in parentheses
+abbrev pub offset_text : (imm base : ℕ) → List ℕ
+offset_text imm base = signed_decimal (signed_16 imm) ++ (codes "(" ++ (register_text base ++ codes ")"))
+
 abbrev pub operand_text : ℕ → Operand → List ℕ
 operand_text pc (Register reg) = register_text reg
 operand_text pc (Shift amount) = decimal amount
@@ -41,7 +45,7 @@ operand_text pc (Unsigned imm) = decimal imm
 operand_text pc (Code code) = decimal code
 operand_text pc (Branch imm) = address_text (target (after pc) imm)
 operand_text pc (Jump index) = address_text (jump_target (after pc) index)
-operand_text pc (Offset imm base) = signed_decimal (signed_16 imm) ++ (codes "(" ++ (register_text base ++ codes ")"))
+operand_text pc (Offset imm base) = offset_text imm base
 
 -- the texts, with a comma and a space between them
 abbrev pub joined : List (List ℕ) → List ℕ
@@ -49,14 +53,14 @@ joined [] = []
 joined (text ∷ []) = text
 joined (text ∷ next ∷ texts) = text ++ (codes ", " ++ joined (next ∷ texts))
 
--- a mnemonic and its operands, if any, behind a space
-abbrev pub form_text : List ℕ → List (List ℕ) → List ℕ
-form_text name [] = name
-form_text name (operand ∷ operands) = name ++ (codes " " ++ joined (operand ∷ operands))
+-- the operands, if any, behind a space
+abbrev pub operands_text : List (List ℕ) → List ℕ
+operands_text [] = []
+operands_text (text ∷ texts) = codes " " ++ joined (text ∷ texts)
 
 -- the text of the instruction at an address, with all its operands
 unfoldable pub text_of : Ins → ℕ → List ℕ
-text_of ins pc = form_text (form_of ins).0 (map (operand_text pc) (form_of ins).1)
+text_of ins pc = (form_of ins).0 ++ operands_text (map (operand_text pc) (form_of ins).1)
 
 -- ---- Listings
 
@@ -65,14 +69,17 @@ abbrev pub word_at : List ℕ → ℕ → ℕ
 word_at bytes address =
     from_be_bytes w32 (slice_index bytes address ∷ slice_index bytes (address + 1) ∷ slice_index bytes (address + 2) ∷ slice_index bytes (address + 3) ∷ [])
 
--- what a word stands for: the instruction, or the word itself where it is reserved
-abbrev pub meaning_text : Option Ins → (word pc : ℕ) → List ℕ
-meaning_text (Some ins) word pc = text_of ins pc
-meaning_text None word pc = codes ".word " ++ address_text word
+-- the instruction that was read of a word, or the word itself where it is reserved
+abbrev pub read_text : Option Ins → (word pc : ℕ) → List ℕ
+read_text (Some ins) word pc = text_of ins pc
+read_text None word pc = codes ".word " ++ address_text word
+
+abbrev pub word_text : (word pc : ℕ) → List ℕ
+word_text word pc = read_text (read word) word pc
 
 -- a line: the address, the word, and what it stands for
 unfoldable pub line_of : (address word : ℕ) → List ℕ
-line_of address word = hex8 address ++ (codes " " ++ (hex8 word ++ (codes " " ++ (meaning_text (read word) word address ++ 10 ∷ []))))
+line_of address word = hex8 address ++ (codes " " ++ (hex8 word ++ (codes " " ++ (word_text word address ++ 10 ∷ []))))
 
 -- the lines of so many words of an image, from its start
 abbrev pub lines_of : List ℕ → ℕ → List ℕ

@@ -17,10 +17,17 @@ pub fn build(name: &[u8], operands: &[Operand]) -> Option<Ins>
 
 /// The kinds of the operands that a mnemonic takes, in the order of the text, and None where no
 /// instruction has that mnemonic.
-#[tactic(auto, unfolding(crate::specs::Builds::kinds_of, crate::specs::Builds::rows_of))]
 pub fn kinds(name: &[u8]) -> Option<&'static [OperandKind]>
     ensures exact { MatchOption result (IsNoMnemonic name.now) (λ shape. Takes name.now shape.now) }
     ensures value { MatchOption result (kinds_of name.now ≡ None) (λ shape. kinds_of name.now ≡ Some shape.now) }
+{
+    found_kinds(name)
+}
+
+/// The kinds of the tables in which this mnemonic stands.
+#[tactic(auto, unfolding(crate::specs::Builds::kinds_of, crate::specs::Builds::rows_of))]
+fn found_kinds(name: &[u8]) -> Option<&'static [OperandKind]>
+    ensures { MatchOption result (kinds_of name.now ≡ None) (λ shape. kinds_of name.now ≡ Some shape.now) }
 {
     if plain(name).is_some() {
         Some(&[])
@@ -62,13 +69,33 @@ fn found(name: &[u8], operands: &[Operand]) -> Option<Ins>
         [] => plain(name),
         [Operand::Register(a)] => register(name, a),
         [Operand::Register(a), Operand::Register(b)] => two_registers(name, a, b),
-        [Operand::Register(a), Operand::Register(b), Operand::Register(c)] => three_registers(name, a, b, c),
-        [Operand::Register(a), Operand::Register(b), Operand::Shift(amount)] => shift(name, a, b, amount),
-        [Operand::Register(a), Operand::Register(b), Operand::Signed(imm)] => signed(name, a, b, imm),
-        [Operand::Register(a), Operand::Register(b), Operand::Unsigned(imm)] => unsigned(name, a, b, imm),
+        [
+            Operand::Register(a),
+            Operand::Register(b),
+            Operand::Register(c),
+        ] => three_registers(name, a, b, c),
+        [
+            Operand::Register(a),
+            Operand::Register(b),
+            Operand::Shift(amount),
+        ] => shift(name, a, b, amount),
+        [
+            Operand::Register(a),
+            Operand::Register(b),
+            Operand::Signed(imm),
+        ] => signed(name, a, b, imm),
+        [
+            Operand::Register(a),
+            Operand::Register(b),
+            Operand::Unsigned(imm),
+        ] => unsigned(name, a, b, imm),
         [Operand::Register(a), Operand::Unsigned(imm)] => upper(name, a, imm),
         [Operand::Register(a), Operand::Offset { imm, base }] => access(name, a, imm, base),
-        [Operand::Register(a), Operand::Register(b), Operand::Branch(imm)] => compare(name, a, b, imm),
+        [
+            Operand::Register(a),
+            Operand::Register(b),
+            Operand::Branch(imm),
+        ] => compare(name, a, b, imm),
         [Operand::Register(a), Operand::Branch(imm)] => test(name, a, imm),
         [Operand::Jump(index)] => jump(name, index),
         [Operand::Code(code)] => coded(name, code),
@@ -77,6 +104,7 @@ fn found(name: &[u8], operands: &[Operand]) -> Option<Ins>
 }
 
 /// No operand.
+#[tactic(auto, unfolding(crate::specs::Builds::plain_rows))]
 fn plain(name: &[u8]) -> Option<Ins>
     ensures { result ≡ in_rows name.now plain_rows }
 {
@@ -92,6 +120,7 @@ fn plain(name: &[u8]) -> Option<Ins>
 }
 
 /// One register.
+#[tactic(auto, unfolding(crate::specs::Builds::register_rows))]
 fn register(name: &[u8], a: u8) -> Option<Ins>
     ensures { result ≡ in_rows name.now (register_rows a) }
 {
@@ -129,6 +158,7 @@ fn register(name: &[u8], a: u8) -> Option<Ins>
 }
 
 /// Two registers.
+#[tactic(auto, unfolding(crate::specs::Builds::two_registers_rows))]
 fn two_registers(name: &[u8], a: u8, b: u8) -> Option<Ins>
     ensures { result ≡ in_rows name.now (two_registers_rows a b) }
 {
@@ -154,64 +184,147 @@ fn two_registers(name: &[u8], a: u8, b: u8) -> Option<Ins>
 }
 
 /// Three registers.
+#[tactic(auto, unfolding(crate::specs::Builds::three_registers_rows))]
 fn three_registers(name: &[u8], a: u8, b: u8, c: u8) -> Option<Ins>
     ensures { result ≡ in_rows name.now (three_registers_rows a b c) }
 {
     if name == b"sllv".as_slice() {
-        Some(Ins::Sllv { rd: a, rt: b, rs: c })
+        Some(Ins::Sllv {
+            rd: a,
+            rt: b,
+            rs: c,
+        })
     } else if name == b"srlv".as_slice() {
-        Some(Ins::Srlv { rd: a, rt: b, rs: c })
+        Some(Ins::Srlv {
+            rd: a,
+            rt: b,
+            rs: c,
+        })
     } else if name == b"srav".as_slice() {
-        Some(Ins::Srav { rd: a, rt: b, rs: c })
+        Some(Ins::Srav {
+            rd: a,
+            rt: b,
+            rs: c,
+        })
     } else if name == b"add".as_slice() {
-        Some(Ins::Add { rd: a, rs: b, rt: c })
+        Some(Ins::Add {
+            rd: a,
+            rs: b,
+            rt: c,
+        })
     } else if name == b"addu".as_slice() {
-        Some(Ins::Addu { rd: a, rs: b, rt: c })
+        Some(Ins::Addu {
+            rd: a,
+            rs: b,
+            rt: c,
+        })
     } else if name == b"sub".as_slice() {
-        Some(Ins::Sub { rd: a, rs: b, rt: c })
+        Some(Ins::Sub {
+            rd: a,
+            rs: b,
+            rt: c,
+        })
     } else if name == b"subu".as_slice() {
-        Some(Ins::Subu { rd: a, rs: b, rt: c })
+        Some(Ins::Subu {
+            rd: a,
+            rs: b,
+            rt: c,
+        })
     } else if name == b"and".as_slice() {
-        Some(Ins::And { rd: a, rs: b, rt: c })
+        Some(Ins::And {
+            rd: a,
+            rs: b,
+            rt: c,
+        })
     } else if name == b"or".as_slice() {
-        Some(Ins::Or { rd: a, rs: b, rt: c })
+        Some(Ins::Or {
+            rd: a,
+            rs: b,
+            rt: c,
+        })
     } else if name == b"xor".as_slice() {
-        Some(Ins::Xor { rd: a, rs: b, rt: c })
+        Some(Ins::Xor {
+            rd: a,
+            rs: b,
+            rt: c,
+        })
     } else if name == b"nor".as_slice() {
-        Some(Ins::Nor { rd: a, rs: b, rt: c })
+        Some(Ins::Nor {
+            rd: a,
+            rs: b,
+            rt: c,
+        })
     } else if name == b"slt".as_slice() {
-        Some(Ins::Slt { rd: a, rs: b, rt: c })
+        Some(Ins::Slt {
+            rd: a,
+            rs: b,
+            rt: c,
+        })
     } else if name == b"sltu".as_slice() {
-        Some(Ins::Sltu { rd: a, rs: b, rt: c })
+        Some(Ins::Sltu {
+            rd: a,
+            rs: b,
+            rt: c,
+        })
     } else if name == b"xinstall".as_slice() {
-        Some(Ins::Xinstall { rs: a, rt: b, rd: c })
+        Some(Ins::Xinstall {
+            rs: a,
+            rt: b,
+            rd: c,
+        })
     } else if name == b"xsave".as_slice() {
-        Some(Ins::Xsave { rs: a, rt: b, rd: c })
+        Some(Ins::Xsave {
+            rs: a,
+            rt: b,
+            rd: c,
+        })
     } else if name == b"xrestore".as_slice() {
-        Some(Ins::Xrestore { rs: a, rt: b, rd: c })
+        Some(Ins::Xrestore {
+            rs: a,
+            rt: b,
+            rd: c,
+        })
     } else if name == b"xmap".as_slice() {
-        Some(Ins::Xmap { rs: a, rt: b, rd: c })
+        Some(Ins::Xmap {
+            rs: a,
+            rt: b,
+            rd: c,
+        })
     } else {
         None
     }
 }
 
 /// Two registers and a shift amount.
+#[tactic(auto, unfolding(crate::specs::Builds::shift_rows))]
 fn shift(name: &[u8], a: u8, b: u8, amount: u8) -> Option<Ins>
     ensures { result ≡ in_rows name.now (shift_rows a b amount) }
 {
     if name == b"sll".as_slice() {
-        Some(Ins::Sll { rd: a, rt: b, sa: amount })
+        Some(Ins::Sll {
+            rd: a,
+            rt: b,
+            sa: amount,
+        })
     } else if name == b"srl".as_slice() {
-        Some(Ins::Srl { rd: a, rt: b, sa: amount })
+        Some(Ins::Srl {
+            rd: a,
+            rt: b,
+            sa: amount,
+        })
     } else if name == b"sra".as_slice() {
-        Some(Ins::Sra { rd: a, rt: b, sa: amount })
+        Some(Ins::Sra {
+            rd: a,
+            rt: b,
+            sa: amount,
+        })
     } else {
         None
     }
 }
 
 /// Two registers and an immediate with its sign.
+#[tactic(auto, unfolding(crate::specs::Builds::signed_rows))]
 fn signed(name: &[u8], a: u8, b: u8, imm: u16) -> Option<Ins>
     ensures { result ≡ in_rows name.now (signed_rows a b imm) }
 {
@@ -229,6 +342,7 @@ fn signed(name: &[u8], a: u8, b: u8, imm: u16) -> Option<Ins>
 }
 
 /// Two registers and an immediate without a sign.
+#[tactic(auto, unfolding(crate::specs::Builds::unsigned_rows))]
 fn unsigned(name: &[u8], a: u8, b: u8, imm: u16) -> Option<Ins>
     ensures { result ≡ in_rows name.now (unsigned_rows a b imm) }
 {
@@ -244,6 +358,7 @@ fn unsigned(name: &[u8], a: u8, b: u8, imm: u16) -> Option<Ins>
 }
 
 /// A register and an immediate without a sign.
+#[tactic(auto, unfolding(crate::specs::Builds::upper_rows))]
 fn upper(name: &[u8], a: u8, imm: u16) -> Option<Ins>
     ensures { result ≡ in_rows name.now (upper_rows a imm) }
 {
@@ -255,43 +370,101 @@ fn upper(name: &[u8], a: u8, imm: u16) -> Option<Ins>
 }
 
 /// A register, and an offset from a base register.
+#[tactic(auto, unfolding(crate::specs::Builds::access_rows))]
 fn access(name: &[u8], a: u8, imm: u16, base: u8) -> Option<Ins>
     ensures { result ≡ in_rows name.now (access_rows a imm base) }
 {
     if name == b"lb".as_slice() {
-        Some(Ins::Lb { rt: a, imm, rs: base })
+        Some(Ins::Lb {
+            rt: a,
+            imm,
+            rs: base,
+        })
     } else if name == b"lh".as_slice() {
-        Some(Ins::Lh { rt: a, imm, rs: base })
+        Some(Ins::Lh {
+            rt: a,
+            imm,
+            rs: base,
+        })
     } else if name == b"lwl".as_slice() {
-        Some(Ins::Lwl { rt: a, imm, rs: base })
+        Some(Ins::Lwl {
+            rt: a,
+            imm,
+            rs: base,
+        })
     } else if name == b"lw".as_slice() {
-        Some(Ins::Lw { rt: a, imm, rs: base })
+        Some(Ins::Lw {
+            rt: a,
+            imm,
+            rs: base,
+        })
     } else if name == b"lbu".as_slice() {
-        Some(Ins::Lbu { rt: a, imm, rs: base })
+        Some(Ins::Lbu {
+            rt: a,
+            imm,
+            rs: base,
+        })
     } else if name == b"lhu".as_slice() {
-        Some(Ins::Lhu { rt: a, imm, rs: base })
+        Some(Ins::Lhu {
+            rt: a,
+            imm,
+            rs: base,
+        })
     } else if name == b"lwr".as_slice() {
-        Some(Ins::Lwr { rt: a, imm, rs: base })
+        Some(Ins::Lwr {
+            rt: a,
+            imm,
+            rs: base,
+        })
     } else if name == b"sb".as_slice() {
-        Some(Ins::Sb { rt: a, imm, rs: base })
+        Some(Ins::Sb {
+            rt: a,
+            imm,
+            rs: base,
+        })
     } else if name == b"sh".as_slice() {
-        Some(Ins::Sh { rt: a, imm, rs: base })
+        Some(Ins::Sh {
+            rt: a,
+            imm,
+            rs: base,
+        })
     } else if name == b"swl".as_slice() {
-        Some(Ins::Swl { rt: a, imm, rs: base })
+        Some(Ins::Swl {
+            rt: a,
+            imm,
+            rs: base,
+        })
     } else if name == b"sw".as_slice() {
-        Some(Ins::Sw { rt: a, imm, rs: base })
+        Some(Ins::Sw {
+            rt: a,
+            imm,
+            rs: base,
+        })
     } else if name == b"swr".as_slice() {
-        Some(Ins::Swr { rt: a, imm, rs: base })
+        Some(Ins::Swr {
+            rt: a,
+            imm,
+            rs: base,
+        })
     } else if name == b"xlwn".as_slice() {
-        Some(Ins::Xlwn { rt: a, imm, rs: base })
+        Some(Ins::Xlwn {
+            rt: a,
+            imm,
+            rs: base,
+        })
     } else if name == b"xswn".as_slice() {
-        Some(Ins::Xswn { rt: a, imm, rs: base })
+        Some(Ins::Xswn {
+            rt: a,
+            imm,
+            rs: base,
+        })
     } else {
         None
     }
 }
 
 /// Two registers and a branch target.
+#[tactic(auto, unfolding(crate::specs::Builds::compare_rows))]
 fn compare(name: &[u8], a: u8, b: u8, imm: u16) -> Option<Ins>
     ensures { result ≡ in_rows name.now (compare_rows a b imm) }
 {
@@ -305,6 +478,7 @@ fn compare(name: &[u8], a: u8, b: u8, imm: u16) -> Option<Ins>
 }
 
 /// A register and a branch target.
+#[tactic(auto, unfolding(crate::specs::Builds::test_rows))]
 fn test(name: &[u8], a: u8, imm: u16) -> Option<Ins>
     ensures { result ≡ in_rows name.now (test_rows a imm) }
 {
@@ -326,6 +500,7 @@ fn test(name: &[u8], a: u8, imm: u16) -> Option<Ins>
 }
 
 /// A jump target.
+#[tactic(auto, unfolding(crate::specs::Builds::jump_rows))]
 fn jump(name: &[u8], index: u32) -> Option<Ins>
     ensures { result ≡ in_rows name.now (jump_rows index) }
 {
@@ -339,6 +514,7 @@ fn jump(name: &[u8], index: u32) -> Option<Ins>
 }
 
 /// A code.
+#[tactic(auto, unfolding(crate::specs::Builds::coded_rows))]
 fn coded(name: &[u8], code: u32) -> Option<Ins>
     ensures { result ≡ in_rows name.now (coded_rows code) }
 {

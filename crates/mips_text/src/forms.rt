@@ -141,7 +141,11 @@ fn three_registers(name: &'static str, a: u8, b: u8, c: u8) -> TextForm
 {
     TextForm {
         name,
-        operands: Operands::Three(Operand::Register(a), Operand::Register(b), Operand::Register(c)),
+        operands: Operands::Three(
+            Operand::Register(a),
+            Operand::Register(b),
+            Operand::Register(c),
+        ),
     }
 }
 
@@ -152,7 +156,11 @@ fn shift(name: &'static str, a: u8, b: u8, amount: u8) -> TextForm
 {
     TextForm {
         name,
-        operands: Operands::Three(Operand::Register(a), Operand::Register(b), Operand::Shift(amount)),
+        operands: Operands::Three(
+            Operand::Register(a),
+            Operand::Register(b),
+            Operand::Shift(amount),
+        ),
     }
 }
 
@@ -163,7 +171,11 @@ fn signed(name: &'static str, a: u8, b: u8, imm: u16) -> TextForm
 {
     TextForm {
         name,
-        operands: Operands::Three(Operand::Register(a), Operand::Register(b), Operand::Signed(imm)),
+        operands: Operands::Three(
+            Operand::Register(a),
+            Operand::Register(b),
+            Operand::Signed(imm),
+        ),
     }
 }
 
@@ -174,7 +186,11 @@ fn unsigned(name: &'static str, a: u8, b: u8, imm: u16) -> TextForm
 {
     TextForm {
         name,
-        operands: Operands::Three(Operand::Register(a), Operand::Register(b), Operand::Unsigned(imm)),
+        operands: Operands::Three(
+            Operand::Register(a),
+            Operand::Register(b),
+            Operand::Unsigned(imm),
+        ),
     }
 }
 
@@ -207,7 +223,11 @@ fn compare(name: &'static str, a: u8, b: u8, imm: u16) -> TextForm
 {
     TextForm {
         name,
-        operands: Operands::Three(Operand::Register(a), Operand::Register(b), Operand::Branch(imm)),
+        operands: Operands::Three(
+            Operand::Register(a),
+            Operand::Register(b),
+            Operand::Branch(imm),
+        ),
     }
 }
 

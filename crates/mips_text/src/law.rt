@@ -3,7 +3,6 @@ ghost use Rattle.mips_text.specs.FormLaws.{FormsDiffer, KindsOfForms, OperandsFi
 /// Laws and no code: two instructions with one mnemonic and the same operands are the same; a
 /// mnemonic takes operands of the same kinds wherever it stands; the operands of an instruction
 /// that fits its word fit their fields.
-#[tactic(auto, using(crate::proofs::FormTable::forms_differ, crate::proofs::FormTable::kinds_of_forms, crate::proofs::FormTable::operands_fit))]
 pub fn forms_are_exact()
     ensures differ { FormsDiffer }
     ensures kinds { KindsOfForms }

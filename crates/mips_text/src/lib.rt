@@ -12,7 +12,9 @@ mod form_tests;
 mod forms;
 mod law;
 mod operand;
+mod pieces;
 mod printing;
+mod targets;
 
 pub use building::{build, kinds};
 pub use disassembly::listing;
