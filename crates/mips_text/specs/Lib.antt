@@ -1,0 +1,4 @@
+pub mod Builds
+pub mod FormLaws
+pub mod Forms
+pub mod Texts
