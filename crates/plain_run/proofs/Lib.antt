@@ -1,0 +1,3 @@
+pub mod ReceivedLaws
+pub mod Steps
+pub mod RunLaws
