@@ -40,7 +40,9 @@ tells : Tells value_step (Rows IsValue)
 tells = Tells-rows value_of IsValue value_exact value_nothing
 
 alone_ok : (read : Result (List ℕ × Unit {0}) ℕ) (values : List ℕ) → values_alone read ≡ Ok values → read ≡ Ok (values, tt)
-alone_ok (Ok read) values h = cc
+alone_ok (Ok read) values h =
+    let same : read.0 ≡ values = cc in
+    ap (λ (values : List ℕ). Ok (values, tt)) same
 alone_ok (Err bad) values h = cc
 
 alone_err : (read : Result (List ℕ × Unit {0}) ℕ) (bad : ℕ) → values_alone read ≡ Err bad → read ≡ Err bad

@@ -65,6 +65,10 @@ end_text ending.Steps = codes "steps"
 end_text (ending.Fault fault) = codes "fault " ++ fault_text fault
 end_text ending.Waiting = codes "waiting"
 
+-- a text with the lines of a run's steps behind it, and why the run stopped
+abbrev pub behind : List ℕ → Run → List ℕ × PlainEnd
+behind text run = (text ++ flat_map step_line run.steps, run.end)
+
 -- the lines of a run: its steps, and behind them why it stopped
 abbrev pub lines_text : Run → List ℕ
 lines_text run = flat_map step_line run.steps ++ (end_text run.end ++ 10 ∷ [])

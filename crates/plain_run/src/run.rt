@@ -1,6 +1,6 @@
 ghost use Rattle.std.specs.Prelude.{◌≡◌, ◌++◌, ◌∷◌, [], List, ℕ, codes, IfOk, OnOk};
 ghost use Rattle.mips_plain.specs.Machine.{start};
-ghost use Rattle.plain_run.specs.Runs.{Next, end_text, lines_text, next as next_of, run_from, run_text, step_line};
+ghost use Rattle.plain_run.specs.Runs.{Next, behind, end_text, lines_text, next as next_of, run_from, run_text, step_line};
 ghost use Rattle.std.specs.List.{flat_map};
 ghost use Rattle.step_text.specs.StepTexts.{fault_text};
 
@@ -37,8 +37,7 @@ fn push_run(
     steps: u64,
     received: &[u32],
 ) -> Result<PlainEnd, NoMemory>
-    ensures { IfOk result (λ end. let run = run_from steps plain.old received.now in
-        (end ≡ run.end) × (text.new.items ≡ text.old.items ++ flat_map step_line run.steps)) }
+    ensures { IfOk result (λ end. (text.new.items, end) ≡ behind text.old.items (run_from steps plain.old received.now)) }
 {
     let mut left = steps;
     let mut values = received;
