@@ -5,7 +5,6 @@ use Rattle.xom_base.specs.declared.step.Step.{Step}
 use Rattle.mips_plain.specs.declared.given.PlainStep.{PlainStep}
 use Rattle.mips_plain.specs.declared.given.PlainStep.TheVariants.{Did}
 use Rattle.mips_plain.specs.Machine.{State}
-use Rattle.plain_run.specs.Laws.{OneRun, RunsAlone}
 use Rattle.plain_run.specs.Runs.{Next, Run, behind, goes_on, next, run_from, step_line, stops}
 use Rattle.plain_run.specs.declared.ending.PlainEnd.{PlainEnd}
 use Rattle.plain_run.specs.declared.ending.PlainEnd.TheVariants as ending
@@ -43,8 +42,3 @@ pub went_on : {total : List ℕ × PlainEnd} (text new : List ℕ) (step : Step)
     → new ≡ text ++ step_line step → run ≡ goes_on (Did step) rest → behind text run ≡ total → behind new rest ≡ total
 went_on text new step rest {run} added is whole =
     ap (λ (t : List ℕ). behind t rest) added ∙ (behind-step text step rest ∙ (ap (behind text) (sym is) ∙ whole))
-
-pub runs_alone : RunsAlone
-runs_alone = ?
-pub one_run : OneRun
-one_run = ?
