@@ -1,0 +1,4 @@
+pub mod ReceivedLaws
+pub mod Steps
+pub mod RunLaws
+pub mod AloneLaws
