@@ -4,9 +4,10 @@ use Rattle.xom_cli.specs.declared.answer.Answer.{Answer}
 use Rattle.xom_cli.specs.declared.answer.OutputFile.{OutputFile}
 use Rattle.xom_cli.specs.declared.refusal.Refusal.{Refusal}
 use Rattle.xom_cli.specs.declared.trace.Parts.{Parts}
-use Rattle.xom_cli.specs.Inputs.{◌>>=◌, Held}
+use Rattle.xom_cli.specs.Inputs.{◌>>=◌, Held, image_of}
 use Rattle.xom_cli.specs.Outcome.{row_outcome}
-use Rattle.xom_cli.specs.Rows.{Row, Trace, target_of}
+use Rattle.xom_cli.specs.Programs.{disasm_of, plain_of, prints, values_of}
+use Rattle.xom_cli.specs.Rows.{Row, Disasm, Plain, Trace, target_of}
 use Rattle.xom_cli.specs.Trace.{parts_of, trace_of, traced}
 
 -- where two steps answer, the first did, and the second of what it gave
@@ -25,8 +26,22 @@ traced-file : (parts : Parts) → (traced parts).file ≡ None
 unfolding traced
 traced-file parts = refl
 
-pub target-written : (row : Row) (held : Held) (answer : Answer) (file : OutputFile) → row_outcome row held ≡ Ok answer → answer.file ≡ Some file → target_of row ≡ Some file.name
-target-written (Trace run) held answer file is written =
+trace-file : (held : Held) (run : List ℕ) (answer : Answer) → trace_of held run ≡ Ok answer → answer.file ≡ None
+trace-file held run answer is =
     let found = trace-answer held run answer is in
-    let none : answer.file ≡ None = ap (λ (a : Answer). a.file) found.2 ∙ traced-file found.0 in
-    absurd (cc)
+    ap (λ (a : Answer). a.file) found.2 ∙ traced-file found.0
+
+disasm-file : (held : Held) (image : List ℕ) (answer : Answer) → disasm_of held image ≡ Ok answer → answer.file ≡ None
+unfolding disasm_of
+disasm-file held image answer is = let last = (bind-ok (image_of held image) _ answer is).2 in cc
+
+plain-file : (held : Held) (image : List ℕ) (steps : ℕ) (received : Option (List ℕ)) (answer : Answer) → plain_of held image steps received ≡ Ok answer → answer.file ≡ None
+unfolding plain_of
+plain-file held image steps received answer is =
+    let read = (bind-ok (image_of held image) _ answer is).2 in
+    let last = (bind-ok (values_of held received) _ answer read).2 in cc
+
+pub target-written : (row : Row) (held : Held) (answer : Answer) (file : OutputFile) → row_outcome row held ≡ Ok answer → answer.file ≡ Some file → target_of row ≡ Some file.name
+target-written (Disasm image) held answer file is written = let none = disasm-file held image answer is in absurd (cc)
+target-written (Plain image steps received) held answer file is written = let none = plain-file held image steps received answer is in absurd (cc)
+target-written (Trace run) held answer file is written = let none = trace-file held run answer is in absurd (cc)

@@ -6,9 +6,10 @@ use Rattle.xom_cli.specs.declared.refusal.InputFault.{InputFault}
 use Rattle.xom_cli.specs.declared.refusal.InputFault.TheVariants.{TooLong}
 use Rattle.xom_cli.specs.declared.refusal.Refusal.{Refusal}
 use Rattle.xom_cli.specs.declared.refusal.Refusal.TheVariants.{Unread, Bad}
-use Rattle.xom_cli.specs.Inputs.{◌>>=◌, Held, fetched, fetched_bytes, image_of, in_file, input_of, run_file_of, script_of}
+use Rattle.xom_cli.specs.Inputs.{◌>>=◌, Held, fetched, fetched_bytes, image_of, in_file, input_of, received_of, run_file_of, script_of}
 use Rattle.xom_cli.specs.Outcome.{row_outcome}
-use Rattle.xom_cli.specs.Rows.{Row, Trace}
+use Rattle.xom_cli.specs.Programs.{disasm_of, plain_of, values_of}
+use Rattle.xom_cli.specs.Rows.{Row, Disasm, Plain, Trace}
 use Rattle.xom_cli.specs.Trace.{parts_of, trace_of, traced}
 
 -- where a step and what follows it are refused, one of them is
@@ -47,6 +48,31 @@ script-unread : (held : Held) (n name : List ℕ) → script_of held n ≡ Err (
 unfolding script_of
 script-unread held n name is = input-unread _ _ held n name is
 
+received-unread : (held : Held) (n name : List ℕ) → received_of held n ≡ Err (Unread name) → held name ≡ None
+unfolding received_of
+received-unread held n name is = input-unread _ _ held n name is
+
+values-unread : (held : Held) (received : Option (List ℕ)) (name : List ℕ) → values_of held received ≡ Err (Unread name) → held name ≡ None
+values-unread held None name is = absurd (cc)
+values-unread held (Some n) name is = received-unread held n name is
+
+disasm-unread : (held : Held) (image name : List ℕ) → disasm_of held image ≡ Err (Unread name) → held name ≡ None
+unfolding disasm_of
+disasm-unread held image name is = elim (bind-err (image_of held image) _ (Unread name) is) [
+  | inl here ↦ image-unread held image name here
+  | inr read ↦ absurd (let last = read.2 in cc)
+]
+
+plain-unread : (held : Held) (image : List ℕ) (steps : ℕ) (received : Option (List ℕ)) (name : List ℕ) → plain_of held image steps received ≡ Err (Unread name) → held name ≡ None
+unfolding plain_of
+plain-unread held image steps received name is = elim (bind-err (image_of held image) _ (Unread name) is) [
+  | inl here ↦ image-unread held image name here
+  | inr read ↦ elim (bind-err (values_of held received) _ (Unread name) read.2) [
+    | inl here ↦ values-unread held received name here
+    | inr values ↦ absurd (let last = values.2 in cc)
+  ]
+]
+
 parts-unread : (held : Held) (run name : List ℕ) → parts_of held run ≡ Err (Unread name) → held name ≡ None
 unfolding parts_of
 parts-unread held run name is = elim (bind-err (run_file_of held run) _ (Unread name) is) [
@@ -60,9 +86,14 @@ parts-unread held run name is = elim (bind-err (run_file_of held run) _ (Unread 
   ]
 ]
 
-pub row-unread : (row : Row) (held : Held) (name : List ℕ) → row_outcome row held ≡ Err (Unread name) → held name ≡ None
+trace-unread : (held : Held) (run name : List ℕ) → trace_of held run ≡ Err (Unread name) → held name ≡ None
 unfolding trace_of
-row-unread (Trace run) held name is = elim (bind-err (parts_of held run) _ (Unread name) is) [
+trace-unread held run name is = elim (bind-err (parts_of held run) _ (Unread name) is) [
   | inl here ↦ parts-unread held run name here
   | inr parts ↦ absurd (let last = parts.2 in cc)
 ]
+
+pub row-unread : (row : Row) (held : Held) (name : List ℕ) → row_outcome row held ≡ Err (Unread name) → held name ≡ None
+row-unread (Disasm image) held name is = disasm-unread held image name is
+row-unread (Plain image steps received) held name is = plain-unread held image steps received name is
+row-unread (Trace run) held name is = trace-unread held run name is

@@ -5,6 +5,7 @@ use Rattle.std.proofs.Common.{refl}
 use Rattle.std.proofs.lemmas.Bool.{eqb-true}
 use Rattle.xom_base.specs.declared.event.Op.{Op}
 use Rattle.xom_base.specs.declared.image.PlainImage.{PlainImage}
+use Rattle.plain_run.specs.Received.{received_at}
 use Rattle.xom_image.specs.PlainFiles.{plain_image_at}
 use Rattle.xom_script.specs.declared.run_file.RunFile.{RunFile}
 use Rattle.xom_script.specs.RunFiles.{run_file_at}
@@ -85,17 +86,25 @@ image_read (Err bad) = Err (BadByte bad)
 unfoldable pub image_at : List ℕ → Result PlainImage InputFault
 image_at bytes = image_read (plain_image_at bytes)
 
+-- what was read of a text, or its first bad line
+abbrev pub in_lines : {A : Type 0} → Result A ℕ → Result A InputFault
+in_lines (Ok value) = Ok value
+in_lines (Err line) = Err (BadLine line)
+
 -- what is in the form that is built
 abbrev pub in_form : {A : Type 0} → Option A → Result A InputFault
 in_form None = Err NotBuilt
 in_form (Some value) = Ok value
 
--- at most so many bytes are in a run file, a plain image file and a script
+-- at most so many bytes are in a run file, a plain image file, a received file and a script
 abbrev pub run_limit : ℕ
 run_limit = 65536
 
 abbrev pub image_limit : ℕ
 image_limit = 1048592
+
+abbrev pub received_limit : ℕ
+received_limit = 1048576
 
 abbrev pub script_limit : ℕ
 script_limit = 1048576
@@ -108,3 +117,7 @@ image_of = input_of image_limit image_at
 
 unfoldable pub script_of : Held → List ℕ → Result (List Op) Refusal
 script_of = input_of script_limit (λ text. in_form (script_at text))
+
+-- the values of a received file
+unfoldable pub received_of : Held → List ℕ → Result (List ℕ) Refusal
+received_of = input_of received_limit (λ text. in_lines (received_at text))

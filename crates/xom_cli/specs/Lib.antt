@@ -2,6 +2,7 @@ pub mod Rows
 pub mod Words
 pub mod Refusals
 pub mod Inputs
+pub mod Programs
 pub mod Trace
 pub mod Outcome
 pub mod Endings

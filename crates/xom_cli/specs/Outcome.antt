@@ -5,11 +5,14 @@ use Rattle.xom_cli.specs.declared.answer.OutputFile.{OutputFile}
 use Rattle.xom_cli.specs.declared.refusal.Refusal.{Refusal}
 use Rattle.xom_cli.specs.Inputs.{Held}
 use Rattle.xom_cli.specs.Refusals.{line_of, refusal_status, words_line}
-use Rattle.xom_cli.specs.Rows.{Row, Trace, row_of}
+use Rattle.xom_cli.specs.Programs.{disasm_of, plain_of}
+use Rattle.xom_cli.specs.Rows.{Row, Disasm, Plain, Trace, row_of}
 use Rattle.xom_cli.specs.Trace.{trace_of}
 
 -- the answer of a command, or why it wasn't carried out
 abbrev pub row_outcome : Row → Held → Result Answer Refusal
+row_outcome (Disasm image) held = disasm_of held image
+row_outcome (Plain image steps received) held = plain_of held image steps received
 row_outcome (Trace run) held = trace_of held run
 
 -- what is printed, the file that is written, if there is one, and the status

@@ -4,7 +4,9 @@ use Rattle.xom_io.specs.Answers.{Rises, Told}
 use Rattle.xom_script.specs.declared.fault.FormFault.{FormFault}
 use Rattle.xom_script.specs.declared.fault.FormFault.TheVariants as form_fault
 use Rattle.xom_cli.specs.declared.refusal.InputFault.{InputFault}
-use Rattle.xom_cli.specs.declared.refusal.InputFault.TheVariants.{NotBuilt}
+use Rattle.xom_base.specs.declared.lines.TextFault.{TextFault}
+use Rattle.xom_base.specs.declared.lines.TextFault.TheVariants as text_fault
+use Rattle.xom_cli.specs.declared.refusal.InputFault.TheVariants.{BadLine, NotBuilt}
 use Rattle.xom_cli.specs.declared.refusal.InputStop.{InputStop}
 use Rattle.xom_cli.specs.declared.refusal.InputStop.TheVariants as input_stop
 use Rattle.xom_cli.specs.declared.refusal.Refusal.{Refusal}
@@ -41,6 +43,12 @@ abbrev pub IsBuilt : {A : Type 0} → Result A FormFault → Result A InputStop 
 IsBuilt (Ok value) result = result ≡ Ok value
 IsBuilt (Err form_fault.NotBuilt) result = result ≡ Err (input_stop.Fault NotBuilt)
 IsBuilt (Err form_fault.NoMemory) result = result ≡ Err input_stop.NoMemory
+
+-- what the reader of a text in lines answered
+abbrev pub IsLined : {A : Type 0} → Result A TextFault → Result A InputStop → Type 0
+IsLined (Ok value) result = result ≡ Ok value
+IsLined (Err (text_fault.Line line)) result = result ≡ Err (input_stop.Fault (BadLine line))
+IsLined (Err text_fault.NoMemory) result = result ≡ Err input_stop.NoMemory
 
 -- what a reader answered, with the name of the file
 abbrev pub IsNamed : {A : Type 0} → List ℕ → Result A InputStop → Result A Stop → Type 0

@@ -1,16 +1,35 @@
 -- The words after the program's name, as a row of the table of commands.
-use Rattle.std.specs.Prelude.{◌≡◌, ℕ, Bool, List, [], ◌∷◌, Option, Some, None, codes, if◌then◌else◌}
+use Rattle.std.specs.Prelude.{◌≡◌, ℕ, ◌+◌, ◌^◌, Bool, List, [], ◌∷◌, Option, Some, None, codes, option_map, if◌then◌else◌}
 use Rattle.std.specs.Str.{bytes_eq}
+use Rattle.xom_base.specs.Numbers.{number_below_of}
 
 pub data Row : Type 0 where
+  -- prints the words of a plain image
+  Disasm : (image : List ℕ) → Row
+  -- runs a plain image alone, for at most so many steps, with a received file where one is named
+  Plain : (image : List ℕ) → (steps : ℕ) → (received : Option (List ℕ)) → Row
   -- makes the run of a run file and judges its journal
   Trace : (run : List ℕ) → Row
 
+-- at most so many steps are asked for
+abbrev pub most_steps : ℕ
+most_steps = 2 ^ 20
+
+-- the row of `plain`, where the word for the steps is such a number
+abbrev pub plain_row : List ℕ → List ℕ → Option (List ℕ) → Option Row
+plain_row image steps received = option_map (λ n. Plain image n received) (number_below_of (most_steps + 1) steps)
+
 -- the row that the words match, or none
 abbrev pub row_of : List (List ℕ) → Option Row
-row_of (command ∷ run ∷ []) = if bytes_eq command (codes "trace") then Some (Trace run) else None
+row_of (command ∷ a ∷ []) =
+    if bytes_eq command (codes "disasm") then Some (Disasm a)
+    else (if bytes_eq command (codes "trace") then Some (Trace a) else None)
+row_of (command ∷ a ∷ b ∷ []) = if bytes_eq command (codes "plain") then plain_row a b None else None
+row_of (command ∷ a ∷ b ∷ c ∷ []) = if bytes_eq command (codes "plain") then plain_row a b (Some c) else None
 row_of other = None
 
 -- the file that a row's command writes, if it writes one
 abbrev pub target_of : Row → Option (List ℕ)
+target_of (Disasm image) = None
+target_of (Plain image steps received) = None
 target_of (Trace run) = None

@@ -1,8 +1,10 @@
 -- What the code's rows say, as rows of the definitions.
-use Rattle.std.specs.Prelude.{string_bytes}
+use Rattle.std.specs.Prelude.{option_map, string_bytes}
 use Rattle.xom_cli.specs.declared.row.Row.{Row}
 use Rattle.xom_cli.specs.declared.row.Row.TheVariants as row
-use Rattle.xom_cli.specs.Rows.{Row as RowOfWords, Trace}
+use Rattle.xom_cli.specs.Rows.{Row as RowOfWords, Disasm, Plain, Trace}
 
 abbrev pub shown : Row → RowOfWords
+shown (row.Disasm image) = Disasm (string_bytes image.now)
+shown (row.Plain image steps received) = Plain (string_bytes image.now) steps (option_map (λ name. string_bytes name.now) received)
 shown (row.Trace run) = Trace (string_bytes run.now)

@@ -1,3 +1,6 @@
+ghost use Rattle.std.specs.Prelude.{◌≡◌};
+ghost use Rattle.xom_cli.specs.Programs.{prints};
+
 use xom_base::ByteList;
 use xom_script::Name;
 
@@ -19,4 +22,17 @@ pub struct Answer {
     pub file: Option<OutputFile>,
     /// Its status: 0, 6, 8 or 9.
     pub status: u8,
+}
+
+impl Answer {
+    /// The answer that prints a text and does nothing else.
+    pub fn of_text(text: ByteList) -> Answer
+        ensures { result ≡ prints text }
+    {
+        Answer {
+            text,
+            file: None,
+            status: 0,
+        }
+    }
 }

@@ -1,13 +1,16 @@
 //! The top call: words, files and a sink to a status.
 //!
 //! The way of a call: words to a row of the table of commands (`row`); the row's files, each read
-//! and looked at in turn (`reading`); the work of the command (`trace`); its file and its text to
+//! and looked at in turn (`reading`); the work of the command (`disasm`,
+//! `plain`, `trace`); its file and its text to
 //! the outside (`delivery`); the status (`ending`).
 #![tactic(auto)]
 
 mod answer;
 mod delivery;
+mod disasm;
 mod ending;
+mod plain;
 mod reading;
 mod refusal;
 mod row;

@@ -1,12 +1,13 @@
 ghost use Rattle.std.specs.Prelude.{◌≡◌, IfOk, string_bytes};
 ghost use Rattle.xom_cli.specs.declared.refusal.Refusal.TheVariants.{Unread, Bad};
-ghost use Rattle.xom_cli.specs.Inputs.{Answers, fetched, image_at, image_of, run_file_of, script_of};
-ghost use Rattle.xom_cli.specs.Readings.{Gives, IsBuilt, IsNamed, IsRefusal};
+ghost use Rattle.xom_cli.specs.Inputs.{Answers, fetched, image_at, image_of, received_of, run_file_of, script_of};
+ghost use Rattle.xom_cli.specs.Readings.{Gives, IsBuilt, IsLined, IsNamed, IsRefusal};
 ghost use Rattle.xom_cli.specs.Trace.{IsRunnable};
 
 use crate::refusal::{InputFault, InputStop, Refusal, Stop};
+use plain_run::{ReceivedList, read_received};
 use std::alloc::Global;
-use xom_base::{ByteList, PlainImage};
+use xom_base::{ByteList, PlainImage, TextFault};
 use xom_image::{ImageFault, read_plain};
 use xom_io::{FileFault, Files};
 use xom_script::{FormFault, Name, RunFile, Script, read_run, read_script};
@@ -16,6 +17,9 @@ const RUN_LIMIT: u64 = 65_536;
 
 /// The most bytes of a plain image file.
 const IMAGE_LIMIT: u64 = 1_048_592;
+
+/// The most bytes of a received file.
+const RECEIVED_LIMIT: u64 = 1_048_576;
 
 /// The most bytes of a script.
 const SCRIPT_LIMIT: u64 = 1_048_576;
@@ -43,6 +47,22 @@ pub fn image<F: Files>(alloc: Global, files: &mut F, name: &String) -> Result<Pl
 {
     let bytes = fetch(files, name, IMAGE_LIMIT)?;
     of_file(name, image_in(alloc, &bytes))
+}
+
+/// The values of the received file of this name.
+#[tactic(auto, unfolding(crate::specs::Inputs::received_of))]
+pub fn received<F: Files>(
+    alloc: Global,
+    files: &mut F,
+    name: &String,
+) -> Result<ReceivedList, Stop>
+    ensures gives { Gives (F.held files.old) (λ held. received_of held (string_bytes name.now))
+        (F.reads files.old) (F.reads files.new) result }
+    ensures names { F.held files.new ≡ F.held files.old }
+    ensures writes { F.writes files.new ≡ F.writes files.old }
+{
+    let text = fetch(files, name, RECEIVED_LIMIT)?;
+    of_file(name, lined(read_received(alloc, text.as_slice())))
 }
 
 /// The script of this name.
@@ -73,7 +93,19 @@ fn fetch<F: Files>(files: &mut F, name: &String, limit: u64) -> Result<ByteList,
     }
 }
 
+/// What the reader of a text in lines answered.
+fn lined<A: Drop>(read: Result<A, TextFault>) -> Result<A, InputStop>
+    ensures { IsLined read result }
+{
+    match read {
+        Ok(value) => Ok(value),
+        Err(TextFault::Line(line)) => Err(InputStop::Fault(InputFault::BadLine(line))),
+        Err(TextFault::NoMemory) => Err(InputStop::NoMemory),
+    }
+}
+
 /// The image of the bytes of a plain image file.
+#[tactic(auto, unfolding(crate::specs::Inputs::image_at))]
 fn image_in(alloc: Global, bytes: &ByteList) -> Result<PlainImage, InputStop>
     ensures { Answers (image_at bytes.now) result }
 {

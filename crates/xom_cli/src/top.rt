@@ -7,7 +7,9 @@ ghost use Rattle.xom_cli.specs.Words.{shown};
 
 use crate::answer::Answer;
 use crate::delivery::{finish, print};
+use crate::disasm::disasm;
 use crate::ending::Ending;
+use crate::plain::plain;
 use crate::refusal::Stop;
 use crate::row::{Row, row_named};
 use crate::trace::trace;
@@ -17,7 +19,10 @@ use xom_io::{Files, Sink};
 /// Carries out the command of these words, which come after the program's name, and answers the
 /// status.
 ///
-/// `trace RUN` makes the run of a run file and prints the judgement of its journal.
+/// - `disasm IMAGE` prints each word of a plain image as its address, itself and its instruction.
+/// - `plain IMAGE STEPS` and `plain IMAGE STEPS RECEIVED` run an image's program alone, for at most
+///   STEPS steps, and print each; the values that it receives come from a received file.
+/// - `trace RUN` makes the run of a run file and prints the judgement of its journal.
 ///
 /// 0: carried out; for a run, the kernel halted. 1: the words match no command. 2: a file can't be
 /// read. 3: the output can't be written. 4: a file is too long, or off its format. 5: no memory was
@@ -63,6 +68,12 @@ fn answer<F: Files>(alloc: Global, row: Row<'_>, files: &mut F) -> Result<Answer
     ensures writes { F.writes files.new ≡ F.writes files.old }
 {
     match row {
+        Row::Disasm { image } => disasm(alloc, files, image),
+        Row::Plain {
+            image,
+            steps,
+            received,
+        } => plain(alloc, files, image, steps, received),
         Row::Trace { run } => trace(alloc, files, run),
     }
 }
