@@ -11,7 +11,7 @@ use Rattle.xom_cli.specs.declared.answer.Answer.{Answer}
 use Rattle.xom_cli.specs.declared.answer.OutputFile.{OutputFile}
 use Rattle.xom_cli.specs.Endings.{Disk, IsDone, Output, PutsFile}
 use Rattle.xom_cli.specs.Inputs.{Held}
-use Rattle.xom_cli.specs.Outcome.{row_outcome}
+use Rattle.xom_cli.specs.Outcome.{IsOutcome}
 use Rattle.xom_cli.specs.Promises.{WritesFile}
 use Rattle.xom_cli.specs.Rows.{Row, target_of}
 use Rattle.xom_cli.proofs.Targets.{target-written}
@@ -37,14 +37,6 @@ pub done_not_5 : ¬ IsDone 5
 done_not_5 = not_done 5 (λ e. omega arith) (λ e. omega arith) (λ e. omega arith) (λ e. omega arith)
 
 -- ---- the sink
-
-nothing-appended : (old : Option (List ℕ)) → Appends old old []
-nothing-appended None = refl
-nothing-appended (Some written) = ap Some (sym (append-nil written))
-
--- a sink that is as it was
-pub same-appended : (before after : Output) → after ≡ before → Appends before.written after.written []
-same-appended before after same = subst (λ (o : Output). Appends before.written o.written []) (sym same) (nothing-appended before.written)
 
 pub takes-prefix : (old new : Option (List ℕ)) (text : List ℕ) (before after : ℕ) (put : Result (Unit {0}) SinkFault) → TakesAll old new text before after put → (n : ℕ) × Appends old new (take n text)
 takes-prefix old new text before after (Ok whole) takes = (length text, subst (Appends old new) (sym (take-length text)) takes.1)
@@ -74,7 +66,7 @@ untold-changes None = refl
 untold-changes (Some name) = tt
 
 -- the file that a command answers is the one that its words name
-told-changes : (row : Row) (answer : Answer) (file : OutputFile) (old new : Told) → ((held : Held) → old ≡ Some held → row_outcome row held ≡ Ok answer) → answer.file ≡ Some file → KeepsOthers old new file.name
+told-changes : (row : Row) (answer : Answer) (file : OutputFile) (old new : Told) → ((held : Held) → old ≡ Some held → IsOutcome row held (Ok answer)) → answer.file ≡ Some file → KeepsOthers old new file.name
     → MatchOption (target_of row) (new ≡ old) (KeepsOthers old new)
 told-changes row answer file None None wanted is keeps = untold-changes (target_of row)
 told-changes row answer file None (Some later) wanted is keeps = absurd keeps
@@ -82,7 +74,7 @@ told-changes row answer file (Some held) None wanted is keeps = absurd keeps
 told-changes row answer file (Some held) (Some later) wanted is keeps =
     subst (λ (o : Option (List ℕ)). MatchOption o (Same (Some later) (Some held)) (KeepsOthers (Some held) (Some later))) (sym (target-written row held answer file (wanted held refl) is)) keeps
 
-pub puts-changes : (row : Row) (answer : Answer) (before after : Disk) (put : Result (Unit {0}) FileFault) → ((held : Held) → before.held ≡ Some held → row_outcome row held ≡ Ok answer) → (o : Option OutputFile) → answer.file ≡ o → PutsFile before after o put
+pub puts-changes : (row : Row) (answer : Answer) (before after : Disk) (put : Result (Unit {0}) FileFault) → ((held : Held) → before.held ≡ Some held → IsOutcome row held (Ok answer)) → (o : Option OutputFile) → answer.file ≡ o → PutsFile before after o put
     → MatchOption (target_of row) (after.held ≡ before.held) (KeepsOthers before.held after.held)
 puts-changes row answer before after put wanted None is puts = same-changes (target_of row) before after puts.0
 puts-changes row answer before after put wanted (Some file) is puts = told-changes row answer file before.held after.held wanted is puts.1

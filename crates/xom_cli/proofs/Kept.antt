@@ -18,13 +18,13 @@ use Rattle.xom_cli.specs.declared.refusal.Stop.TheVariants as stop
 use Rattle.xom_cli.specs.declared.trace.Parts.{Parts}
 use Rattle.xom_cli.specs.Endings.{Delivers, Disk, Ends, EndsRow, EndsWords, Finishes, IsDone, IsSilent, Outside, Output, Prints, PrintsBehind, PrintsRefusal, PutsFile, ended, refused, status_of}
 use Rattle.xom_cli.specs.Inputs.{Held}
-use Rattle.xom_cli.specs.Outcome.{Printed, printed, printed_outcome, printed_row, row_outcome}
+use Rattle.xom_cli.specs.Outcome.{IsOutcome, IsPrinted, IsPrintedBy, Printed, printed, printed_words}
 use Rattle.xom_cli.specs.Promises.{ChangesOnly, FailsWriting, IsUnprinted, KeepsFiles, Promises, WritesFile, WritesPrefix, target_in}
-use Rattle.xom_cli.specs.Readings.{Gives, Refuses}
+use Rattle.xom_cli.specs.Readings.{Meets, Refuses}
 use Rattle.xom_cli.specs.Refusals.{line_of, refusal_status, words_line}
 use Rattle.xom_cli.specs.Rows.{Row, Trace, row_of, target_of}
 use Rattle.xom_cli.specs.Trace.{AllFollow, events_line, last_record, parts_of, report_of, trace_of, traced}
-use Rattle.xom_cli.proofs.Delivered.{done_not_1, done_not_2, done_not_3, done_not_4, done_not_5, fails-rising, lacks-count, never-long, puts-changes, puts-count, puts-file, same-appended, same-changes, same-count, takes-prefix}
+use Rattle.xom_cli.proofs.Delivered.{done_not_1, done_not_2, done_not_3, done_not_4, done_not_5, fails-rising, lacks-count, never-long, puts-changes, puts-count, puts-file, same-changes, same-count, takes-prefix}
 use Rattle.xom_cli.proofs.Headline.{all_follow}
 use Rattle.xom_cli.proofs.Targets.{trace-answer}
 use Rattle.xom_cli.proofs.Unread.{row-unread}
@@ -52,7 +52,7 @@ module _ (words : List (List ℕ)) (before after : Outside) where
     write_cause = λ e. absurd (omega arith);
     done_cause = λ d. absurd (done_not_5 d);
     defined = λ held told a b c. absurd (c refl);
-    sure = λ held told stays. inr (inl refl);
+    sure = λ held told stays. inl refl;
     all = λ held told stays calm found. absurd (found refl);
     prefix = prefix;
     changes = changes;
@@ -62,30 +62,34 @@ module _ (words : List (List ℕ)) (before after : Outside) where
   }
 
   silent_prefix : after.output ≡ before.output → WritesPrefix words before after
-  silent_prefix same held told = (0, inl (same-appended before.output after.output same))
+  silent_prefix same held told = inl (ap (λ (o : Output). o.written) same)
 
   silent : after.disk ≡ before.disk → (result : Ending) → IsSilent before.output after.output ending.NoMemory result → Promises words before after (status_of result)
   silent same result is = subst (λ e. Promises words before after (status_of e)) (sym is.0) (no_memory (silent_prefix is.1) (same_changes same) (same_printing same))
 
-  -- ---- what is printed of a call that changes no file: the words are refused, or an input
-  module _ (said : List ℕ) (code : ℕ) (same : after.disk ≡ before.disk) where
-    -- the text that is defined was put
-    said_prefix : ((held : Held) → before.disk.held ≡ Some held → (printed words held).text ≡ said) → (put : Result (Unit {0}) SinkFault) → Took before.output after.output said put → WritesPrefix words before after
-    said_prefix is put takes held told =
-        let part = takes-prefix _ _ said _ _ put takes in
-        (part.0, inl (subst (λ text. Appends before.output.written after.output.written (take part.0 text)) (sym (is held told)) part.1))
+  -- ---- a text that is defined
 
-    -- where no count rose it was put whole
-    said_whole : (put : Result (Unit {0}) SinkFault) → Took before.output after.output said put → put ≢ Err sink_fault.NoMemory → ¬ FailsWriting before after → Appends before.output.written after.output.written said
-    said_whole (Ok done) takes found calm = takes.1
-    said_whole (Err sink_fault.Failed) takes found calm = absurd (calm (inl takes.2))
-    said_whole (Err sink_fault.NoMemory) takes found calm = absurd (found refl)
+  -- some first bytes of it were written
+  part_prefix : (said : List ℕ) → ((held : Held) → before.disk.held ≡ Some held → (p : Printed) × IsPrinted words held p × (p.text ≡ said)) → (put : Result (Unit {0}) SinkFault) → Took before.output after.output said put → WritesPrefix words before after
+  part_prefix said is put takes held told =
+      let p = is held told in
+      let part = takes-prefix _ _ said _ _ put takes in
+      inr (inl (p.0, p.1, (part.0, subst (λ text. Appends before.output.written after.output.written (take part.0 text)) (sym p.2) part.1)))
+
+  -- where no count rose it was put whole
+  whole_put : (said : List ℕ) (put : Result (Unit {0}) SinkFault) → Took before.output after.output said put → put ≢ Err sink_fault.NoMemory → ¬ FailsWriting before after → Appends before.output.written after.output.written said
+  whole_put said (Ok done) takes found calm = takes.1
+  whole_put said (Err sink_fault.Failed) takes found calm = absurd (calm (inl takes.2))
+  whole_put said (Err sink_fault.NoMemory) takes found calm = absurd (found refl)
 
   -- ---- words that match no row
   module _ (none : row_of words ≡ None) where
-    words_printed : (held : Held) → printed words held ≡ record { text = words_line; file = None; status = 1 }
-    unfolding printed
-    words_printed held = ap (λ o. printed_row o held) none
+    words_printed : (held : Held) → IsPrinted words held printed_words
+    unfolding IsPrinted
+    words_printed held = subst (λ o. IsPrintedBy o held printed_words) (sym none) refl
+
+    words_prefix : (put : Result (Unit {0}) SinkFault) → Took before.output after.output words_line put → WritesPrefix words before after
+    words_prefix put takes = part_prefix words_line (λ held told. (printed_words, words_printed held, refl)) put takes
 
     words_said : after.disk ≡ before.disk → (put : Result (Unit {0}) SinkFault) → put ≢ Err sink_fault.NoMemory → Took before.output after.output words_line put → Promises words before after 1
     words_said same put found takes = record {
@@ -94,10 +98,10 @@ module _ (words : List (List ℕ)) (before after : Outside) where
       read_cause = λ e. absurd (omega arith);
       write_cause = λ e. absurd (omega arith);
       done_cause = λ d. absurd (done_not_1 d);
-      defined = λ held told a b c. ap (λ (p : Printed). p.status) (words_printed held);
-      sure = λ held told stays. inl (sym (ap (λ (p : Printed). p.status) (words_printed held)));
-      all = λ held told stays calm _. subst (λ (p : Printed). Appends before.output.written after.output.written p.text × WritesFile before.disk after.disk p.file) (sym (words_printed held)) (said_whole words_line 1 same put takes found calm, ap (λ (d : Disk). d.held) same);
-      prefix = said_prefix words_line 1 same (λ held told. ap (λ (p : Printed). p.text) (words_printed held)) put takes;
+      defined = λ held told a b c. (printed_words, words_printed held, refl);
+      sure = λ held told stays. inr (printed_words, words_printed held, inl refl);
+      all = λ held told stays calm _. (printed_words, words_printed held, whole_put words_line put takes found calm, ap (λ (d : Disk). d.held) same);
+      prefix = words_prefix put takes;
       changes = same_changes same;
       keeps = λ _. same;
       unprinted = same_printing same;
@@ -107,13 +111,13 @@ module _ (words : List (List ℕ)) (before after : Outside) where
     words_end : after.disk ≡ before.disk → (put : Result (Unit {0}) SinkFault) → Took before.output after.output words_line put → Promises words before after (status_of (ended ending.NoRow ending.NoRow put))
     words_end same (Ok done) takes = words_said same (Ok done) (λ e. absurd (cc)) takes
     words_end same (Err sink_fault.Failed) takes = words_said same (Err sink_fault.Failed) (λ e. absurd (cc)) takes
-    words_end same (Err sink_fault.NoMemory) takes = no_memory (said_prefix words_line 1 same (λ held told. ap (λ (p : Printed). p.text) (words_printed held)) (Err sink_fault.NoMemory) takes) (same_changes same) (same_printing same)
+    words_end same (Err sink_fault.NoMemory) takes = no_memory (words_prefix (Err sink_fault.NoMemory) takes) (same_changes same) (same_printing same)
 
   -- ---- words of a row
   module _ (row : Row) (is_row : row_of words ≡ Some row) where
-    row_printed : (held : Held) (result : Result Answer Refusal) → row_outcome row held ≡ result → printed words held ≡ printed_outcome result
-    unfolding printed
-    row_printed held result is = ap (λ o. printed_row o held) is_row ∙ ap printed_outcome is
+    row_printed : (held : Held) (result : Result Answer Refusal) → IsOutcome row held result → IsPrinted words held (printed result)
+    unfolding IsPrinted
+    row_printed held result is = subst (λ o. IsPrintedBy o held (printed result)) (sym is_row) (result, is, refl)
 
     has_row : ¬ (row_of words ≡ None)
     has_row none = cc
@@ -122,14 +126,12 @@ module _ (words : List (List ℕ)) (before after : Outside) where
     row_target = ap (λ o. option_and_then target_of o) is_row
 
     -- ---- a command that was carried out
-    module _ (answer : Answer) (done : IsDone answer.status) (stays : after.reads ≡ before.reads) (wanted : (held : Held) → before.disk.held ≡ Some held → row_outcome row held ≡ Ok answer) where
-      answer_printed : (held : Held) → before.disk.held ≡ Some held → printed words held ≡ record { text = answer.text; file = answer.file; status = answer.status }
+    module _ (answer : Answer) (done : IsDone answer.status) (stays : after.reads ≡ before.reads) (wanted : (held : Held) → before.disk.held ≡ Some held → IsOutcome row held (Ok answer)) where
+      answer_printed : (held : Held) → before.disk.held ≡ Some held → IsPrinted words held (printed (Ok answer))
       answer_printed held told = row_printed held (Ok answer) (wanted held told)
 
       answer_prefix : (put : Result (Unit {0}) SinkFault) → Took before.output after.output answer.text put → WritesPrefix words before after
-      answer_prefix put takes held told =
-          let part = takes-prefix _ _ answer.text _ _ put takes in
-          (part.0, inl (subst (λ (p : Printed). Appends before.output.written after.output.written (take part.0 p.text)) (sym (answer_printed held told)) part.1))
+      answer_prefix put takes = part_prefix answer.text (λ held told. (printed (Ok answer), answer_printed held told, refl)) put takes
 
       answer_changes : (put : Result (Unit {0}) FileFault) → PutsFile before.disk after.disk answer.file put → ChangesOnly words before after
       answer_changes put puts =
@@ -141,7 +143,7 @@ module _ (words : List (List ℕ)) (before after : Outside) where
       unfolding traced
       headline_here whole held told run named =
           let same : row ≡ Trace run = cc in
-          let found = trace-answer held run answer (subst (λ r. row_outcome r held ≡ Ok answer) same (wanted held told)) in
+          let found = trace-answer held run answer (subst (λ r. IsOutcome r held (Ok answer)) same (wanted held told)) in
           (found.0, found.1, subst (λ (a : Answer). Appends before.output.written after.output.written a.text) found.2 whole, all_follow found.0)
 
       -- the file was put, and all of the text
@@ -152,9 +154,9 @@ module _ (words : List (List ℕ)) (before after : Outside) where
         read_cause = λ e. absurd (done_not_2 (subst IsDone e done));
         write_cause = λ e. absurd (done_not_3 (subst IsDone e done));
         done_cause = λ _. (stays, puts-count before.disk after.disk answer.file u puts, takes.0);
-        defined = λ held told a b c. ap (λ (p : Printed). p.status) (answer_printed held told);
-        sure = λ held told _. inl (sym (ap (λ (p : Printed). p.status) (answer_printed held told)));
-        all = λ held told _ calm found. subst (λ (p : Printed). Appends before.output.written after.output.written p.text × WritesFile before.disk after.disk p.file) (sym (answer_printed held told)) (takes.1, puts-file before.disk after.disk answer.file u puts);
+        defined = λ held told a b c. (printed (Ok answer), answer_printed held told, refl);
+        sure = λ held told _. inr (printed (Ok answer), answer_printed held told, inl refl);
+        all = λ held told _ calm found. (printed (Ok answer), answer_printed held told, takes.1, puts-file before.disk after.disk answer.file u puts);
         prefix = answer_prefix (Ok v) takes;
         changes = answer_changes (Ok u) puts;
         keeps = λ one. absurd (elim one [ inl e ↦ done_not_1 (subst IsDone e done) | inr other ↦ elim other [ inl e ↦ done_not_2 (subst IsDone e done) | inr e ↦ done_not_4 (subst IsDone e done) ] ]);
@@ -171,7 +173,7 @@ module _ (words : List (List ℕ)) (before after : Outside) where
         write_cause = λ _. fails;
         done_cause = λ d. absurd (done_not_3 d);
         defined = λ held told a b c. absurd (b refl);
-        sure = λ held told _. inr (inr (refl, fails, subst (λ (p : Printed). IsDone p.status) (sym (answer_printed held told)) done));
+        sure = λ held told _. inr (printed (Ok answer), answer_printed held told, inr (refl, fails, done));
         all = λ held told _ calm found. absurd (calm fails);
         prefix = prefix;
         changes = changes;
@@ -199,12 +201,12 @@ module _ (words : List (List ℕ)) (before after : Outside) where
           (no_memory (silent_prefix quiet.1) (answer_changes (Err file_fault.NoMemory) puts) (uncounted (lacks-count before.disk after.disk answer.file puts)))
 
     -- ---- bad input
-    module _ (refusal : Refusal) (bad : refusal_status refusal ≡ 4) (same : after.disk ≡ before.disk) (stays : after.reads ≡ before.reads) (wanted : (held : Held) → before.disk.held ≡ Some held → row_outcome row held ≡ Err refusal) where
-      bad_printed : (held : Held) → before.disk.held ≡ Some held → printed words held ≡ record { text = line_of refusal; file = None; status = refusal_status refusal }
+    module _ (refusal : Refusal) (bad : refusal_status refusal ≡ 4) (same : after.disk ≡ before.disk) (stays : after.reads ≡ before.reads) (wanted : (held : Held) → before.disk.held ≡ Some held → IsOutcome row held (Err refusal)) where
+      bad_printed : (held : Held) → before.disk.held ≡ Some held → IsPrinted words held (printed (Err refusal))
       bad_printed held told = row_printed held (Err refusal) (wanted held told)
 
       bad_prefix : (put : Result (Unit {0}) SinkFault) → Took before.output after.output (line_of refusal) put → WritesPrefix words before after
-      bad_prefix put takes = said_prefix (line_of refusal) 4 same (λ held told. ap (λ (p : Printed). p.text) (bad_printed held told)) put takes
+      bad_prefix put takes = part_prefix (line_of refusal) (λ held told. (printed (Err refusal), bad_printed held told, refl)) put takes
 
       bad_said : (put : Result (Unit {0}) SinkFault) → put ≢ Err sink_fault.NoMemory → Took before.output after.output (line_of refusal) put → Promises words before after 4
       bad_said put found takes = record {
@@ -213,9 +215,9 @@ module _ (words : List (List ℕ)) (before after : Outside) where
         read_cause = λ e. absurd (omega arith);
         write_cause = λ e. absurd (omega arith);
         done_cause = λ d. absurd (done_not_4 d);
-        defined = λ held told a b c. ap (λ (p : Printed). p.status) (bad_printed held told) ∙ bad;
-        sure = λ held told _. inl (sym (ap (λ (p : Printed). p.status) (bad_printed held told) ∙ bad));
-        all = λ held told _ calm _. subst (λ (p : Printed). Appends before.output.written after.output.written p.text × WritesFile before.disk after.disk p.file) (sym (bad_printed held told)) (said_whole (line_of refusal) 4 same put takes found calm, ap (λ (d : Disk). d.held) same);
+        defined = λ held told a b c. (printed (Err refusal), bad_printed held told, bad);
+        sure = λ held told _. inr (printed (Err refusal), bad_printed held told, inl (sym bad));
+        all = λ held told _ calm _. (printed (Err refusal), bad_printed held told, whole_put (line_of refusal) put takes found calm, ap (λ (d : Disk). d.held) same);
         prefix = bad_prefix put takes;
         changes = same_changes same;
         keeps = λ _. same;
@@ -229,17 +231,17 @@ module _ (words : List (List ℕ)) (before after : Outside) where
       bad_end (Err sink_fault.NoMemory) takes = no_memory (bad_prefix (Err sink_fault.NoMemory) takes) (same_changes same) (same_printing same)
 
     -- ---- a file that can't be read
-    module _ (name : List ℕ) (same : after.disk ≡ before.disk) (cause : Rises before.reads after.reads ⊎ IsSomeAnd before.disk.held (λ held. row_outcome row held ≡ Err (Unread name))) where
+    module _ (name : List ℕ) (same : after.disk ≡ before.disk) (cause : Rises before.reads after.reads ⊎ IsSomeAnd before.disk.held (λ held. IsOutcome row held (Err (Unread name)))) where
       -- where it is told what files hold
-      told-lacks : (o : Told) (held : Held) → o ≡ Some held → IsSomeAnd o (λ h. row_outcome row h ≡ Err (Unread name)) → row_outcome row held ≡ Err (Unread name)
+      told-lacks : (o : Told) (held : Held) → o ≡ Some held → IsSomeAnd o (λ h. IsOutcome row h (Err (Unread name))) → IsOutcome row held (Err (Unread name))
       told-lacks None held told lacks = absurd lacks
-      told-lacks (Some h) held told lacks = subst (λ x. row_outcome row x ≡ Err (Unread name)) (let here : h ≡ held = cc in here) lacks
+      told-lacks (Some h) held told lacks = subst (λ x. IsOutcome row x (Err (Unread name))) (let here : h ≡ held = cc in here) lacks
 
-      lacks-file : (o : Told) → IsSomeAnd o (λ h. row_outcome row h ≡ Err (Unread name)) → IsSomeAnd o (λ held. ((printed words held).status ≡ 2) × ((n : List ℕ) × (held n ≡ None)))
+      lacks-file : (o : Told) → IsSomeAnd o (λ h. IsOutcome row h (Err (Unread name))) → IsSomeAnd o (λ held. (n : List ℕ) × (held n ≡ None) × IsPrinted words held (printed (Err (Unread n))))
       lacks-file None lacks = absurd lacks
-      lacks-file (Some h) lacks = (ap (λ (p : Printed). p.status) (row_printed h (Err (Unread name)) lacks), (name, row-unread row h name lacks))
+      lacks-file (Some h) lacks = (name, row-unread row h name lacks, row_printed h (Err (Unread name)) lacks)
 
-      unread_printed : (held : Held) → before.disk.held ≡ Some held → ¬ Rises before.reads after.reads → printed words held ≡ record { text = line_of (Unread name); file = None; status = 2 }
+      unread_printed : (held : Held) → before.disk.held ≡ Some held → ¬ Rises before.reads after.reads → IsPrinted words held (printed (Err (Unread name)))
       unread_printed held told stays = elim cause [
         | inl rises ↦ absurd (stays rises)
         | inr lacks ↦ row_printed held (Err (Unread name)) (told-lacks before.disk.held held told lacks)
@@ -247,13 +249,11 @@ module _ (words : List (List ℕ)) (before after : Outside) where
 
       unread_prefix : (put : Result (Unit {0}) SinkFault) → Took before.output after.output (line_of (Unread name)) put → WritesPrefix words before after
       unread_prefix put takes held told =
-          let part = takes-prefix _ _ (line_of (Unread name)) _ _ put takes in (
-            part.0,
-            elim cause [
-              | inl rises ↦ inr (rises, (name, part.1))
-              | inr lacks ↦ inl (subst (λ (p : Printed). Appends before.output.written after.output.written (take part.0 p.text)) (sym (row_printed held (Err (Unread name)) (told-lacks before.disk.held held told lacks))) part.1)
-            ],
-          )
+          let part = takes-prefix _ _ (line_of (Unread name)) _ _ put takes in
+          elim cause [
+            | inl rises ↦ inr (inr (rises, (name, (part.0, part.1))))
+            | inr lacks ↦ inr (inl (printed (Err (Unread name)), row_printed held (Err (Unread name)) (told-lacks before.disk.held held told lacks), (part.0, part.1)))
+          ]
 
       unread_said : (put : Result (Unit {0}) SinkFault) → put ≢ Err sink_fault.NoMemory → Took before.output after.output (line_of (Unread name)) put → Promises words before after 2
       unread_said put found takes = record {
@@ -263,8 +263,8 @@ module _ (words : List (List ℕ)) (before after : Outside) where
         write_cause = λ e. absurd (omega arith);
         done_cause = λ d. absurd (done_not_2 d);
         defined = λ held told a b c. absurd (a refl);
-        sure = λ held told stays. inl (sym (ap (λ (p : Printed). p.status) (unread_printed held told stays)));
-        all = λ held told stays calm _. subst (λ (p : Printed). Appends before.output.written after.output.written p.text × WritesFile before.disk after.disk p.file) (sym (unread_printed held told stays)) (said_whole (line_of (Unread name)) 2 same put takes found calm, ap (λ (d : Disk). d.held) same);
+        sure = λ held told stays. inr (printed (Err (Unread name)), unread_printed held told stays, inl refl);
+        all = λ held told stays calm _. (printed (Err (Unread name)), unread_printed held told stays, whole_put (line_of (Unread name)) put takes found calm, ap (λ (d : Disk). d.held) same);
         prefix = unread_prefix put takes;
         changes = same_changes same;
         keeps = λ _. same;
@@ -278,11 +278,11 @@ module _ (words : List (List ℕ)) (before after : Outside) where
       unread_end (Err sink_fault.NoMemory) takes = no_memory (unread_prefix (Err sink_fault.NoMemory) takes) (same_changes same) (same_printing same)
 
     -- ---- whatever was answered
-    refusal_end : (refusal : Refusal) → after.disk ≡ before.disk → Refuses before.disk.held (row_outcome row) before.reads after.reads refusal → (put : Result (Unit {0}) SinkFault) → Took before.output after.output (line_of refusal) put → Promises words before after (status_of (ended (refused refusal) (refused refusal) put))
+    refusal_end : (refusal : Refusal) → after.disk ≡ before.disk → Refuses before.disk.held (IsOutcome row) before.reads after.reads refusal → (put : Result (Unit {0}) SinkFault) → Took before.output after.output (line_of refusal) put → Promises words before after (status_of (ended (refused refusal) (refused refusal) put))
     refusal_end (Unread name) same why put takes = unread_end name same why.1 put takes
     refusal_end (Bad name fault) same why put takes = bad_end (Bad name fault) refl same why.0 why.1 put takes
 
-    row_end : (answered : Result Answer Stop) → Gives before.disk.held (row_outcome row) before.reads after.reads answered → (result : Ending) → Finishes before.disk after.disk before.output after.output answered result → Promises words before after (status_of result)
+    row_end : (answered : Result Answer Stop) → Meets before.disk.held (IsOutcome row) before.reads after.reads answered → (result : Ending) → Finishes before.disk after.disk before.output after.output answered result → Promises words before after (status_of result)
     row_end (Ok answer) gives result finishes = answer_end answer finishes.0 gives.0 gives.1 finishes.1.0 result finishes.1.1 finishes.1.2
     row_end (Err (stop.Refused refusal)) gives result finishes = elim finishes.1 [
       | inl quiet ↦ silent finishes.0 result quiet

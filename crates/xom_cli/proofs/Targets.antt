@@ -5,7 +5,7 @@ use Rattle.xom_cli.specs.declared.answer.OutputFile.{OutputFile}
 use Rattle.xom_cli.specs.declared.refusal.Refusal.{Refusal}
 use Rattle.xom_cli.specs.declared.trace.Parts.{Parts}
 use Rattle.xom_cli.specs.Inputs.{◌>>=◌, Held, image_of}
-use Rattle.xom_cli.specs.Outcome.{row_outcome}
+use Rattle.xom_cli.specs.Outcome.{IsOutcome}
 use Rattle.xom_cli.specs.Programs.{disasm_of, plain_of, prints, values_of}
 use Rattle.xom_cli.specs.Rows.{Row, Disasm, Plain, Trace, target_of}
 use Rattle.xom_cli.specs.Trace.{parts_of, trace_of, traced}
@@ -41,7 +41,7 @@ plain-file held image steps received answer is =
     let read = (bind-ok (image_of held image) _ answer is).2 in
     let last = (bind-ok (values_of held received) _ answer read).2 in cc
 
-pub target-written : (row : Row) (held : Held) (answer : Answer) (file : OutputFile) → row_outcome row held ≡ Ok answer → answer.file ≡ Some file → target_of row ≡ Some file.name
+pub target-written : (row : Row) (held : Held) (answer : Answer) (file : OutputFile) → IsOutcome row held (Ok answer) → answer.file ≡ Some file → target_of row ≡ Some file.name
 target-written (Disasm image) held answer file is written = let none = disasm-file held image answer is in absurd (cc)
 target-written (Plain image steps received) held answer file is written = let none = plain-file held image steps received answer is in absurd (cc)
 target-written (Trace run) held answer file is written = let none = trace-file held run answer is in absurd (cc)

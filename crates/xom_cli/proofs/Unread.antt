@@ -7,7 +7,7 @@ use Rattle.xom_cli.specs.declared.refusal.InputFault.TheVariants.{TooLong}
 use Rattle.xom_cli.specs.declared.refusal.Refusal.{Refusal}
 use Rattle.xom_cli.specs.declared.refusal.Refusal.TheVariants.{Unread, Bad}
 use Rattle.xom_cli.specs.Inputs.{◌>>=◌, Held, fetched, fetched_bytes, image_of, in_file, input_of, received_of, run_file_of, script_of}
-use Rattle.xom_cli.specs.Outcome.{row_outcome}
+use Rattle.xom_cli.specs.Outcome.{IsOutcome}
 use Rattle.xom_cli.specs.Programs.{disasm_of, plain_of, values_of}
 use Rattle.xom_cli.specs.Rows.{Row, Disasm, Plain, Trace}
 use Rattle.xom_cli.specs.Trace.{parts_of, trace_of, traced}
@@ -93,7 +93,7 @@ trace-unread held run name is = elim (bind-err (parts_of held run) _ (Unread nam
   | inr parts ↦ absurd (let last = parts.2 in cc)
 ]
 
-pub row-unread : (row : Row) (held : Held) (name : List ℕ) → row_outcome row held ≡ Err (Unread name) → held name ≡ None
+pub row-unread : (row : Row) (held : Held) (name : List ℕ) → IsOutcome row held (Err (Unread name)) → held name ≡ None
 row-unread (Disasm image) held name is = disasm-unread held image name is
 row-unread (Plain image steps received) held name is = plain-unread held image steps received name is
 row-unread (Trace run) held name is = trace-unread held run name is

@@ -13,8 +13,8 @@ use Rattle.xom_cli.specs.declared.refusal.Refusal.{Refusal}
 use Rattle.xom_cli.specs.declared.refusal.Refusal.TheVariants.{Unread, Bad}
 use Rattle.xom_cli.specs.declared.refusal.Stop.{Stop}
 use Rattle.xom_cli.specs.declared.refusal.Stop.TheVariants as stop
-use Rattle.xom_cli.specs.Outcome.{row_outcome}
-use Rattle.xom_cli.specs.Readings.{Gives}
+use Rattle.xom_cli.specs.Outcome.{IsOutcome}
+use Rattle.xom_cli.specs.Readings.{Meets}
 use Rattle.xom_cli.specs.Refusals.{line_of, words_line}
 use Rattle.xom_cli.specs.Rows.{Row, row_of}
 
@@ -113,7 +113,7 @@ Finishes disk_before disk_after before after (Err stop.NoMemory) result = (disk_
 -- the row's command answered, and what it answered is delivered
 abbrev pub EndsRow : Outside → Outside → Row → Ending → Type 0
 EndsRow before after row result =
-    (answered : Result Answer Stop) × Gives before.disk.held (row_outcome row) before.reads after.reads answered × Finishes before.disk after.disk before.output after.output answered result
+    (answered : Result Answer Stop) × Meets before.disk.held (IsOutcome row) before.reads after.reads answered × Finishes before.disk after.disk before.output after.output answered result
 
 -- the words matched no row, and that is printed
 abbrev pub EndsWords : Outside → Outside → Ending → Type 0

@@ -9,11 +9,11 @@ use Rattle.xom_cli.specs.Programs.{disasm_of, plain_of}
 use Rattle.xom_cli.specs.Rows.{Row, Disasm, Plain, Trace, row_of}
 use Rattle.xom_cli.specs.Trace.{trace_of}
 
--- the answer of a command, or why it wasn't carried out
-abbrev pub row_outcome : Row → Held → Result Answer Refusal
-row_outcome (Disasm image) held = disasm_of held image
-row_outcome (Plain image steps received) held = plain_of held image steps received
-row_outcome (Trace run) held = trace_of held run
+-- what a row's command comes to: its answer, or why it isn't carried out
+abbrev pub IsOutcome : Row → Held → Result Answer Refusal → Type 0
+IsOutcome (Disasm image) held result = disasm_of held image ≡ result
+IsOutcome (Plain image steps received) held result = plain_of held image steps received ≡ result
+IsOutcome (Trace run) held result = trace_of held run ≡ result
 
 -- what is printed, the file that is written, if there is one, and the status
 pub record Printed : Type 0 where
@@ -21,14 +21,17 @@ pub record Printed : Type 0 where
   pub file : Option OutputFile
   pub status : ℕ
 
-abbrev pub printed_outcome : Result Answer Refusal → Printed
-printed_outcome (Ok answer) = record { text = answer.text; file = answer.file; status = answer.status }
-printed_outcome (Err refusal) = record { text = line_of refusal; file = None; status = refusal_status refusal }
+abbrev pub printed_words : Printed
+printed_words = record { text = words_line; file = None; status = 1 }
 
-abbrev pub printed_row : Option Row → Held → Printed
-printed_row None held = record { text = words_line; file = None; status = 1 }
-printed_row (Some row) held = printed_outcome (row_outcome row held)
+abbrev pub printed : Result Answer Refusal → Printed
+printed (Ok answer) = record { text = answer.text; file = answer.file; status = answer.status }
+printed (Err refusal) = record { text = line_of refusal; file = None; status = refusal_status refusal }
 
--- what words print and write, and the status that they end with, over files that hold this
-unfoldable pub printed : List (List ℕ) → Held → Printed
-printed words held = printed_row (row_of words) held
+abbrev pub IsPrintedBy : Option Row → Held → Printed → Type 0
+IsPrintedBy None held p = p ≡ printed_words
+IsPrintedBy (Some row) held p = (result : Result Answer Refusal) × IsOutcome row held result × (p ≡ printed result)
+
+-- This is what words print and write, and the status that they end with, over files that hold this.
+unfoldable pub IsPrinted : List (List ℕ) → Held → Printed → Type 0
+IsPrinted words held p = IsPrintedBy (row_of words) held p

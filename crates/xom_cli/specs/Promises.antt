@@ -7,7 +7,7 @@ use Rattle.xom_cli.specs.declared.trace.Parts.{Parts}
 use Rattle.xom_cli.specs.declared.refusal.Refusal.TheVariants.{Unread}
 use Rattle.xom_cli.specs.Endings.{Disk, IsDone, Outside}
 use Rattle.xom_cli.specs.Inputs.{Held}
-use Rattle.xom_cli.specs.Outcome.{printed}
+use Rattle.xom_cli.specs.Outcome.{IsPrinted, Printed, printed}
 use Rattle.xom_cli.specs.Refusals.{line_of}
 use Rattle.xom_cli.specs.Rows.{Row, Trace, row_of, target_of}
 use Rattle.xom_cli.specs.Trace.{AllFollow, events_line, last_record, parts_of, report_of}
@@ -24,7 +24,7 @@ pub record WordsCause (words : List (List ℕ)) (status : ℕ) : Type 0 where
 -- 2 only where the count of reads rose or, where it is told, a file that is read isn't held
 abbrev pub ReadCause : List (List ℕ) → Outside → Outside → ℕ → Type 0
 ReadCause words before after status =
-    status ≡ 2 → Rises before.reads after.reads ⊎ IsSomeAnd before.disk.held (λ held. ((printed words held).status ≡ 2) × ((name : List ℕ) × (held name ≡ None)))
+    status ≡ 2 → Rises before.reads after.reads ⊎ IsSomeAnd before.disk.held (λ held. (name : List ℕ) × (held name ≡ None) × IsPrinted words held (printed (Err (Unread name))))
 
 -- the sink's count rose, or that of writes
 abbrev pub FailsWriting : Outside → Outside → Type 0
@@ -40,12 +40,13 @@ DoneCause before after status = IsDone status → (after.reads ≡ before.reads)
 
 -- where it is told what files hold: but for the statuses 2, 3 and 5, the status is the defined one
 abbrev pub IsDefined : List (List ℕ) → Outside → ℕ → Type 0
-IsDefined words before status = (held : Held) → before.disk.held ≡ Some held → status ≢ 2 → status ≢ 3 → status ≢ 5 → (printed words held).status ≡ status
+IsDefined words before status = (held : Held) → before.disk.held ≡ Some held → status ≢ 2 → status ≢ 3 → status ≢ 5
+    → (p : Printed) × IsPrinted words held p × (p.status ≡ status)
 
 -- and where no count of reads rose, it is the defined one, or 5, or the command's text or file couldn't be written
 abbrev pub IsSure : List (List ℕ) → Outside → Outside → ℕ → Type 0
 IsSure words before after status = (held : Held) → before.disk.held ≡ Some held → ¬ Rises before.reads after.reads
-    → (status ≡ (printed words held).status) ⊎ (status ≡ 5) ⊎ ((status ≡ 3) × FailsWriting before after × IsDone (printed words held).status)
+    → (status ≡ 5) ⊎ ((p : Printed) × IsPrinted words held p × ((status ≡ p.status) ⊎ ((status ≡ 3) × FailsWriting before after × IsDone p.status)))
 
 -- the files hold what they held, and this file beside, where there is one
 abbrev pub WritesFile : Disk → Disk → Option OutputFile → Type 0
@@ -55,13 +56,18 @@ WritesFile before after (Some file) = Holds after.held file.name file.bytes × K
 -- where no count rose, and memory was found, all of the defined text and file was written
 abbrev pub WritesAll : List (List ℕ) → Outside → Outside → ℕ → Type 0
 WritesAll words before after status = (held : Held) → before.disk.held ≡ Some held → ¬ Rises before.reads after.reads → ¬ FailsWriting before after → status ≢ 5
-    → Appends before.output.written after.output.written (printed words held).text × WritesFile before.disk after.disk (printed words held).file
+    → (p : Printed) × IsPrinted words held p × Appends before.output.written after.output.written p.text × WritesFile before.disk after.disk p.file
 
--- always some first bytes of the text were written; where a read failed, of the line that says so
+-- the first n bytes of the text were written
+abbrev pub WritesFirst : Outside → Outside → ℕ → List ℕ → Type 0
+WritesFirst before after n text = Appends before.output.written after.output.written (take n text)
+
+-- always some first bytes of the defined text were written, or none; where a read failed, of the line that says so
 abbrev pub WritesPrefix : List (List ℕ) → Outside → Outside → Type 0
 WritesPrefix words before after = (held : Held) → before.disk.held ≡ Some held
-    → (n : ℕ) × (Appends before.output.written after.output.written (take n (printed words held).text)
-    ⊎ (Rises before.reads after.reads × ((name : List ℕ) × Appends before.output.written after.output.written (take n (line_of (Unread name))))))
+    → (after.output.written ≡ before.output.written)
+    ⊎ ((p : Printed) × IsPrinted words held p × ((n : ℕ) × WritesFirst before after n p.text))
+    ⊎ (Rises before.reads after.reads × ((name : List ℕ) × ((n : ℕ) × WritesFirst before after n (line_of (Unread name)))))
 
 -- the file that the words name to be written
 abbrev pub target_in : List (List ℕ) → Option (List ℕ)

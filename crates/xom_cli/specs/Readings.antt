@@ -1,4 +1,4 @@
--- What reading the files of a command gives, where `wanted` says what it is to give of what files hold.
+-- What reading the files of a command gives, where `Wanted` says what it is to give of what files hold.
 use Rattle.std.specs.Prelude.{◌≡◌, ◌⊎◌, ℕ, ◌≤◌, List, Option, Some, None, Result, Ok, Err, IsSomeAnd}
 use Rattle.xom_io.specs.Answers.{Rises, Told}
 use Rattle.xom_script.specs.declared.fault.FormFault.{FormFault}
@@ -16,23 +16,27 @@ use Rattle.xom_cli.specs.declared.refusal.Stop.TheVariants as stop
 use Rattle.xom_cli.specs.Inputs.{Held}
 
 -- where it is told what files hold, this is what was wanted
-abbrev pub IsWanted : {Y : Type 0} → Told → (Held → Result Y Refusal) → Result Y Refusal → Type 0
-IsWanted told wanted result = (held : Held) → told ≡ Some held → wanted held ≡ result
+abbrev pub IsWanted : {Y : Type 0} → Told → (Held → Result Y Refusal → Type 0) → Result Y Refusal → Type 0
+IsWanted told Wanted result = (held : Held) → told ≡ Some held → Wanted held result
 
 -- why reading stopped. The counts are those of reads, before and after
-abbrev pub Refuses : {Y : Type 0} → Told → (Held → Result Y Refusal) → ℕ → ℕ → Refusal → Type 0
-Refuses told wanted before after (Unread name) = (before ≤ after) × (Rises before after ⊎ IsSomeAnd told (λ held. wanted held ≡ Err (Unread name)))
-Refuses told wanted before after (Bad name fault) = (after ≡ before) × IsWanted told wanted (Err (Bad name fault))
+abbrev pub Refuses : {Y : Type 0} → Told → (Held → Result Y Refusal → Type 0) → ℕ → ℕ → Refusal → Type 0
+Refuses told Wanted before after (Unread name) = (before ≤ after) × (Rises before after ⊎ IsSomeAnd told (λ held. Wanted held (Err (Unread name))))
+Refuses told Wanted before after (Bad name fault) = (after ≡ before) × IsWanted told Wanted (Err (Bad name fault))
 
 -- want of memory comes freely
-abbrev pub Stops : {Y : Type 0} → Told → (Held → Result Y Refusal) → ℕ → ℕ → Stop → Type 0
-Stops told wanted before after (stop.Refused refusal) = Refuses told wanted before after refusal
-Stops told wanted before after stop.NoMemory = before ≤ after
+abbrev pub Stops : {Y : Type 0} → Told → (Held → Result Y Refusal → Type 0) → ℕ → ℕ → Stop → Type 0
+Stops told Wanted before after (stop.Refused refusal) = Refuses told Wanted before after refusal
+Stops told Wanted before after stop.NoMemory = before ≤ after
 
--- what reading answered
+-- what reading answered meets what was wanted
+abbrev pub Meets : {Y : Type 0} → Told → (Held → Result Y Refusal → Type 0) → ℕ → ℕ → Result Y Stop → Type 0
+Meets told Wanted before after (Ok value) = (after ≡ before) × IsWanted told Wanted (Ok value)
+Meets told Wanted before after (Err why) = Stops told Wanted before after why
+
+-- and is what a function of what files hold gives
 abbrev pub Gives : {Y : Type 0} → Told → (Held → Result Y Refusal) → ℕ → ℕ → Result Y Stop → Type 0
-Gives told wanted before after (Ok value) = (after ≡ before) × IsWanted told wanted (Ok value)
-Gives told wanted before after (Err why) = Stops told wanted before after why
+Gives told wanted before after result = Meets told (λ held outcome. wanted held ≡ outcome) before after result
 
 -- a refusal was made, unless memory ran out
 abbrev pub IsRefusal : Stop → Refusal → Type 0

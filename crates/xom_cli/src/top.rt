@@ -1,8 +1,8 @@
 ghost use Rattle.std.specs.Prelude.{◌≡◌, IfOk, map, string_bytes};
 ghost use Rattle.xom_cli.specs.Endings.{Ends, IsDone, disk, output, outside};
-ghost use Rattle.xom_cli.specs.Outcome.{row_outcome};
+ghost use Rattle.xom_cli.specs.Outcome.{IsOutcome};
 ghost use Rattle.xom_cli.specs.Promises.{Promises};
-ghost use Rattle.xom_cli.specs.Readings.{Gives};
+ghost use Rattle.xom_cli.specs.Readings.{Meets};
 ghost use Rattle.xom_cli.specs.Words.{shown};
 
 use crate::answer::Answer;
@@ -62,7 +62,7 @@ fn call<F: Files, O: Sink>(alloc: Global, words: &[String], files: &mut F, out: 
 
 /// What a row's command answers.
 fn answer<F: Files>(alloc: Global, row: Row<'_>, files: &mut F) -> Result<Answer, Stop>
-    ensures gives { Gives (F.held files.old) (row_outcome (shown row.entry)) (F.reads files.old) (F.reads files.new) result }
+    ensures meets { Meets (F.held files.old) (IsOutcome (shown row.entry)) (F.reads files.old) (F.reads files.new) result }
     ensures done { IfOk result (λ answer. IsDone answer.status) }
     ensures names { F.held files.new ≡ F.held files.old }
     ensures writes { F.writes files.new ≡ F.writes files.old }
