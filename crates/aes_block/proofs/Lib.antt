@@ -1,0 +1,5 @@
+pub mod Entries
+pub mod Inverses
+pub mod Multiples
+pub mod Constants
+pub mod Growth
