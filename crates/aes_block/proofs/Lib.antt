@@ -3,3 +3,4 @@ pub mod Inverses
 pub mod Multiples
 pub mod Constants
 pub mod Growth
+pub mod Sizes

@@ -28,8 +28,8 @@ power_of_x (suc n) = times 2 (power_of_x n)
 unfoldable pub round_constant : ℕ → List ℕ
 round_constant j = power_of_x (j - 1) ∷ 0 ∷ 0 ∷ 0 ∷ []
 
--- what is added to word i - 4 for word i, from the word before: that word, which at each multiple of
--- 4 is rotated and substituted and has a round constant added
+-- what is added to word i - 4 to make word i: the word before it, which at each multiple of 4 is
+-- rotated, substituted and has a round constant added
 unfoldable pub addend : ℕ → List ℕ → List ℕ
 addend i before = if i % 4 == 0 then add_words (sub_word (rot_word before)) (round_constant (i / 4)) else before
 

@@ -36,26 +36,9 @@ pub fn sub_bytes(state: [u8; 16]) -> [u8; 16]
 pub fn shift_rows(state: [u8; 16]) -> [u8; 16]
     ensures { result ≡ shift_rows state }
 {
-    let [
-        a0,
-        a1,
-        a2,
-        a3,
-        b0,
-        b1,
-        b2,
-        b3,
-        c0,
-        c1,
-        c2,
-        c3,
-        d0,
-        d1,
-        d2,
-        d3,
-    ] = state;
     [
-        a0, b1, c2, d3, b0, c1, d2, a3, c0, d1, a2, b3, d0, a1, b2, c3,
+        state[0], state[5], state[10], state[15], state[4], state[9], state[14], state[3],
+        state[8], state[13], state[2], state[7], state[12], state[1], state[6], state[11],
     ]
 }
 
