@@ -1,7 +1,7 @@
--- The field of 256 elements of FIPS 197, section 4. A polynomial whose coefficients are 0 and 1 is a
--- number whose bits are the coefficients, as the standard writes bytes (section 3.2): {63} is
--- x ^ 6 + x ^ 5 + x + 1. A byte is a polynomial of a degree below 8. The sum of two polynomials is
--- their exclusive or (4.1).
+-- The field of 256 elements of FIPS 197, section 4, in whose update 1 the sections have the numbers
+-- given here. A polynomial whose coefficients are 0 and 1 is a number whose bits are the coefficients,
+-- as the standard writes bytes (3.2): {63} is x ^ 6 + x ^ 5 + x + 1. A byte is a polynomial of a degree
+-- below 8. The sum of two polynomials is their exclusive or (4.1).
 use Rattle.std.specs.Prelude.{ℕ, zero, suc, ◌+◌, ◌*◌, ◌^◌, ◌==◌, bit_xor, if◌then◌else◌}
 use Rattle.std.specs.Int.{bit_at}
 
@@ -9,7 +9,7 @@ use Rattle.std.specs.Int.{bit_at}
 abbrev pub modulus : ℕ
 modulus = 2 ^ 8 + 2 ^ 4 + 2 ^ 3 + 2 + 1
 
--- the product of b and the first n terms of a: the sum of x ^ i * b over the terms x ^ i of a
+-- the product of b and the lowest n terms of a: the sum of x ^ i * b over those terms x ^ i
 unfoldable pub polynomial_product : ℕ → ℕ → ℕ → ℕ
 polynomial_product zero a b = 0
 polynomial_product (suc i) a b = bit_xor (polynomial_product i a b) (bit_at a i * 2 ^ i * b)

@@ -52,7 +52,7 @@ words_of key (suc n) = words_of key n ++ next_word (words_of key n) (n + 4) ∷ 
 unfoldable pub key_expansion : List ℕ → List (List ℕ)
 key_expansion key = words_of key 40
 
--- the key whose words begin a schedule
+-- the key whose words begin a key schedule: what a `Schedule` is seen as
 abbrev pub key_of : List (List ℕ) → List ℕ
 key_of words =
     slice_index_or words 0 [] ++ (slice_index_or words 1 [] ++ (slice_index_or words 2 [] ++ slice_index_or words 3 []))

@@ -15,6 +15,6 @@ unfoldable pub affine_bits : ℕ → ℕ → ℕ
 affine_bits zero b = 0
 affine_bits (suc i) b = affine_bits i b + affine_bit b i * 2 ^ i
 
--- S-BOX
+-- SBOX
 unfoldable pub s_box : ℕ → ℕ
 s_box b = affine_bits 8 (inverse b)
