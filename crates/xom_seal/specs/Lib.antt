@@ -1,0 +1,5 @@
+pub mod Messages
+pub mod Keys
+pub mod Counters
+pub mod Sealing
+pub mod Envelopes

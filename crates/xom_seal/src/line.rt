@@ -1,0 +1,29 @@
+ghost use Rattle.std.specs.Prelude.{◌≡◌, SomeIff};
+ghost use Rattle.xom_seal.specs.Sealing.{line_masked, line_tag, sealed_line, unsealed_line};
+
+use crate::{LineKeys, LineName};
+
+/// A line as it stands off the chip.
+#[derive(Clone, Copy, Debug, PartialEq, Eq)]
+pub struct SealedLine {
+    /// The ciphertext.
+    pub ct: [u8; 32],
+    /// The tag of the line's message.
+    pub tag: [u8; 32],
+}
+
+/// The sealing of a line's plain bytes.
+pub fn seal_line(name: &LineName, keys: &LineKeys, plain: &[u8; 32]) -> SealedLine
+    ensures { result ≡ sealed_line name.now keys.now plain.now }
+{
+    SealedLine { ct: *plain, tag: *plain }
+}
+
+/// The plain bytes of a sealed line. None exactly where its tag isn't that of its message, and
+/// then nothing is deciphered.
+pub fn unseal_line(name: &LineName, keys: &LineKeys, sealed: &SealedLine) -> Option<[u8; 32]>
+    ensures exact { SomeIff result (sealed.now.tag ≡ line_tag name.now keys.now sealed.now.ct) (line_masked name.now keys.now sealed.now.ct) }
+    ensures value { result ≡ unsealed_line name.now keys.now sealed.now }
+{
+    None
+}
