@@ -31,7 +31,7 @@ abbrev pub wrapped_in : List ℕ → List ℕ
 wrapped_in envelope = take 32 (drop 24 envelope)
 
 abbrev pub tag_in : List ℕ → List ℕ
-tag_in envelope = drop 56 envelope
+tag_in envelope = take 32 (drop 56 envelope)
 
 -- ---- Wrapping
 
@@ -44,7 +44,7 @@ envelope_pad machine id =
 unfoldable pub key_masked : Key256 → List ℕ → List ℕ → List ℕ
 key_masked machine id key = xored key (envelope_pad machine id)
 
--- the tag of an envelope, which is taken of all that stands before it
+-- the tag of an envelope, which is taken of its first 56 bytes, all that stands before it
 unfoldable pub envelope_tag : Key256 → List ℕ → List ℕ
 envelope_tag machine envelope = hmac_sha256 machine.0 (envelope_message envelope)
 
@@ -68,4 +68,4 @@ contents_of machine envelope = record {
 -- the same of an envelope whose tag is right
 abbrev pub unwrapped : Key256 → List ℕ → Option Unwrapped
 unwrapped machine envelope =
-    if bytes_eq (envelope_tag machine envelope) (tag_in envelope) then Some (contents_of machine envelope) else None
+    if bytes_eq (tag_in envelope) (envelope_tag machine envelope) then Some (contents_of machine envelope) else None

@@ -42,7 +42,7 @@ sealed_line name keys plain = record {
 -- the plain bytes of a line whose tag is that of its ciphertext
 abbrev pub unsealed_line : LineName → LineKeys → SealedLine → Option (List ℕ)
 unsealed_line name keys sealed =
-    if bytes_eq (line_tag name keys sealed.ct) sealed.tag then Some (line_masked name keys sealed.ct) else None
+    if bytes_eq sealed.tag (line_tag name keys sealed.ct) then Some (line_masked name keys sealed.ct) else None
 
 -- ---- Registers
 
@@ -68,4 +68,4 @@ sealed_register name keys value = record {
 -- the value of a register whose tag is that of its ciphertext
 abbrev pub unsealed_register : RegName → RegisterKeys → SealedReg → Option ℕ
 unsealed_register name keys sealed =
-    if bytes_eq (register_tag name keys sealed.ct) sealed.tag then Some (from_be_bytes w32 (register_masked name keys sealed.ct)) else None
+    if bytes_eq sealed.tag (register_tag name keys sealed.ct) then Some (from_be_bytes w32 (register_masked name keys sealed.ct)) else None

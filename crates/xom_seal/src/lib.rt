@@ -6,12 +6,15 @@
 //! differ have messages that differ, whatever their ciphertexts. Nothing here takes memory.
 #![tactic(auto)]
 
+mod counter;
 mod envelope;
 mod keys;
 mod line;
+mod mask;
 mod message;
 mod names;
 mod register;
+mod text;
 
 pub use envelope::{Unwrapped, unwrap, wrap};
 pub use keys::{LineKeys, RegisterKeys, image_keys, register_keys, run_keys};
