@@ -1,1 +1,5 @@
 pub mod Masks
+pub mod Fields
+pub mod MessageLaws
+pub mod CounterLaws
+pub mod SealLaws
