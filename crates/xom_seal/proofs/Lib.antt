@@ -3,3 +3,4 @@ pub mod Fields
 pub mod MessageLaws
 pub mod CounterLaws
 pub mod SealLaws
+pub mod EnvelopeLaws

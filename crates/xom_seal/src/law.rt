@@ -1,4 +1,4 @@
-ghost use Rattle.xom_seal.specs.Laws.{CounterBlocksTell, CounterKindsDiffer, EnvelopeFieldsTell, EnvelopeMessagesTell, KindsDiffer, LineCountersTell, LineMessagesTell, LinesAreSealings, LinesOpen, MessageLengths, RegisterCountersTell, RegisterMessagesTell, RegistersOpen};
+ghost use Rattle.xom_seal.specs.Laws.{CounterBlocksTell, CounterKindsDiffer, EnvelopeFieldsTell, EnvelopeMessagesTell, EnvelopesOpen, KindsDiffer, LineCountersTell, LineMessagesTell, LinesAreSealings, LinesOpen, MessageLengths, RegisterCountersTell, RegisterMessagesTell, RegistersOpen};
 
 /// Laws and no code: equal messages are of one kind, one name and one ciphertext, and each kind has
 /// one length.
@@ -23,9 +23,10 @@ pub fn counter_blocks_tell_their_names()
 {}
 
 /// Laws and no code: what was sealed opens to what it was, and a line that opens was sealed so.
-#[tactic(auto, using(crate::proofs::SealLaws::lines_open, crate::proofs::SealLaws::lines_are_sealings, crate::proofs::SealLaws::registers_open))]
+#[tactic(auto, using(crate::proofs::SealLaws::lines_open, crate::proofs::SealLaws::lines_are_sealings, crate::proofs::SealLaws::registers_open, crate::proofs::EnvelopeLaws::envelopes_open))]
 pub fn sealings_open()
     ensures lines { LinesOpen }
     ensures line_sealings { LinesAreSealings }
     ensures registers { RegistersOpen }
+    ensures envelopes { EnvelopesOpen }
 {}
