@@ -18,11 +18,12 @@ domains_differ domain domain' block block' place place' version version' apart s
 pub counter_blocks_tell : CounterBlocksTell
 unfolding counter_block
 counter_blocks_tell domain domain' block block' place place' version version' p p' v v' same =
-    let places = front_4 place place' (to_be_bytes w64 version) (to_be_bytes w64 version') p p' (ap (λ text. drop 4 text) same) in
-    ( ap (λ text. get_or text 0 0) same
-    , ap (λ text. get_or text 1 0) same
-    , places.0
-    , same_numbers_8 version version' v v' places.1)
+    let places = front_4 place place' (to_be_bytes w64 version) (to_be_bytes w64 version') p p' (ap (λ text. drop 4 text) same) in (
+      ap (λ text. get_or text 0 0) same,
+      ap (λ text. get_or text 1 0) same,
+      places.0,
+      same_numbers_8 version version' v v' places.1,
+    )
 
 pub line_counters_tell : LineCountersTell
 line_counters_tell (Image id line) (Image id' line') i j named named' same =

@@ -125,8 +125,8 @@ parts_open machine plain ranges =
     let keyed : length key ≡ 32 = length-key_masked machine id plain.key.0 ranges.key in
     let sized : length fields ≡ 56 = length-fields id plain.entry plain.lines key ranges.id keyed in
     let stands : tag_in whole ≡ envelope_tag machine whole =
-        tag_in-fields id plain.entry plain.lines key tag ranges.id keyed (length-envelope_tag machine fields)
-        ∙ sym (envelope_tag-append machine fields tag sized) in
+    tag_in-fields id plain.entry plain.lines key tag ranges.id keyed (length-envelope_tag machine fields)
+    ∙ sym (envelope_tag-append machine fields tag sized) in
     ap (λ found. if bytes_eq found (envelope_tag machine whole) then Some (contents_of machine whole) else None) stands
     ∙ lets_through (envelope_tag machine whole) (contents_of machine whole)
     ∙ ap Some (contents_of-parts machine plain tag ranges)

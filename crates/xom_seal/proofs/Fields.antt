@@ -6,11 +6,12 @@ use Rattle.std.proofs.lemmas.Nat.{from_be_bytes-to_be_bytes_4, from_be_bytes-to_
 
 -- equal texts have equal fronts of one length, and equal rests behind these
 pub same_parts : (xs xs' ys ys' : List ℕ) → length xs ≡ length xs' → xs ++ ys ≡ xs' ++ ys' → (xs ≡ xs') × (ys ≡ ys')
-same_parts xs xs' ys ys' sized whole =
-    ( sym (take-append_seam xs ys) ∙ ap (λ text. take (length xs) text) whole
-      ∙ ap (λ n. take n (xs' ++ ys')) sized ∙ take-append_seam xs' ys'
-    , sym (drop-append_seam xs ys) ∙ ap (λ text. drop (length xs) text) whole
-      ∙ ap (λ n. drop n (xs' ++ ys')) sized ∙ drop-append_seam xs' ys')
+same_parts xs xs' ys ys' sized whole = (
+  sym (take-append_seam xs ys) ∙ ap (λ text. take (length xs) text) whole
+      ∙ ap (λ n. take n (xs' ++ ys')) sized ∙ take-append_seam xs' ys',
+  sym (drop-append_seam xs ys) ∙ ap (λ text. drop (length xs) text) whole
+      ∙ ap (λ n. drop n (xs' ++ ys')) sized ∙ drop-append_seam xs' ys',
+)
 
 -- numbers of four bytes
 pub same_numbers_4 : (n m : ℕ) → n < 2 ^ 32 → m < 2 ^ 32 → to_be_bytes w32 n ≡ to_be_bytes w32 m → n ≡ m

@@ -33,10 +33,11 @@ line_messages_tell (Run boot install line version) (Run boot' install' line' ver
     let boots = front_8 boot boot' (to_be_bytes w64 install ++ (to_be_bytes w32 line ++ (to_be_bytes w64 version ++ ct))) (to_be_bytes w64 install' ++ (to_be_bytes w32 line' ++ (to_be_bytes w64 version' ++ other))) named.0 named'.0 (ap body same) in
     let installs = front_8 install install' (to_be_bytes w32 line ++ (to_be_bytes w64 version ++ ct)) (to_be_bytes w32 line' ++ (to_be_bytes w64 version' ++ other)) named.1 named'.1 boots.1 in
     let lines = front_4 line line' (to_be_bytes w64 version ++ ct) (to_be_bytes w64 version' ++ other) named.2 named'.2 installs.1 in
-    let versions = front_8 version version' ct other named.3 named'.3 lines.1 in
-    ( ap (λ n. Run n install line version) boots.0 ∙ ap (λ n. Run boot' n line version) installs.0
-      ∙ ap (λ n. Run boot' install' n version) lines.0 ∙ ap (λ n. Run boot' install' line' n) versions.0
-    , versions.1)
+    let versions = front_8 version version' ct other named.3 named'.3 lines.1 in (
+      ap (λ n. Run n install line version) boots.0 ∙ ap (λ n. Run boot' n line version) installs.0
+          ∙ ap (λ n. Run boot' install' n version) lines.0 ∙ ap (λ n. Run boot' install' line' n) versions.0,
+      versions.1,
+    )
 
 pub register_messages_tell : RegisterMessagesTell
 unfolding register_message
@@ -44,11 +45,12 @@ register_messages_tell a b ct other named named' same =
     let boots = front_8 a.boot b.boot (to_be_bytes w64 a.install ++ (to_be_bytes w64 a.epoch ++ (a.reg ∷ ct))) (to_be_bytes w64 b.install ++ (to_be_bytes w64 b.epoch ++ (b.reg ∷ other))) named.boot named'.boot (ap body same) in
     let installs = front_8 a.install b.install (to_be_bytes w64 a.epoch ++ (a.reg ∷ ct)) (to_be_bytes w64 b.epoch ++ (b.reg ∷ other)) named.install named'.install boots.1 in
     let epochs = front_8 a.epoch b.epoch (a.reg ∷ ct) (b.reg ∷ other) named.epoch named'.epoch installs.1 in
-    let regs : a.reg ≡ b.reg = ap (λ text. get_or text 0 0) epochs.1 in
-    ( ap (λ n. record a { boot = n }) boots.0 ∙ ap (λ n. record a { boot = b.boot; install = n }) installs.0
-      ∙ ap (λ n. record a { boot = b.boot; install = b.install; epoch = n }) epochs.0
-      ∙ ap (λ n. record b { reg = n }) regs
-    , ap body epochs.1)
+    let regs : a.reg ≡ b.reg = ap (λ text. get_or text 0 0) epochs.1 in (
+      ap (λ n. record a { boot = n }) boots.0 ∙ ap (λ n. record a { boot = b.boot; install = n }) installs.0
+          ∙ ap (λ n. record a { boot = b.boot; install = b.install; epoch = n }) epochs.0
+          ∙ ap (λ n. record b { reg = n }) regs,
+      ap body epochs.1,
+    )
 
 pub envelope_messages_tell : EnvelopeMessagesTell
 unfolding envelope_message

@@ -28,9 +28,10 @@ lets_through tag value = ap (λ same. if same then Some value else None) ((bytes
 let_through : {X : Type 0} (tag other : List ℕ) (value found : X) → (if bytes_eq tag other then Some value else None) ≡ Some found → (tag ≡ other) × (value ≡ found)
 let_through tag other value found through =
     elim (cases_Bool (bytes_eq tag other)) [
-        inl same ↦
-          ( (bytes_eq-Decides tag other).0 same
-          , cc (sym (ap (λ b. if b then Some value else None) same) ∙ through))
+      | inl same ↦ (
+        (bytes_eq-Decides tag other).0 same,
+        cc (sym (ap (λ b. if b then Some value else None) same) ∙ through),
+      )
       | inr differs ↦ absurd (cc (sym (ap (λ b. if b then Some value else None) differs) ∙ through))
     ]
 

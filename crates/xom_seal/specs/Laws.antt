@@ -44,19 +44,19 @@ EnvelopeFieldsTell =
 -- Messages of two kinds differ, whatever their fields.
 pub record KindsDiffer : Type 0 where
   pub image_run : (id : ImageId) (place boot install line version : ℕ) (ct other : List ℕ)
-    → line_message (Image id place) ct ≢ line_message (Run boot install line version) other
+      → line_message (Image id place) ct ≢ line_message (Run boot install line version) other
   pub line_register : (line : LineName) (register : RegName) (ct other : List ℕ)
-    → line_message line ct ≢ register_message register other
+      → line_message line ct ≢ register_message register other
   pub line_envelope : (line : LineName) (ct envelope : List ℕ) → line_message line ct ≢ envelope_message envelope
   pub register_envelope : (register : RegName) (ct envelope : List ℕ)
-    → register_message register ct ≢ envelope_message envelope
+      → register_message register ct ≢ envelope_message envelope
 
 -- how many bytes the messages have
 pub record MessageLengths : Type 0 where
   pub image_line : (id : ImageId) (line : ℕ) (ct : List ℕ) → length id.0 ≡ 16 → length ct ≡ 32
-    → length (line_message (Image id line) ct) ≡ 53
+      → length (line_message (Image id line) ct) ≡ 53
   pub run_line : (boot install line version : ℕ) (ct : List ℕ) → length ct ≡ 32
-    → length (line_message (Run boot install line version) ct) ≡ 61
+      → length (line_message (Run boot install line version) ct) ≡ 61
   pub register : (name : RegName) (ct : List ℕ) → length ct ≡ 4 → length (register_message name ct) ≡ 30
   pub envelope : (envelope : List ℕ) → length envelope ≡ 88 → length (envelope_message envelope) ≡ 57
 
@@ -91,7 +91,7 @@ RegisterCountersTell =
 -- Counter blocks of two kinds differ, whatever their fields.
 pub record CounterKindsDiffer : Type 0 where
   pub image_run : (id : ImageId) (place boot install line version i j : ℕ)
-    → line_counter (Image id place) i ≢ line_counter (Run boot install line version) j
+      → line_counter (Image id place) i ≢ line_counter (Run boot install line version) j
   pub line_register : (line : LineName) (register : RegName) (i : ℕ) → line_counter line i ≢ register_counter register
   pub line_envelope : (line : LineName) (i j : ℕ) → line_counter line i ≢ envelope_counter j
   pub register_envelope : (register : RegName) (j : ℕ) → register_counter register ≢ envelope_counter j

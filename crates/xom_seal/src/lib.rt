@@ -15,6 +15,8 @@ mod mask;
 mod message;
 mod names;
 mod register;
+#[cfg(test)]
+mod tests;
 mod text;
 
 pub use envelope::{Unwrapped, unwrap, wrap};
