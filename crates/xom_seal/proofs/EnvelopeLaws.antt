@@ -1,5 +1,5 @@
 -- A wrapped key opens to what was wrapped.
-use Rattle.std.proofs.Common.{◌≡◌, ℕ, ◌^◌, ◌<◌, ◌≤◌, ◌+◌, List, ◌∷◌, ◌++◌, Option, Some, None, if◌then◌else◌, length, take, drop, refl, ap, sym, ◌∙◌, arith, append_assoc}
+use Rattle.std.proofs.Common.{◌≡◌, ℕ, ◌^◌, ◌<◌, ◌≤◌, ◌+◌, List, ◌∷◌, ◌++◌, Option, Some, None, if◌then◌else◌, length, take, drop, refl, ap, sym, ◌∙◌, arith, append_assoc, subst}
 use Rattle.std.specs.Int.{w32, from_be_bytes, to_be_bytes}
 use Rattle.std.specs.Str.{bytes_eq}
 use Rattle.std.proofs.Math.Seq.{drop-append-add, take-append_seam, take-length}
@@ -12,7 +12,7 @@ use Rattle.xom_seal.specs.declared.envelope.Unwrapped.{Unwrapped}
 use Rattle.xom_seal.specs.Counters.{envelope_counter}
 use Rattle.xom_seal.specs.Envelopes.{contents_of, entry_in, envelope_fields, envelope_pad, envelope_tag, fields_of, id_in, key_masked, lines_in, tag_in, unwrapped, wrapped, wrapped_in}
 use Rattle.xom_seal.specs.Keys.{envelope_aes_key}
-use Rattle.xom_seal.specs.Laws.{EnvelopesOpen, IsUnwrapped}
+use Rattle.xom_seal.specs.Laws.{EnvelopesOpen, EnvelopesShow, IsUnwrapped, Shows}
 use Rattle.xom_seal.specs.Messages.{envelope_message}
 use Rattle.xom_seal.proofs.Masks.{length-xored, xored_twice}
 use Rattle.xom_seal.proofs.SealLaws.{length-aes128, lets_through}
@@ -133,3 +133,22 @@ parts_open machine plain ranges =
 
 pub envelopes_open : EnvelopesOpen
 envelopes_open machine plain ranges = ap (unwrapped machine) (wrapped-parts machine plain) ∙ parts_open machine plain ranges
+
+-- ---- What an envelope shows
+
+parts_show : (machine : Key256) (plain : Unwrapped) (tag : List ℕ) → IsUnwrapped plain → length tag ≡ 32 → Shows (fields_of machine plain ++ tag) plain
+parts_show machine plain tag ranges tagged =
+    let key : List ℕ = key_masked machine plain.id.0 plain.key.0 in
+    let keyed : length key ≡ 32 = length-key_masked machine plain.id.0 plain.key.0 ranges.key in
+    let fields : length (fields_of machine plain) ≡ 56 = length-fields plain.id.0 plain.entry plain.lines key ranges.id keyed in
+    record {
+      size = length-append (fields_of machine plain) tag ∙ omega (arith, fields, tagged);
+      id = id_in-fields plain.id.0 plain.entry plain.lines key tag ranges.id;
+      entry = entry_in-fields plain.id.0 plain.entry plain.lines key tag ranges.id ranges.entry;
+      lines = lines_in-fields plain.id.0 plain.entry plain.lines key tag ranges.id ranges.lines;
+    }
+
+pub envelopes_show : EnvelopesShow
+envelopes_show machine plain ranges =
+    subst (λ envelope. Shows envelope plain) (sym (wrapped-parts machine plain))
+    (parts_show machine plain (envelope_tag machine (fields_of machine plain)) ranges (length-envelope_tag machine (fields_of machine plain)))

@@ -8,15 +8,17 @@ use Rattle.std.proofs.lemmas.Slice.Eq.{bytes_eq-Decides}
 use Rattle.std.proofs.lemmas.List.{length-append, length-take-le}
 use Rattle.aes_block.specs.Cipher.{aes128, cipher}
 use Rattle.aes_block.specs.State.{add_round_key}
+use Rattle.keyed_mac.proofs.Lengths.{tags_have_their_length}
 use Rattle.xom_seal.specs.declared.keys.LineKeys.{LineKeys}
 use Rattle.xom_seal.specs.declared.keys.RegisterKeys.{RegisterKeys}
 use Rattle.xom_seal.specs.declared.line.SealedLine.{SealedLine}
 use Rattle.xom_seal.specs.declared.names.LineName.{LineName}
 use Rattle.xom_seal.specs.declared.names.RegName.{RegName}
 use Rattle.xom_seal.specs.Counters.{register_counter}
-use Rattle.xom_seal.specs.Laws.{LinesAreSealings, LinesOpen, RegistersOpen}
+use Rattle.xom_seal.specs.Laws.{LinesAreSealings, LinesOpen, RegistersOpen, SealedLinesHaveTheirLength}
+use Rattle.xom_seal.specs.Messages.{line_message}
 use Rattle.xom_seal.specs.Sealing.{line_masked, line_pad, line_tag, register_masked, register_pad, register_tag, sealed_line, unsealed_line}
-use Rattle.xom_seal.proofs.Masks.{xored_twice}
+use Rattle.xom_seal.proofs.Masks.{length-xored, xored_twice}
 
 -- ---- Tests of tags
 
@@ -87,3 +89,19 @@ registers_open name keys value below =
     lets_through (register_tag name keys (register_masked name keys plain)) (from_be_bytes w32 (register_masked name keys (register_masked name keys plain)))
     ∙ ap (λ bytes. Some (from_be_bytes w32 bytes)) (register_masked-twice name keys plain refl)
     ∙ ap Some (from_be_bytes-to_be_bytes_4 value below)
+
+-- ---- Lengths
+
+length-line_masked : (name : LineName) (keys : LineKeys) (bytes : List ℕ) → length bytes ≡ 32 → length (line_masked name keys bytes) ≡ 32
+unfolding line_masked
+length-line_masked name keys bytes sized =
+    let room : length (line_pad name keys) ≡ 32 = length-line_pad name keys in
+    length-xored bytes (line_pad name keys) (omega arith) ∙ sized
+
+length-line_tag : (name : LineName) (keys : LineKeys) (ct : List ℕ) → length (line_tag name keys ct) ≡ 32
+unfolding line_tag
+length-line_tag name keys ct = tags_have_their_length keys.tag.0 (line_message name ct)
+
+pub sealed_lines_have_their_length : SealedLinesHaveTheirLength
+sealed_lines_have_their_length name keys plain sized =
+    (length-line_masked name keys plain sized, length-line_tag name keys (line_masked name keys plain))

@@ -11,7 +11,7 @@ use Rattle.xom_seal.specs.declared.names.LineName.TheVariants.{Image, Run}
 use Rattle.xom_seal.specs.declared.names.RegName.{RegName}
 use Rattle.xom_seal.specs.declared.register.SealedReg.{SealedReg}
 use Rattle.xom_seal.specs.Counters.{counter_block, envelope_counter, line_counter, register_counter}
-use Rattle.xom_seal.specs.Envelopes.{envelope_fields, unwrapped, wrapped}
+use Rattle.xom_seal.specs.Envelopes.{entry_in, envelope_fields, id_in, lines_in, unwrapped, wrapped}
 use Rattle.xom_seal.specs.Messages.{IsLineName, IsRegName, envelope_message, line_message, register_message}
 use Rattle.xom_seal.specs.Sealing.{sealed_line, sealed_register, unsealed_line, unsealed_register}
 
@@ -127,3 +127,19 @@ pub record IsUnwrapped (plain : Unwrapped) : Type 0 where
 abbrev pub EnvelopesOpen : Type 0
 EnvelopesOpen =
     (machine : Key256) (plain : Unwrapped) → IsUnwrapped plain → unwrapped machine (wrapped machine plain) ≡ Some plain
+
+-- what the envelope for an image shows to everybody, and its size
+pub record Shows (envelope : List ℕ) (plain : Unwrapped) : Type 0 where
+  pub size : length envelope ≡ 88
+  pub id : id_in envelope ≡ plain.id.0
+  pub entry : entry_in envelope ≡ plain.entry
+  pub lines : lines_in envelope ≡ plain.lines
+
+abbrev pub EnvelopesShow : Type 0
+EnvelopesShow = (machine : Key256) (plain : Unwrapped) → IsUnwrapped plain → Shows (wrapped machine plain) plain
+
+-- a sealed line has 32 bytes of ciphertext and 32 of tag
+abbrev pub SealedLinesHaveTheirLength : Type 0
+SealedLinesHaveTheirLength =
+    (name : LineName) (keys : LineKeys) (plain : List ℕ) → length plain ≡ 32
+    → (length (sealed_line name keys plain).ct ≡ 32) × (length (sealed_line name keys plain).tag ≡ 32)

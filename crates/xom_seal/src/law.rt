@@ -1,4 +1,4 @@
-ghost use Rattle.xom_seal.specs.Laws.{CounterBlocksTell, CounterKindsDiffer, EnvelopeFieldsTell, EnvelopeMessagesTell, EnvelopesOpen, KindsDiffer, LineCountersTell, LineMessagesTell, LinesAreSealings, LinesOpen, MessageLengths, RegisterCountersTell, RegisterMessagesTell, RegistersOpen};
+ghost use Rattle.xom_seal.specs.Laws.{CounterBlocksTell, CounterKindsDiffer, EnvelopeFieldsTell, EnvelopeMessagesTell, EnvelopesOpen, EnvelopesShow, KindsDiffer, LineCountersTell, LineMessagesTell, LinesAreSealings, LinesOpen, MessageLengths, RegisterCountersTell, RegisterMessagesTell, RegistersOpen, SealedLinesHaveTheirLength};
 
 /// Laws and no code: equal messages are of one kind, one name and one ciphertext, and each kind has
 /// one length.
@@ -29,4 +29,10 @@ pub fn sealings_open()
     ensures line_sealings { LinesAreSealings }
     ensures registers { RegistersOpen }
     ensures envelopes { EnvelopesOpen }
+{}
+
+/// Laws and no code: the form of what is sealed, and what an envelope shows without any key.
+pub fn sealings_have_their_form()
+    ensures lines { SealedLinesHaveTheirLength }
+    ensures envelopes { EnvelopesShow }
 {}
