@@ -1,11 +1,14 @@
--- What is read is in the grammar.
+-- What is read is in the grammar, and keeps the rules of an image.
 use Rattle.std.proofs.Common.{◌≡◌, Ok, arith}
 use Rattle.std.proofs.lemmas.Grind.{common_steps}
-use Rattle.xom_image.specs.PlainFiles.{plain_image_at}
-use Rattle.xom_image.proofs.Reading.{read-file}
+use Rattle.xom_image.specs.Fields.{fields_at}
+use Rattle.xom_image.specs.PlainFiles.{plain_format}
+use Rattle.xom_image.proofs.Reading.{fields-told}
+use Rattle.xom_image.proofs.PlainReading.{plain_is_format, read-file}
 use Rattle.xom_image.proofs.plain.image_of.Goals as goal
 
 pub returns-clause-found : goal.returns-clause-found
-returns-clause-found c =
-    let read : plain_image_at c.args.file.now ≡ Ok (c.in_ok-entry.entry, c.from_vec.result) = grind (arith, common_steps) in
-    read-file _ _ _ (λ i. omega (arith, c.type_inv.file i)) read
+returns-clause-found c = ?
+
+pub invariant_of-result : goal.invariant_of-result
+invariant_of-result c = ?
