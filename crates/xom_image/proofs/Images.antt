@@ -2,7 +2,7 @@
 use Rattle.std.proofs.Common.{◌≡◌, ◌≤◌, ◌<◌, ◌%◌, ◌^◌, ℕ, List, length}
 use Rattle.std.proofs.Math.Bridge.{le_prop}
 use Rattle.std.proofs.Math.Nat.{ℕ_set}
-use mathlib.Core.HLevel.{IsProp, is_prop→PathP}
+use mathlib.Core.HLevel.{is_prop→PathP}
 use Rattle.xom_base.specs.declared.image.PlainImage.{PlainImage}
 use Rattle.xom_seal.specs.declared.line.SealedLine.{SealedLine}
 use Rattle.xom_seal.specs.Envelopes.{entry_in, lines_in}

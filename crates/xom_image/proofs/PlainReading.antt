@@ -1,5 +1,5 @@
 -- The reading of a plain image file is the grammar, both ways.
-use Rattle.std.proofs.Common.{◌≡◌, ℕ, ◌+◌, ◌%◌, ◌^◌, ◌<◌, ◌≤◌, ◌⊎◌, inl, inr, List, ◌++◌, Result, Ok, Err, drop, get_or, length, take, refl, sym, ◌∙◌, ap, arith, ◌↔◌}
+use Rattle.std.proofs.Common.{◌≡◌, ℕ, ◌+◌, ◌*◌, ◌%◌, ◌^◌, ◌<◌, ◌≤◌, ◌⊎◌, inl, inr, List, ◌++◌, Result, Ok, Err, drop, get_or, length, take, refl, sym, ◌∙◌, ap, arith, ◌↔◌}
 use Rattle.std.specs.Int.{w32, to_be_bytes}
 use Rattle.std.proofs.lemmas.Bool.{cases_lt}
 use Rattle.std.proofs.lemmas.List.{take-append-drop, drop-drop, length-take, length-take-le, length-drop, get_or-take, get_or-drop, get_or_past}
@@ -8,7 +8,7 @@ use Rattle.xom_base.specs.declared.image.PlainImage.{PlainImage}
 use Rattle.xom_image.specs.declared.fault.ImageFault.{ImageFault}
 use Rattle.xom_image.specs.declared.fault.ImageFault.TheVariants as fault
 use Rattle.xom_image.proofs.Images.{PlainImage-equal}
-use Rattle.xom_image.proofs.Reading.{agreed-all, bad-fields, fields-bad, ok_parts, ok_apart, whole-fields, AnswersBy-bad, AnswersBy-only}
+use Rattle.xom_image.proofs.Reading.{agreed-all, bad-fields, fields-bad, fields-told, ok_apart, whole-fields, AnswersBy-bad, AnswersBy-only}
 use Rattle.xom_image.specs.Fields.{number_at, agreed, fields_at, IsFormat, IsWhole}
 use Rattle.xom_image.specs.PlainFiles.{plain_head, plain_file, plain_format, plain_of, IsPlainFile, IsFirstBad, plain_image_at, Answers}
 
@@ -40,16 +40,37 @@ pieces file =
     ∙ take-append-drop 8 file)
 
 -- a file that breaks no rule is that of its own parts
-pub IsWhole-file : (file : List ℕ) → ((i : ℕ) → get_or file i 0 < 256) → IsWhole plain_format file → file ≡ plain_file (number_at file 8) (drop 16 file)
+IsWhole-file : (file : List ℕ) → ((i : ℕ) → get_or file i 0 < 256) → IsWhole plain_format file → file ≡ plain_file (number_at file 8) (drop 16 file)
 unfolding plain_file
 IsWhole-file file bytes whole =
+    let size : length file ≡ 16 + 1 * number_at file 12 = whole.size in
     let said : length (drop 16 file) ≡ number_at file 12 = simp length-drop (omega arith) in
     let entry = field-written file 8 bytes (omega arith) in
     let length = field-written file 12 bytes (omega arith) in
     sym (pieces file) ∙ four (drop 16 file) (agreed-all plain_head file whole.head) (sym entry) (sym (ap (to_be_bytes w32) said ∙ length))
--- what is read of a file is in the grammar
-pub read-file : (file : List ℕ) → ((i : ℕ) → get_or file i 0 < 256) → IsWhole plain_format file → file ≡ plain_file (number_at file 8) (drop 16 file)
-read-file file small whole = IsWhole-file file small whole
+
+-- What is read of a file is in the grammar, and keeps the rules of an image.
+module _ (file : List ℕ) (entry count : ℕ) (is : fields_at plain_format file ≡ Ok (entry, count)) where
+  breaks_none : IsWhole plain_format file
+  breaks_none = (fields-told plain_format file (entry, count) plain_is_format is).0
+
+  entry_told : entry ≡ number_at file 8
+  entry_told = ap (λ (fields : ℕ × ℕ). fields.0) (fields-told plain_format file (entry, count) plain_is_format is).1
+
+  pub told-aligned : entry % 4 ≡ 0
+  told-aligned = rw entry_told breaks_none.aligned
+
+  pub told-private : entry < 2 ^ 20
+  told-private = rw entry_told breaks_none.private
+
+  pub told-fits : length (drop 16 file) ≤ 2 ^ 20
+  told-fits =
+      let size : length file ≡ 16 + 1 * number_at file 12 = breaks_none.size in
+      let most : number_at file 12 ≤ 2 ^ 20 = breaks_none.most in
+      simp length-drop (omega arith)
+
+  pub told-file : ((i : ℕ) → get_or file i 0 < 256) → file ≡ plain_file entry (drop 16 file)
+  told-file small = IsWhole-file file small breaks_none ∙ ap (λ n. plain_file n (drop 16 file)) (sym entry_told)
 
 -- the file of an image breaks no rule
 plain_file-whole : (entry : ℕ) (bytes : List ℕ) → entry % 4 ≡ 0 → entry < 2 ^ 20 → length bytes ≤ 2 ^ 20 → IsWhole plain_format (plain_file entry bytes)

@@ -12,7 +12,7 @@ use Rattle.xom_image.specs.declared.fault.ImageFault.TheVariants as fault
 use Rattle.xom_image.specs.declared.sealed_image.SealedImage.{SealedImage}
 use Rattle.xom_image.proofs.Images.{SealedImage-equal}
 use Rattle.xom_image.proofs.LineBytes.{AreWhole, length-lines_at, lines_at-all, lines_at-lines, lines_at-whole, lines-length}
-use Rattle.xom_image.proofs.Reading.{agreed-all, bad-fields, fields-bad, ok_apart, whole-fields, AnswersBy-bad, AnswersBy-only}
+use Rattle.xom_image.proofs.Reading.{agreed-all, bad-fields, fields-bad, fields-told, ok_apart, whole-fields, AnswersBy-bad, AnswersBy-only}
 use Rattle.xom_image.specs.Fields.{number_at, agreed, fields_at, IsFormat, IsWhole}
 use Rattle.xom_image.specs.SealedFiles.{sealed_head, line_bytes, sealed_file, sealed_format, lines_at, envelope_at, sealed_of, IsSealedFile, IsFirstBadSealed, sealed_image_at, AnswersSealed}
 
@@ -47,29 +47,46 @@ field-in file place after all within =
     ∙ take-take 4 after (drop place (drop 8 file)) within
     ∙ ap (take 4) (drop-drop place 8 file)
 
-pub entry_in-file : (file : List ℕ) → entry_in (envelope_at file) ≡ number_at file 24
+entry_in-file : (file : List ℕ) → entry_in (envelope_at file) ≡ number_at file 24
 unfolding number_at
 entry_in-file file = ap (from_be_bytes w32) (field-in file 16 72 refl (omega arith))
 
-pub lines_in-file : (file : List ℕ) → lines_in (envelope_at file) ≡ number_at file 28
+lines_in-file : (file : List ℕ) → lines_in (envelope_at file) ≡ number_at file 28
 unfolding number_at
 lines_in-file file = ap (from_be_bytes w32) (field-in file 20 68 refl (omega arith))
 
--- what a file that breaks no rule says keeps the rules of an image
-pub whole-aligned : (file : List ℕ) → IsWhole sealed_format file → entry_in (envelope_at file) % 4 ≡ 0
-whole-aligned file whole = rw (entry_in-file file) whole.aligned
+-- What is read of a file keeps the rules of an image.
+module _ (file : List ℕ) (entry count : ℕ) (is : fields_at sealed_format file ≡ Ok (entry, count)) where
+  breaks_none : IsWhole sealed_format file
+  breaks_none = (fields-told sealed_format file (entry, count) sealed_is_format is).0
 
-pub whole-private : (file : List ℕ) → IsWhole sealed_format file → entry_in (envelope_at file) < 2 ^ 20
-whole-private file whole = rw (entry_in-file file) whole.private
+  count_told : count ≡ number_at file 28
+  count_told = ap (λ (fields : ℕ × ℕ). fields.1) (fields-told sealed_format file (entry, count) sealed_is_format is).1
 
-pub whole-counted : (file : List ℕ) → lines_in (envelope_at file) ≡ length (lines_at file (number_at file 28))
-whole-counted file = lines_in-file file ∙ sym (length-lines_at file (number_at file 28))
+  pub told-room : 96 + 64 * count ≤ length file
+  told-room = let size : length file ≡ 96 + 64 * number_at file 28 = breaks_none.size in omega (arith, count_told)
 
-pub whole-fits : (file : List ℕ) → IsWhole sealed_format file → length (lines_at file (number_at file 28)) ≤ 2 ^ 15
-whole-fits file whole = rw (length-lines_at file (number_at file 28)) whole.most
+  pub told-sized : length (envelope_at file) ≡ 88
+  told-sized = length-take-le 88 (drop 8 file) (simp length-drop (omega (arith, told-room)))
 
-pub whole-lines : (file : List ℕ) → IsWhole sealed_format file → AreWhole (lines_at file (number_at file 28))
-whole-lines file whole = lines_at-whole file (number_at file 28) (let size : length file ≡ 96 + 64 * number_at file 28 = whole.size in omega arith)
+  pub told-aligned : entry_in (envelope_at file) % 4 ≡ 0
+  told-aligned = rw (entry_in-file file) breaks_none.aligned
+
+  pub told-private : entry_in (envelope_at file) < 2 ^ 20
+  told-private = rw (entry_in-file file) breaks_none.private
+
+  pub told-counted : lines_in (envelope_at file) ≡ length (lines_at file count)
+  told-counted = lines_in-file file ∙ sym (count_told) ∙ sym (length-lines_at file count)
+
+  pub told-fits : length (lines_at file count) ≤ 2 ^ 15
+  told-fits = let most : number_at file 28 ≤ 2 ^ 15 = breaks_none.most in omega (arith, count_told, length-lines_at file count)
+
+  pub told-whole : AreWhole (lines_at file count)
+  told-whole = lines_at-whole file count told-room
+
+  -- it is in the grammar
+  pub told-file : file ≡ sealed_file (envelope_at file) (lines_at file count)
+  told-file = IsWhole-sealed_file file breaks_none ∙ ap (λ n. sealed_file (envelope_at file) (lines_at file n)) (sym count_told)
 
 -- ---- From the image to its file
 

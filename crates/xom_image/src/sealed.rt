@@ -50,6 +50,7 @@ fn image_of(alloc: Global, file: &[u8]) -> Result<SealedImage, ImageFault>
 }
 
 /// The first lines of a file.
+#[tactic(auto, using(crate::proofs::LineBytes::lines_at_more))]
 fn lines_at(alloc: Global, file: &[u8], count: u32) -> Result<Vec<SealedLine>, AllocError>
     requires { START + LINE * count ≤ length file.now }
     ensures { IfOk result (λ lines. lines.items ≡ lines_of file.now count) }
