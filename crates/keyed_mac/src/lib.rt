@@ -6,6 +6,7 @@
 ghost use Rattle.std.specs.Prelude.{◌≡◌, ◌≤◌, ◌↔◌, ◌++◌, IsTrue, length};
 ghost use Rattle.sha2.specs.Sha256.{sha256};
 ghost use Rattle.keyed_mac.specs.Hmac.{block_key, hmac_sha256, masked as masked_of};
+ghost use Rattle.keyed_mac.specs.Laws.{TagsHaveTheirLength};
 
 #[cfg(test)]
 mod tests;
@@ -81,3 +82,9 @@ pub fn matches(a: &[u8; 32], b: &[u8; 32]) -> bool
     }
     difference == 0
 }
+
+/// A law and no code: a tag has 32 bytes, whatever the key and the text.
+#[tactic(auto, using(crate::proofs::Lengths::tags_have_their_length))]
+pub fn tags_have_their_length()
+    ensures { TagsHaveTheirLength }
+{}

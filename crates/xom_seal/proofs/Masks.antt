@@ -30,3 +30,21 @@ masked_more xs ys zs i below other so_far =
     ∙ ap (λ byte. set (masked_to i xs ys) i (bit_xor byte (get_or ys i 0))) (get_or-masked_to xs ys i below other)
     ∙ set-masked_to xs ys i below other
     ∙ ap (λ n. masked_to n xs ys) (sym (add-one i))
+
+-- ---- What is masked twice
+
+same_from_twice : (x y : ℕ) → bit_xor (bit_xor x y) y ≡ x
+same_from_twice x y = xor_assoc x y y ∙ ap (λ n. bit_xor x n) (xor_self y) ∙ xor_zero_r x
+
+-- masked twice by one pad, a text is what it was
+pub xored_twice : (xs pad : List ℕ) → length xs ≤ length pad → xored (xored xs pad) pad ≡ xs
+xored_twice [] pad within = refl
+xored_twice (x ∷ xs) [] within = absurd (omega arith)
+xored_twice (x ∷ xs) (y ∷ pad) within =
+    ap (λ byte. byte ∷ xored (xored xs pad) pad) (same_from_twice x y) ∙ ap (λ rest. x ∷ rest) (xored_twice xs pad (omega arith))
+
+-- a masked text has its length
+pub length-xored : (xs pad : List ℕ) → length xs ≤ length pad → length (xored xs pad) ≡ length xs
+length-xored [] pad within = refl
+length-xored (x ∷ xs) [] within = absurd (omega arith)
+length-xored (x ∷ xs) (y ∷ pad) within = ap suc (length-xored xs pad (omega arith))

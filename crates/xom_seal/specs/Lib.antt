@@ -3,3 +3,4 @@ pub mod Keys
 pub mod Counters
 pub mod Sealing
 pub mod Envelopes
+pub mod Laws

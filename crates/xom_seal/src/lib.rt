@@ -9,15 +9,22 @@
 mod counter;
 mod envelope;
 mod keys;
+mod law;
 mod line;
 mod mask;
 mod message;
 mod names;
 mod register;
+#[cfg(test)]
+mod tests;
 mod text;
 
 pub use envelope::{Unwrapped, unwrap, wrap};
 pub use keys::{LineKeys, RegisterKeys, image_keys, register_keys, run_keys};
+pub use law::{
+    counter_blocks_tell_their_names, messages_tell_their_names, sealings_have_their_form,
+    sealings_open,
+};
 pub use line::{SealedLine, seal_line, unseal_line};
 pub use message::{envelope_message, line_message, register_message};
 pub use names::{LineName, RegName};
