@@ -29,17 +29,17 @@ lines_at_more file n = map-range_with_len_more (λ i. line_at file (96 + 64 * i)
 pub length-lines_at : (file : List ℕ) (n : ℕ) → length (lines_at file n) ≡ n
 length-lines_at file n = length-map-range_with_len (λ i. line_at file (96 + 64 * i)) 0 n
 
--- a line at a place among those of a file
-get-lines_at : (file : List ℕ) (n i : ℕ) (line : SealedLine) → slice_get (lines_at file n) i ≡ Some line → (i < n) × (line ≡ line_at file (96 + 64 * i))
-get-lines_at file n i line is =
-    let inside : i < length (lines_at file n) = slice_get_within (lines_at file n) i line is in
-    let below : i < n = omega (arith, length-lines_at file n) in
-    (below, sym (get_or_from_slice_get (lines_at file n) i line line is) ∙ get_or-map-range_with_len (λ i. line_at file (96 + 64 * i)) 0 n i i line below (omega arith))
+-- a value at a place of a list that is made place by place
+pub get-made : {X : Type 0} (f : ℕ → X) (n i : ℕ) (x : X) → slice_get (map f (range_with_len 0 n)) i ≡ Some x → (i < n) × (x ≡ f i)
+get-made f n i x is =
+    let inside : i < length (map f (range_with_len 0 n)) = slice_get_within (map f (range_with_len 0 n)) i x is in
+    let below : i < n = omega (arith, length-map-range_with_len f 0 n) in
+    (below, sym (get_or_from_slice_get (map f (range_with_len 0 n)) i x x is) ∙ get_or-map-range_with_len f 0 n i i x below (omega arith))
 
 -- the lines of a file that has the bytes for them are whole
 pub lines_at-whole : (file : List ℕ) (n : ℕ) → 96 + 64 * n ≤ length file → AreWhole (lines_at file n)
 lines_at-whole file n there i line is =
-    let (below, same) = get-lines_at file n i line is in
+    let (below, same) = get-made (λ k. line_at file (96 + 64 * k)) n i line is in
     let ct : length (line_at file (96 + 64 * i)).ct ≡ 32 = length-take-le 32 (drop (96 + 64 * i) file) (simp length-drop (omega arith)) in
     let tag : length (line_at file (96 + 64 * i)).tag ≡ 32 = length-take-le 32 (drop (96 + 64 * i + 32) file) (simp length-drop (omega arith)) in
     (ap (λ (l : SealedLine). length l.ct) same ∙ ct, ap (λ (l : SealedLine). length l.tag) same ∙ tag)
