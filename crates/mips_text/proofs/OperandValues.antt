@@ -1,16 +1,13 @@
 -- The number that stands for an operand tells it from every other of its kind.
-use Rattle.std.proofs.Common.{◌≡◌, ◌⊎◌, ℕ, ◌+◌, ◌-◌, ◌*◌, ◌%◌, ◌^◌, ◌<◌, ◌≤◌, ℤ, pos, negsuc, ◌+ℤ◌, ◌-ℤ◌, ◌*ℤ◌, ltb, cond, true, false, inl, inr, Option, None, Some, codes, ◌++◌, refl, sym, ap, ◌∙◌, mul_comm, lit<, arith}
+use Rattle.std.proofs.Common.{◌≡◌, ◌⊎◌, ℕ, ◌+◌, ◌-◌, ◌*◌, ◌%◌, ◌^◌, ◌<◌, ◌≤◌, ℤ, pos, ◌+ℤ◌, ◌-ℤ◌, ◌*ℤ◌, ltb, inl, inr, Option, refl, sym, ap, ◌∙◌, mul_comm, lit<, arith}
 use Rattle.std.proofs.lemmas.Bool.{cases_Bool, ltb-true, ltb-false}
 use Rattle.std.proofs.lemmas.Int.{ints, int_rem_euclid_is}
 use Rattle.std.specs.Prelude.{unsigned_abs}
-use Rattle.std.specs.Int.{int_rem_euclid}
 use Rattle.mips_isa.proofs.Reading.{Word-read, reserved-none}
 use Rattle.mips_isa.specs.declared.instruction.Ins.{Ins}
 use Rattle.mips_effect.specs.Numbers.{signed_16, reduced, target, jump_target, after}
-use Rattle.mips_text.specs.declared.operand.Operand.{Operand}
 use Rattle.mips_text.specs.declared.operand.Operand.TheVariants.{Register, Shift, Signed, Unsigned, Code, Branch, Jump, Offset}
-use Rattle.mips_text.specs.Forms.{kind_of, base_of, InRange}
-use Rattle.mips_text.specs.Texts.{value_of, word_text, read_text, address_text}
+use Rattle.mips_text.specs.Texts.{read_text}
 use Rattle.mips_text.specs.FormLaws.{ValuesDiffer, WordsAreListed}
 
 -- a number of 16 bits with its sign is itself, or itself less 2^16
