@@ -1,1 +1,2 @@
 pub mod FormTable
+pub mod OperandValues
