@@ -1,8 +1,8 @@
 ghost use Rattle.std.specs.Prelude.{◌≡◌, map, option_map, string_bytes};
-ghost use Rattle.xom_cli.specs.Rows.{plain_row as plain_row_of, row_of};
+ghost use Rattle.xom_cli.specs.Rows.{plain_row as plain_row_of, row_of, seal_row as seal_row_of};
 ghost use Rattle.xom_cli.specs.Words.{shown};
 
-use xom_base::number_below;
+use xom_base::{ImageId, Key256, hex16, hex32, number_below};
 
 /// The most steps that `plain` is asked for.
 const MOST_STEPS: u64 = 1_048_576;
@@ -19,6 +19,14 @@ pub enum Row<'a> {
         image: &'a String,
         steps: u64,
         received: Option<&'a String>,
+    },
+    /// `seal IMAGE KEY ID MACHINE SEALED`
+    Seal {
+        image: &'a String,
+        key: Key256,
+        id: ImageId,
+        machine: Key256,
+        sealed: &'a String,
     },
     /// `trace RUN`
     Trace {
@@ -37,6 +45,9 @@ pub fn row_named(words: &[String]) -> Option<Row<'_>>
         [command, image, steps, received] if command.as_str() == "plain" => {
             plain_row(image, steps, Some(received))
         }
+        [command, image, key, id, machine, sealed] if command.as_str() == "seal" => {
+            seal_row(image, key, id, machine, sealed)
+        }
         _ => None,
     }
 }
@@ -54,5 +65,28 @@ fn plain_row<'a>(
         image,
         steps,
         received,
+    })
+}
+
+/// The row of `seal`, where KEY and MACHINE are 64 hexadecimal digits and ID is 32, in either case.
+#[tactic(auto, unfolding(crate::specs::Rows::seal_row))]
+fn seal_row<'a>(
+    image: &'a String,
+    key: &String,
+    id: &String,
+    machine: &String,
+    sealed: &'a String,
+) -> Option<Row<'a>>
+    ensures { option_map shown result ≡ seal_row_of (string_bytes image.now) (string_bytes key.now) (string_bytes id.now) (string_bytes machine.now) (string_bytes sealed.now) }
+{
+    let key = hex32(key.as_bytes())?;
+    let id = hex16(id.as_bytes())?;
+    let machine = hex32(machine.as_bytes())?;
+    Some(Row::Seal {
+        image,
+        key: Key256(key),
+        id: ImageId(id),
+        machine: Key256(machine),
+        sealed,
     })
 }
