@@ -5,7 +5,7 @@ use Rattle.xom_base.specs.declared.image.PlainImage.{PlainImage}
 use Rattle.xom_base.specs.declared.key.ImageId.{ImageId}
 use Rattle.xom_base.specs.declared.key.Key256.{Key256}
 use Rattle.image_sealer.specs.declared.owner.Owner.{Owner}
-use Rattle.image_sealer.specs.Sealing.{envelope_of, line_count, sealed_lines_of}
+use Rattle.image_sealer.specs.Sealing.{envelope_of, sealed_lines_of}
 use Rattle.mips_text.specs.Texts.{listing_of}
 use Rattle.plain_run.specs.Runs.{run_text}
 use Rattle.xom_image.specs.SealedFiles.{sealed_file}
@@ -46,11 +46,12 @@ abbrev pub sealed_bytes : Key256 → Owner → List ℕ
 sealed_bytes machine owner = sealed_file (envelope_of machine owner) (sealed_lines_of owner)
 
 -- how many lines were sealed, and how many bytes the file has
-abbrev pub sealed_text : List ℕ → List ℕ → List ℕ
-sealed_text plain file = codes "sealed " ++ (decimal (line_count plain) ++ (codes " lines " ++ (decimal (length file) ++ codes " bytes\n")))
+abbrev pub sealed_text : (lines size : ℕ) → List ℕ
+sealed_text lines size = codes "sealed " ++ (decimal lines ++ (codes " lines " ++ (decimal size ++ codes " bytes\n")))
 
 abbrev pub sealing_answer : Key256 → Owner → List ℕ → Answer
-sealing_answer machine owner target = writes (sealed_text owner.plain.bytes (sealed_bytes machine owner)) target (sealed_bytes machine owner)
+sealing_answer machine owner target =
+    writes (sealed_text (length (sealed_lines_of owner)) (length (sealed_bytes machine owner))) target (sealed_bytes machine owner)
 
 abbrev pub owner_with : PlainImage → Key256 → ImageId → Owner
 owner_with image key id = record { plain = image; key = key; id = id }

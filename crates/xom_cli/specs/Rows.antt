@@ -33,14 +33,27 @@ seal_row image key id machine sealed = do
   machine ← hex_of 32 machine
   Some (Seal image (record { 0 = key }) (record { 0 = id }) (record { 0 = machine }) sealed)
 
--- the row that the words match, or none
-abbrev pub row_of : List (List ℕ) → Option Row
-row_of (command ∷ a ∷ []) =
+-- the rows of a command with one word, with two, with three and with five
+abbrev pub row_of_one : List ℕ → List ℕ → Option Row
+row_of_one command a =
     if bytes_eq command (codes "disasm") then Some (Disasm a)
     else (if bytes_eq command (codes "trace") then Some (Trace a) else None)
-row_of (command ∷ a ∷ b ∷ []) = if bytes_eq command (codes "plain") then plain_row a b None else None
-row_of (command ∷ a ∷ b ∷ c ∷ []) = if bytes_eq command (codes "plain") then plain_row a b (Some c) else None
-row_of (command ∷ image ∷ key ∷ id ∷ machine ∷ sealed ∷ []) = if bytes_eq command (codes "seal") then seal_row image key id machine sealed else None
+
+abbrev pub row_of_two : List ℕ → List ℕ → List ℕ → Option Row
+row_of_two command a b = if bytes_eq command (codes "plain") then plain_row a b None else None
+
+abbrev pub row_of_three : List ℕ → List ℕ → List ℕ → List ℕ → Option Row
+row_of_three command a b c = if bytes_eq command (codes "plain") then plain_row a b (Some c) else None
+
+abbrev pub row_of_five : List ℕ → List ℕ → List ℕ → List ℕ → List ℕ → List ℕ → Option Row
+row_of_five command a b c d e = if bytes_eq command (codes "seal") then seal_row a b c d e else None
+
+-- the row that the words match, or none
+abbrev pub row_of : List (List ℕ) → Option Row
+row_of (command ∷ a ∷ []) = row_of_one command a
+row_of (command ∷ a ∷ b ∷ []) = row_of_two command a b
+row_of (command ∷ a ∷ b ∷ c ∷ []) = row_of_three command a b c
+row_of (command ∷ a ∷ b ∷ c ∷ d ∷ e ∷ []) = row_of_five command a b c d e
 row_of other = None
 
 -- the file that a row's command writes, if it writes one

@@ -1,8 +1,7 @@
-ghost use Rattle.std.specs.Prelude.{◌≡◌, ℕ, List, IfOk, length, string_bytes};
+ghost use Rattle.std.specs.Prelude.{◌≡◌, IfOk, string_bytes};
 ghost use Rattle.xom_cli.specs.Endings.{IsDone};
 ghost use Rattle.xom_cli.specs.Programs.{seal_of, sealed_text as sealed_text_of, sealing_answer};
 ghost use Rattle.xom_cli.specs.Readings.{Gives};
-ghost use Rattle.image_sealer.specs.Sealing.{line_count};
 
 use crate::answer::Answer;
 use crate::reading::image as read_image;
@@ -54,7 +53,7 @@ fn sealed_by(
 
 /// How many lines were sealed, and how many bytes the file has.
 fn sealed_text(alloc: Global, lines: usize, size: usize) -> Result<ByteList, NoMemory>
-    ensures { IfOk result (λ text. (plain file : List ℕ) → line_count plain ≡ lines → length file ≡ size → text ≡ sealed_text_of plain file) }
+    ensures { IfOk result (λ text. text ≡ sealed_text_of lines size) }
 {
     let text = format!(in alloc; "sealed {lines} lines {size} bytes\n")?;
     Ok(ByteList::from_vec(text.into_bytes()))
