@@ -1,0 +1,4 @@
+pub mod Heads
+pub mod IntegerLaws
+pub mod QuotedLaws
+pub mod RegisterLaws
