@@ -56,7 +56,7 @@ in_front_some byte (Some read) bytes behind h =
     (read.0, ap (λ (left : List ℕ). Some (read.0, left)) e.1, sym e.0)
 
 -- a `\` that stands right before, written out
-shown : Bool → List ℕ → List ℕ
+abbrev pub shown : Bool → List ℕ → List ℕ
 shown true body = 92 ∷ body
 shown false body = body
 
@@ -66,38 +66,38 @@ wrote_itself byte own bytes plain itself w =
     (byte ∷ [], own, refl, inl (refl, λ e. both_ways (eqb byte 34) plain (eq-eqb byte 34 e), λ e. both_ways (eqb byte 92) itself (eq-eqb byte 92 e)), w)
 
 -- what is read is written so
-read_quoted_found : (escaped : Bool) (body bytes behind : List ℕ) → read_quoted escaped body ≡ Some (bytes, behind)
+pub read_quoted-found : (escaped : Bool) (body bytes behind : List ℕ) → read_quoted escaped body ≡ Some (bytes, behind)
     → (own : List ℕ) × (shown escaped body ≡ own ++ behind) × WritesBytes own bytes
-unfolding read_quoted shown
-read_quoted_found escaped [] bytes behind h = absurd (none-some (bytes, behind) h)
-read_quoted_found true (letter ∷ more) bytes behind h =
+unfolding read_quoted
+read_quoted-found escaped [] bytes behind h = absurd (none-some (bytes, behind) h)
+read_quoted-found true (letter ∷ more) bytes behind h =
     option_and_then_some (λ byte. in_front byte (read_quoted false more)) (escape_of letter) (bytes, behind) h (λ byte is front.
     let r = in_front_some byte (read_quoted false more) bytes behind front in
-    let w = read_quoted_found false more r.0 behind r.1 in
+    let w = read_quoted-found false more r.0 behind r.1 in
     (92 ∷ letter ∷ w.0, ap (λ m. 92 ∷ letter ∷ m) w.1, subst (WritesBytes (92 ∷ letter ∷ w.0)) (sym r.2) (92 ∷ letter ∷ [], w.0, refl, inr (letter, refl, escape_found letter byte is), w.2)))
-read_quoted_found false (byte ∷ more) bytes behind h =
+read_quoted-found false (byte ∷ more) bytes behind h =
     elim (cases_Bool (eqb byte 34)) [
       | inl quote ↦
           let e = some_pair_parts [] bytes more behind (rw quote at h) in
           (34 ∷ [], ap (λ b. b ∷ more) (eqb-true byte 34 quote) ∙ ap (λ m. 34 ∷ m) e.1, rw (sym e.0) refl)
       | inr plain ↦ elim (cases_Bool (eqb byte 92)) [
         | inl escape ↦
-            let w = read_quoted_found true more bytes behind (rw (plain, escape) at h) in
+            let w = read_quoted-found true more bytes behind (rw (plain, escape) at h) in
             (w.0, ap (λ b. b ∷ more) (eqb-true byte 92 escape) ∙ w.1, w.2)
         | inr itself ↦
             let r = in_front_some byte (read_quoted false more) bytes behind (rw (plain, itself) at h) in
-            let w = read_quoted_found false more r.0 behind r.1 in
+            let w = read_quoted-found false more r.0 behind r.1 in
             (byte ∷ w.0, ap (λ m. byte ∷ m) w.1, subst (WritesBytes (byte ∷ w.0)) (sym r.2) (wrote_itself byte w.0 r.0 plain itself w.2))
       ]
     ]
 
 -- what is written so is read
-read_quoted_only : (bytes own behind : List ℕ) → WritesBytes own bytes → read_quoted false (own ++ behind) ≡ Some (bytes, behind)
+pub read_quoted-only : (bytes own behind : List ℕ) → WritesBytes own bytes → read_quoted false (own ++ behind) ≡ Some (bytes, behind)
 unfolding read_quoted
-read_quoted_only [] own behind w = rw w refl
-read_quoted_only (byte ∷ bytes) own behind w =
+read_quoted-only [] own behind w = rw w refl
+read_quoted-only (byte ∷ bytes) own behind w =
     let more = w.1 in
-    let then : read_quoted false (more ++ behind) ≡ Some (bytes, behind) = read_quoted_only bytes more behind w.4 in
+    let then : read_quoted false (more ++ behind) ≡ Some (bytes, behind) = read_quoted-only bytes more behind w.4 in
     elim w.3 [
       | inl itself ↦
           let whole : own ≡ byte ∷ more = w.2 ∙ ap (λ s. s ++ more) itself.0 in
@@ -113,21 +113,21 @@ if_whole_some (own, []) bytes h = ap (λ (b : List ℕ). (b, [])) (cc h)
 if_whole_some (own, byte ∷ more) bytes h = absurd (none-some bytes h)
 
 pub quoted_of-exact : (text bytes : List ℕ) → (quoted_of text ≡ Some bytes) ↔ Quotes text bytes
-unfolding quoted_of shown
+unfolding quoted_of
 quoted_of-exact [] bytes = (λ h. absurd (none-some bytes h), λ h. absurd (omega (arith, ap length h.1)))
 quoted_of-exact (first ∷ body) bytes = (
   λ h.
       elim (cases_Bool (eqb first 34)) [
         | inl quote ↦
             option_and_then_some if_whole (read_quoted false body) bytes (rw quote at h) (λ read is whole.
-            let found = read_quoted_found false body bytes [] (is ∙ ap Some (if_whole_some read bytes whole)) in
+            let found = read_quoted-found false body bytes [] (is ∙ ap Some (if_whole_some read bytes whole)) in
             (body, ap (λ b. b ∷ body) (eqb-true first 34 quote), subst (λ (own : List ℕ). WritesBytes own bytes) (sym (append-nil found.0) ∙ sym found.1) found.2))
         | inr away ↦ absurd (none-some bytes (rw away at h))
       ],
   λ h.
       let here = first_same first 34 body h.0 h.1 in
       let same = rest_same first 34 body h.0 h.1 in
-      let read = read_quoted_only bytes h.0 [] h.2 in
+      let read = read_quoted-only bytes h.0 [] h.2 in
       rw (here, same, ← append-nil h.0, read) refl,
 )
 

@@ -64,16 +64,16 @@ StandBetween line from [] to = BlankBetween line from to
 StandBetween line from (token ∷ tokens) to =
     BlankBetween line from token.start × IsTokenOf line token × StandBetween line token.end tokens to
 
--- the line is over, or a comment begins
-abbrev pub IsOver : List ℕ → Type 0
-IsOver [] = Unit {0}
-IsOver (byte ∷ behind) = IsTrue (begins_comment byte)
+-- nothing stands there any more, or a comment begins
+abbrev pub is_over : List ℕ → Bool
+is_over [] = true
+is_over (byte ∷ behind) = begins_comment byte
 
 -- the line has these tokens: they stand there up to its end or to its comment
 pub record AreTokens (line : List ℕ) (tokens : List Token) : Type 0 where
   pub place : ℕ
   pub stand : StandBetween line 0 tokens place
-  pub over : IsOver (drop place line)
+  pub over : IsTrue (is_over (drop place line))
 
 -- The first byte that begins no token stands at this place: before it are tokens and blanks, it is
 -- no blank and begins no comment, and no token of the line begins there.

@@ -1,4 +1,4 @@
-ghost use Rattle.std.specs.Prelude.{◌≡◌, ◌↔◌, ◌<◌, ℕ, List, [], ◌∷◌, IfOk, IfSome, IsNone, Some, false, length, option_and_then, option_map};
+ghost use Rattle.std.specs.Prelude.{◌≡◌, ◌↔◌, ◌<◌, ◌≤◌, ℕ, List, [], ◌∷◌, IfOk, IfSome, IsNone, Some, false, length, option_and_then, option_map};
 ghost use Rattle.std.specs.Str.{bytes_eq};
 ghost use Rattle.mips_text.specs.Lexemes.{Quotes, after_quote, escape_of, if_whole, quoted_of, read_quoted, written_first as first_of};
 
@@ -48,7 +48,8 @@ fn is_quote(bytes: &[u8]) -> bool
 
 /// What stands behind the closing quote. None where an escape is unknown or no quote closes.
 pub(crate) fn behind_quote(body: &[u8]) -> Option<&[u8]>
-    ensures { option_map (λ behind. behind.now) result ≡ option_map (λ read. read.1) (read_quoted false body.now) }
+    ensures value { option_map (λ behind. behind.now) result ≡ option_map (λ read. read.1) (read_quoted false body.now) }
+    ensures within { IfSome result (λ behind. length behind.now ≤ length body.now) }
 {
     let mut rest = body;
     while let Some((_, more)) = written_first(rest) {
@@ -59,7 +60,8 @@ pub(crate) fn behind_quote(body: &[u8]) -> Option<&[u8]>
 
 /// What stands behind a quote at the front.
 fn after_quote(bytes: &[u8]) -> Option<&[u8]>
-    ensures { option_map (λ behind. behind.now) result ≡ after_quote bytes.now }
+    ensures value { option_map (λ behind. behind.now) result ≡ after_quote bytes.now }
+    ensures within { IfSome result (λ behind. length behind.now ≤ length bytes.now) }
 {
     match bytes {
         [b'"', behind @ ..] => Some(behind),

@@ -3,7 +3,7 @@ ghost use Rattle.std.specs.List.{prefix_len};
 ghost use Rattle.xom_base.specs.Words.{is_blank};
 ghost use Rattle.mips_text.specs.declared.token.Token.{Token};
 ghost use Rattle.mips_text.specs.Lexemes.{is_name_byte};
-ghost use Rattle.mips_text.specs.Tokens.{Answers, AreTokens, IsBadAt, IsTokenOf, kind_of, run_of, size_of, token_of, tokens_from, tokens_of, with_tokens};
+ghost use Rattle.mips_text.specs.Tokens.{Answers, AreTokens, IsBadAt, IsTokenOf, is_over, kind_of, run_of, size_of, token_of, tokens_from, tokens_of, with_tokens};
 
 use crate::quoted::behind_quote;
 use crate::{Token, TokenFault, TokenKind, TokenList, integer, register};
@@ -48,17 +48,25 @@ fn next_token(line: &[u8], at: usize) -> Result<Option<Token>, u64>
     ensures onward { IfOk result (λ next. IfSome next (λ token. (at < token.end) × (token.end ≤ length line.now))) }
 {
     let start = at + blanks(&line[at..]);
-    match &line[start..] {
-        [] | [b'#', ..] => Ok(None),
-        bytes => {
-            let (kind, size) = token_of(bytes).ok_or(start as u64)?;
-            Ok(Some(Token {
-                kind,
-                start: start as u64,
-                end: (start + size) as u64,
-            }))
-        }
+    let bytes = &line[start..];
+    if is_over(bytes) {
+        return Ok(None);
     }
+    match token_of(bytes) {
+        None => Err(start as u64),
+        Some((kind, size)) => Ok(Some(Token {
+            kind,
+            start: start as u64,
+            end: (start + size) as u64,
+        })),
+    }
+}
+
+/// Whether nothing stands there any more, or a comment.
+fn is_over(bytes: &[u8]) -> bool
+    ensures { result ≡ is_over bytes.now }
+{
+    matches!(bytes, [] | [b'#', ..])
 }
 
 /// The kind and the size of the token that begins with the first of these bytes.
