@@ -1,26 +1,15 @@
 -- One token: the functions of its kind and size are the grammar.
-use Rattle.std.proofs.Common.{◌≡◌, ℕ, zero, suc, ◌+◌, ◌-◌, ◌<◌, ◌≤◌, Bool, true, false, cond, eqb, ltb, leb, ◌&&◌, ◌||◌, inl, inr, List, [], ◌∷◌, ◌++◌, length, take, drop, Option, Some, None, refl, sym, ap, subst, ◌∙◌, arith, append-nil}
-use Rattle.std.specs.Prelude.{◌⊎◌, IsTrue, is_some, option_map, option_and_then}
-use Rattle.std.specs.Char.{digit_value, is_ascii_digit, is_ascii_alphabetic, is_ascii_alphanumeric}
-use Rattle.std.specs.List.{AllByRecursion, list_all, prefix_len}
-use Rattle.std.proofs.lemmas.Bool.{cases_Bool, and_parts, and_from, eqb-true, eq-eqb, true≢false, both_ways}
+use Rattle.std.proofs.Common.{◌≡◌, ℕ, suc, ◌+◌, Bool, true, false, cond, eqb, ◌||◌, inl, inr, List, [], ◌∷◌, ◌++◌, length, take, drop, Option, Some, None, refl, subst, arith}
+use Rattle.std.specs.Char.{is_ascii_digit}
+use Rattle.std.specs.List.{list_all, prefix_len}
+use Rattle.std.proofs.lemmas.Bool.{cases_Bool, and_parts, and_from, eqb-true}
 use Rattle.std.proofs.lemmas.Bool.Decides.{nat_tests}
-use Rattle.std.proofs.lemmas.List.{length-append}
-use Rattle.std.proofs.lemmas.Option.{none-some, cond_some, option_and_then_some, some_pair_parts}
-use Rattle.std.proofs.Math.Seq.{drop-append_seam, take-append_seam}
-use Rattle.xom_base.proofs.CutLaws.{option_map_some}
-use Rattle.xom_base.specs.Numbers.{IsNumber}
+use Rattle.std.proofs.lemmas.Option.{none-some}
 use Rattle.xom_base.specs.Words.{begins_comment, is_blank}
-use Rattle.mips_text.proofs.IntegerLaws.{integer_of-exact}
-use Rattle.mips_text.proofs.QuotedLaws.{read_quoted-found, read_quoted-only}
-use Rattle.mips_text.proofs.RegisterLaws.{register_of-exact}
-use Rattle.mips_text.specs.declared.integers.Integer.{Integer}
 use Rattle.mips_text.specs.declared.token.TokenKind.{TokenKind}
 use Rattle.mips_text.specs.declared.token.TokenKind.TheVariants.{Name, Number, Register, Text, Comma, Colon, Left, Right}
-use Rattle.mips_text.specs.Integers.{IsInteger, integer_of}
-use Rattle.mips_text.specs.Lexemes.{IsName, Quotes, WritesBytes, begins_name, is_name_byte, read_quoted}
-use Rattle.mips_text.specs.Registers.{IsRegister, register_names, register_numbers, register_of}
-use Rattle.mips_text.specs.Tokens.{EndsBefore, IsTextOf, NoNameByte, kind_of, run_of, size_of, so_many, token_of}
+use Rattle.mips_text.specs.Lexemes.{begins_name, is_name_byte}
+use Rattle.mips_text.specs.Tokens.{NoNameByte, kind_of}
 
 -- ---- first bytes
 

@@ -1,8 +1,8 @@
 -- The tokens of a line: the function is the grammar.
-use Rattle.std.proofs.Common.{◌≡◌, ◌≢◌, ℕ, zero, suc, ◌+◌, ◌-◌, ◌<◌, ◌≤◌, Bool, true, false, inl, inr, List, [], ◌∷◌, ◌++◌, length, take, drop, Option, Some, None, Result, Ok, Err, refl, sym, ap, subst, ◌∙◌, arith, append-nil, length-append, length-drop}
+use Rattle.std.proofs.Common.{◌≡◌, ℕ, zero, suc, ◌+◌, ◌-◌, ◌<◌, ◌≤◌, true, false, inl, inr, List, [], ◌∷◌, ◌++◌, length, take, drop, Option, Some, None, Result, Ok, Err, refl, sym, ap, subst, ◌∙◌, arith, append-nil, length-drop}
 use Rattle.std.specs.Prelude.{◌⊎◌, All, IfOk, IsTrue, slice_get, slice_range}
 use Rattle.std.specs.List.{list_all}
-use Rattle.std.proofs.lemmas.Bool.{cases_Bool, and_parts, and_from, eqb-true, true≢false}
+use Rattle.std.proofs.lemmas.Bool.{cases_Bool, and_parts, and_from, eqb-true}
 use Rattle.std.proofs.lemmas.List.{length-take-le, take-append-drop}
 use Rattle.std.proofs.lemmas.List.Elements.{All-cons, All-nil}
 use Rattle.std.proofs.lemmas.Option.{none-some}
@@ -15,7 +15,7 @@ use Rattle.mips_text.specs.declared.token.Token.{Token}
 use Rattle.mips_text.specs.declared.token.TokenFault.{TokenFault}
 use Rattle.mips_text.specs.declared.token.TokenFault.TheVariants as fault
 use Rattle.mips_text.specs.declared.token.TokenKind.{TokenKind}
-use Rattle.mips_text.specs.Tokens.{Answers, AreTokens, BlankBetween, IsBadAt, IsTextOf, IsTokenOf, StandBetween, go_on, is_over, token_at, token_of, tokens_from, tokens_of, with_tokens}
+use Rattle.mips_text.specs.Tokens.{Answers, AreTokens, BlankBetween, IsBadAt, IsTokenOf, StandBetween, go_on, is_over, token_at, token_of, tokens_from, tokens_of, with_tokens}
 
 -- ---- places of a line
 
@@ -136,14 +136,17 @@ told_go_on : (line : List ℕ) (at byte : ℕ) (bytes : List ℕ) → drop at li
     → ((left : ℕ) → left ≤ length bytes → Told line ((at + 1) + left) (tokens_from (at + 1) left bytes))
     → (found : Option (TokenKind × ℕ)) → token_of (byte ∷ bytes) ≡ found → Told line at (go_on at found (λ left. tokens_from (at + 1) left bytes))
 told_go_on line at byte bytes here no_blank no_comment more None h =
-    let within = some_place line at byte bytes here in
-    ([], blank_none line at (omega arith), record {
-      byte = byte;
-      here = slice_get_drop line at byte bytes here;
-      no_blank = no_blank;
-      no_comment = no_comment;
-      none = ap token_of here ∙ h;
-    })
+    let within = some_place line at byte bytes here in (
+      [],
+      blank_none line at (omega arith),
+      record {
+        byte = byte;
+        here = slice_get_drop line at byte bytes here;
+        no_blank = no_blank;
+        no_comment = no_comment;
+        none = ap token_of here ∙ h;
+      },
+    )
 told_go_on line at byte bytes here no_blank no_comment more (Some found) h =
     let within = some_place line at byte bytes here in
     let s = token_found (byte ∷ bytes) found.0 found.1 h in
@@ -167,7 +170,7 @@ told_from line (byte ∷ bytes) at zero here small within =
     let same : at + 0 ≡ at = omega arith in
     let there = some_place line at byte bytes here in
     let more : (left : ℕ) → left ≤ length bytes → Told line ((at + 1) + left) (tokens_from (at + 1) left bytes)
-      = λ left fits. told_from line bytes (at + 1) left (next_place line at byte bytes here) fits (omega arith) in
+    = λ left fits. told_from line bytes (at + 1) left (next_place line at byte bytes here) fits (omega arith) in
     rw same (elim (cases_Bool (is_blank byte)) [
       | inl blank ↦
           let none : (at + 1) + 0 ≡ at + 1 = omega arith in

@@ -1,13 +1,13 @@
 -- Quoted texts: the function is their grammar.
-use Rattle.std.proofs.Common.{◌≡◌, ◌≢◌, ℕ, suc, ◌+◌, ◌<◌, Bool, true, false, cond, eqb, inl, inr, List, [], ◌∷◌, ◌++◌, length, Option, Some, None, refl, sym, ap, subst, ◌∙◌, arith, append-nil, append_assoc}
+use Rattle.std.proofs.Common.{◌≡◌, ◌≢◌, ℕ, ◌<◌, Bool, true, false, eqb, inl, inr, List, [], ◌∷◌, ◌++◌, length, Option, Some, None, refl, sym, ap, subst, ◌∙◌, arith, append-nil, append_assoc}
 use Rattle.std.specs.Prelude.{◌↔◌, option_map, option_and_then}
-use Rattle.std.proofs.lemmas.Bool.{cases_Bool, eqb-true, eq-eqb, true≢false, false_from_ne_true, both_ways}
+use Rattle.std.proofs.lemmas.Bool.{cases_Bool, eqb-true, eq-eqb, false_from_ne_true, both_ways}
 use Rattle.std.proofs.lemmas.Option.{none-some, cond_some, option_and_then_some, some_pair_parts}
 use Rattle.std.proofs.lemmas.Slice.Eq.{bytes_eq-Decides}
 use Rattle.std.specs.Str.{bytes_eq}
 use Rattle.xom_base.proofs.CutLaws.{option_map_none, option_map_some}
 use Rattle.mips_text.proofs.Heads.{first_same, rest_same}
-use Rattle.mips_text.specs.Lexemes.{IsEscape, WritesByte, WritesBytes, Quotes, after_quote, escape_of, escaped_first, if_whole, in_front, quoted_of, read_quoted, written_first}
+use Rattle.mips_text.specs.Lexemes.{IsEscape, WritesBytes, Quotes, after_quote, escape_of, escaped_first, if_whole, in_front, quoted_of, read_quoted, written_first}
 
 -- ---- escapes
 

@@ -1,6 +1,6 @@
 -- One token: the function of its size is the grammar.
-use Rattle.std.proofs.Common.{◌≡◌, ℕ, zero, suc, ◌+◌, ◌-◌, ◌<◌, ◌≤◌, Bool, true, false, cond, eqb, ltb, leb, ◌&&◌, ◌||◌, inl, inr, List, [], ◌∷◌, ◌++◌, length, take, drop, Option, Some, None, refl, sym, ap, subst, ◌∙◌, arith}
-use Rattle.std.specs.Prelude.{◌⊎◌, is_some, option_map, option_and_then, slice_get}
+use Rattle.std.proofs.Common.{◌≡◌, ℕ, zero, suc, ◌+◌, ◌-◌, ◌<◌, ◌≤◌, Bool, true, false, eqb, ◌&&◌, ◌||◌, inl, inr, List, [], ◌∷◌, ◌++◌, length, take, drop, Option, Some, None, refl, sym, ap, subst, ◌∙◌, arith}
+use Rattle.std.specs.Prelude.{is_some, option_map, slice_get}
 use Rattle.std.specs.Char.{digit_value, is_ascii_digit}
 use Rattle.std.specs.List.{AllByRecursion, list_all, prefix_len}
 use Rattle.std.proofs.lemmas.Bool.{and_parts, and_from, eqb-true, true≢false}
@@ -8,7 +8,7 @@ use Rattle.std.proofs.lemmas.Bool.Decides.{nat_tests}
 use Rattle.std.proofs.lemmas.List.{length-append}
 use Rattle.std.proofs.lemmas.List.Sums.{prefix_len-le-length}
 use Rattle.std.proofs.lemmas.Option.{none-some, cond_some, option_and_then_some, some_pair_parts}
-use Rattle.std.proofs.Math.Seq.{drop-append_seam, take-append_seam}
+use Rattle.std.proofs.Math.Seq.{take-append_seam}
 use Rattle.xom_base.proofs.CutLaws.{option_map_some}
 use Rattle.xom_base.specs.Numbers.{IsNumber}
 use Rattle.mips_text.proofs.Heads.{first_same}
@@ -20,7 +20,7 @@ use Rattle.mips_text.specs.declared.integers.Integer.{Integer}
 use Rattle.mips_text.specs.declared.token.TokenKind.{TokenKind}
 use Rattle.mips_text.specs.declared.token.TokenKind.TheVariants.{Name, Number, Register, Text, Comma, Colon, Left, Right}
 use Rattle.mips_text.specs.Integers.{IsInteger, integer_of}
-use Rattle.mips_text.specs.Lexemes.{IsName, Quotes, WritesBytes, is_name_byte, read_quoted}
+use Rattle.mips_text.specs.Lexemes.{IsName, WritesBytes, is_name_byte, read_quoted}
 use Rattle.mips_text.specs.Registers.{IsRegister, register_names, register_numbers, register_of}
 use Rattle.mips_text.specs.Tokens.{EndsBefore, IsTextOf, NoNameByte, kind_of, run_of, size_of, token_of}
 

@@ -1,5 +1,5 @@
 -- Whole numbers in source lines: a number of the general grammar, that may have a `-` in front.
-use Rattle.std.specs.Prelude.{◌≡◌, ℕ, Bool, true, false, ◌==◌, if◌then◌else◌, ◌⊎◌, List, [], ◌∷◌, Option, Some, None, option_map, ℤ, pos, ◌-ℤ◌}
+use Rattle.std.specs.Prelude.{◌≡◌, ℕ, Bool, true, false, ◌==◌, if◌then◌else◌, ◌⊎◌, List, [], ◌∷◌, Option, None, option_map, ℤ, pos, ◌-ℤ◌}
 use Rattle.xom_base.specs.Numbers.{IsNumber, number_of}
 use Rattle.mips_text.specs.declared.integers.Integer.{Integer}
 

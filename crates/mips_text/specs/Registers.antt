@@ -1,6 +1,6 @@
 -- The registers as source lines write them: `$` and the number, or `$` and the name that the
 -- assemblers of MIPS give it (Kane and Heinrich, MIPS RISC Architecture, appendix D).
-use Rattle.std.specs.Prelude.{◌≡◌, ℕ, ◌%◌, ◌⊎◌, List, [], ◌∷◌, ◌++◌, codes, Option, Some, None, option_map, position, slice_get}
+use Rattle.std.specs.Prelude.{◌≡◌, ℕ, ◌%◌, ◌⊎◌, List, [], ◌∷◌, ◌++◌, codes, Option, Some, option_map, position, slice_get}
 use Rattle.std.specs.Str.{bytes_eq}
 
 -- the numbers, register 0 first

@@ -41,10 +41,8 @@ fn tokens_in(alloc: Global, line: &[u8]) -> Result<TokenList, TokenFault>
 /// first byte that begins no token.
 fn next_token(line: &[u8], at: usize) -> Result<Option<Token>, u64>
     requires { at ≤ length line.now }
-    ensures value {
-        let all = tokens_from at 0 (drop at line.now) in
-        MatchResult result (λ next. MatchOption next (all ≡ Ok []) (λ token. all ≡ with_tokens (token ∷ []) (tokens_from token.end 0 (drop token.end line.now)))) (λ bad. all ≡ Err bad)
-    }
+    ensures value { let all = tokens_from at 0 (drop at line.now) in
+        MatchResult result (λ next. MatchOption next (all ≡ Ok []) (λ token. all ≡ with_tokens (token ∷ []) (tokens_from token.end 0 (drop token.end line.now)))) (λ bad. all ≡ Err bad) }
     ensures onward { IfOk result (λ next. IfSome next (λ token. (at < token.end) × (token.end ≤ length line.now))) }
 {
     let start = at + blanks(&line[at..]);
@@ -128,10 +126,7 @@ fn name_bytes(bytes: &[u8]) -> usize
     ensures value { result ≡ prefix_len is_name_byte bytes.now }
     ensures within { result ≤ length bytes.now }
 {
-    bytes
-        .iter()
-        .take_while(|byte| is_name_byte(**byte))
-        .count()
+    bytes.iter().take_while(|byte| is_name_byte(**byte)).count()
 }
 
 fn is_name_byte(byte: u8) -> bool

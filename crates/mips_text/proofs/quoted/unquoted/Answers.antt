@@ -1,5 +1,4 @@
 -- The function is the grammar.
-use Rattle.std.proofs.Common.{◌≡◌}
 use Rattle.xom_base.proofs.NumberLaws.{none_by_exact}
 use Rattle.mips_text.proofs.QuotedLaws.{quoted_of-exact}
 use Rattle.mips_text.specs.Lexemes.{Quotes}

@@ -1,5 +1,5 @@
 -- The function is the table.
-use Rattle.std.proofs.Common.{◌<◌, inl, inr}
+use Rattle.std.proofs.Common.{◌<◌}
 use Rattle.xom_base.proofs.NumberLaws.{none_by_exact, some_by_exact}
 use Rattle.mips_text.proofs.RegisterLaws.{register_of-exact, register_small}
 use Rattle.mips_text.specs.Registers.{IsRegister}
