@@ -2,8 +2,8 @@
 -- addresses and words in hexadecimal; the layout of a listing is this project's own.
 use Rattle.std.specs.Prelude.{ℕ, zero, suc, ◌+◌, ◌*◌, ◌/◌, List, [], ◌∷◌, ◌++◌, length, map, codes, Option, Some, None, slice_index, ℤ, pos}
 use Rattle.std.specs.Fmt.{decimal, signed_decimal}
-use Rattle.std.specs.Int.{w32, to_be_bytes, from_be_bytes}
-use Rattle.hex.specs.Hex.{encode_lower}
+use Rattle.std.specs.Int.{w32, from_be_bytes}
+use Rattle.text_pieces.specs.Pieces.{hex8}
 use Rattle.mips_isa.specs.declared.instruction.Ins.{Ins}
 use Rattle.mips_isa.specs.Words.{read}
 use Rattle.mips_effect.specs.Numbers.{signed_16, target, jump_target, after}
@@ -22,10 +22,6 @@ value_of pc (Code code) = pos code
 value_of pc (Branch imm) = pos (target (after pc) imm)
 value_of pc (Jump index) = pos (jump_target (after pc) index)
 value_of pc (Offset imm base) = signed_16 imm
-
--- a number of 32 bits as 8 hexadecimal digits, in lower case
-abbrev pub hex8 : ℕ → List ℕ
-hex8 n = encode_lower (to_be_bytes w32 n)
 
 abbrev pub register_text : ℕ → List ℕ
 register_text reg = codes "$" ++ decimal reg

@@ -1,10 +1,11 @@
 ghost use Rattle.std.specs.Prelude.{◌≡◌, ◌++◌, ◌+◌, ◌<◌, ◌≤◌, ◌^◌, IfOk, OnOk, slice_index};
 ghost use Rattle.mips_text.specs.Texts.{listing_of, line_of, word_at as word_at_of, word_text};
 
-use crate::pieces::{push_address, push_bytes, push_hex};
+use crate::pieces::push_address;
 use crate::printing::push_text;
 use mips_isa::decode;
 use std::alloc::Global;
+use text_pieces::{push_bytes, push_hex8};
 use xom_base::{ByteList, NoMemory, PlainImage};
 
 /// The words of an image, a line each: the address, the word, and the instruction, or `.word` where
@@ -28,9 +29,9 @@ pub fn listing(alloc: Global, image: &PlainImage) -> Result<ByteList, NoMemory>
 fn push_line(text: &mut Vec<u8>, address: u32, word: u32) -> Result<(), NoMemory>
     ensures { OnOk result (text.new.items ≡ text.old.items ++ line_of address word) }
 {
-    push_hex(text, address)?;
+    push_hex8(text, address)?;
     push_bytes(text, b" ")?;
-    push_hex(text, word)?;
+    push_hex8(text, word)?;
     push_bytes(text, b" ")?;
     push_word(text, word, address)?;
     push_bytes(text, b"\n")

@@ -4,11 +4,12 @@ ghost use Rattle.mips_isa.specs.Words.{Fits};
 ghost use Rattle.mips_text.specs.Forms.{listed, InRange};
 ghost use Rattle.mips_text.specs.Texts.{text_of, operand_text, offset_text, operands_text, joined};
 
-use crate::pieces::{push_address, push_bytes, push_decimal, push_register, push_signed};
+use crate::pieces::{push_address, push_register, push_signed};
 use crate::targets::{branch_target, jump_target};
 use crate::{Operand, Operands, form};
 use mips_isa::Ins;
 use std::alloc::Global;
+use text_pieces::{push_bytes, push_decimal};
 use xom_base::{ByteList, NoMemory};
 
 /// The text of the instruction at the address `pc`, with all its operands: registers as `$n`,

@@ -1,7 +1,7 @@
 -- What is added to a text stands behind what it had.
 use Rattle.std.proofs.Common.{◌≡◌, ℕ, zero, suc, ◌*◌, drop, ◌∷◌, arith, List, [], ◌++◌, refl, sym, ◌∙◌, append_assoc, append-nil}
 use Rattle.hex.specs.Hex.{encode_with}
-use Rattle.step_text.specs.StepTexts.{Begins}
+use Rattle.text_pieces.specs.Pieces.{Begins}
 
 -- a text begins with itself
 pub begins_itself : (text : List ℕ) → Begins text text

@@ -3,6 +3,7 @@ use Rattle.std.specs.Prelude.{◌≡◌, ℕ, ◌-◌, List, ◌++◌, drop, cod
 use Rattle.std.specs.Fmt.{decimal}
 use Rattle.std.specs.Int.{w32, to_be_bytes}
 use Rattle.hex.specs.Hex.{encode_lower}
+use Rattle.text_pieces.specs.Pieces.{hex8}
 use Rattle.xom_base.specs.declared.event.OwnFault.{OwnFault}
 use Rattle.xom_base.specs.declared.event.OwnFault.TheVariants as fault
 use Rattle.xom_base.specs.declared.step.Writes.{Writes}
@@ -16,10 +17,6 @@ use Rattle.xom_base.specs.declared.step.Released.TheVariants as released
 use Rattle.xom_base.specs.declared.step.StepEnd.{StepEnd}
 use Rattle.xom_base.specs.declared.step.StepEnd.TheVariants as ended
 use Rattle.xom_base.specs.declared.step.Step.{Step}
-
--- a 32-bit number as eight hexadecimal digits, lower case
-abbrev pub hex8 : ℕ → List ℕ
-hex8 n = encode_lower (to_be_bytes w32 n)
 
 -- the low bytes of a 32-bit number, so many of them, the high one first
 abbrev pub low_hex : ℕ → ℕ → List ℕ
@@ -75,7 +72,3 @@ fault_text fault.Foreign = codes "Foreign"
 fault_text fault.Overflow = codes "Overflow"
 fault_text fault.Address = codes "Address"
 fault_text fault.Break = codes "Break"
-
--- a text stands at the front of another one
-abbrev pub Begins : List ℕ → List ℕ → Type 0
-Begins front text = (more : List ℕ) × (text ≡ front ++ more)

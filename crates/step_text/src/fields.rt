@@ -1,9 +1,11 @@
 ghost use Rattle.std.specs.Prelude.{◌≡◌, ◌++◌, codes, OnErr, OnOk};
 ghost use Rattle.std.specs.Fmt.{decimal};
 ghost use Rattle.xom_base.specs.declared.step.Stored.TheVariants as stored_variants;
-ghost use Rattle.step_text.specs.StepTexts.{Begins, end_text, hex8, outer_fields, own_fields, received_text, released_text, step_fields, stored_text, writes_text};
+ghost use Rattle.text_pieces.specs.Pieces.{Begins, hex8};
+ghost use Rattle.step_text.specs.StepTexts.{end_text, outer_fields, own_fields, received_text, released_text, step_fields, stored_text, writes_text};
 
-use crate::pieces::{push_decimal, push_hex8, push_low, push_text};
+use crate::pieces::{push_low, push_text};
+use text_pieces::{push_decimal, push_hex8};
 use xom_base::{NoMemory, Received, Released, Step, StepEnd, Stored, Writes};
 
 /// Adds the fields of a step to a text, with one space between each two and nothing behind the last:
