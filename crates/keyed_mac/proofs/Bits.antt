@@ -22,13 +22,14 @@ SameBefore i xs ys = (k : ℕ) → k < i → get_or xs k 0 ≡ get_or ys k 0
 -- the difference of one more byte joined to that of those before
 pub none_more : (d i : ℕ) (xs ys : List ℕ) → (d ≡ 0) ↔ SameBefore i xs ys
     → (bit_or d (bit_xor (get_or xs i 0) (get_or ys i 0)) ≡ 0) ↔ SameBefore (i + 1) xs ys
-none_more d i xs ys before =
-    ( (λ none. let both = none_in_or d (bit_xor (get_or xs i 0) (get_or ys i 0)) none in
-        below_more (λ k. get_or xs k 0 ≡ get_or ys k 0) i (before.0 both.0) (same_from_xor (get_or xs i 0) (get_or ys i 0) both.1))
-    , (λ same.
-        let none : d ≡ 0 = before.1 (λ k below. same k (omega arith)) in
-        let here : get_or xs i 0 ≡ get_or ys i 0 = same i (omega arith) in
-        ap (λ n. bit_or n (bit_xor (get_or xs i 0) (get_or ys i 0))) none
-        ∙ or_zero_l (bit_xor (get_or xs i 0) (get_or ys i 0))
-        ∙ ap (λ n. bit_xor n (get_or ys i 0)) here
-        ∙ xor_self (get_or ys i 0)))
+none_more d i xs ys before = (
+  (λ none. let both = none_in_or d (bit_xor (get_or xs i 0) (get_or ys i 0)) none in
+      below_more (λ k. get_or xs k 0 ≡ get_or ys k 0) i (before.0 both.0) (same_from_xor (get_or xs i 0) (get_or ys i 0) both.1)),
+  (λ same.
+      let none : d ≡ 0 = before.1 (λ k below. same k (omega arith)) in
+      let here : get_or xs i 0 ≡ get_or ys i 0 = same i (omega arith) in
+      ap (λ n. bit_or n (bit_xor (get_or xs i 0) (get_or ys i 0))) none
+      ∙ or_zero_l (bit_xor (get_or xs i 0) (get_or ys i 0))
+      ∙ ap (λ n. bit_xor n (get_or ys i 0)) here
+      ∙ xor_self (get_or ys i 0)),
+)

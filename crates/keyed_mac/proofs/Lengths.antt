@@ -1,5 +1,5 @@
 -- A tag has 32 bytes.
-use Rattle.std.proofs.Common.{◌≡◌, ℕ, List, ◌++◌, length}
+use Rattle.std.proofs.Common.{◌++◌}
 use Rattle.sha2.specs.Sha256.{sha256}
 use Rattle.sha2.proofs.Facts256.{length-sha256}
 use Rattle.keyed_mac.specs.Hmac.{block_key, hmac_sha256, ipad, masked, opad}

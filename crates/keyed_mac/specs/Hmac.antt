@@ -9,6 +9,7 @@ block_size = 64
 -- the byte of the inner pad, and that of the outer one (section 2.3)
 abbrev pub ipad : ℕ
 ipad = 0x36
+
 abbrev pub opad : ℕ
 opad = 0x5c
 

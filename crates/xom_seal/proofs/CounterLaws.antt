@@ -1,13 +1,12 @@
 -- Equal counter blocks have the same fields, so no pad serves two names under one key.
-use Rattle.std.proofs.Common.{◌≡◌, ◌≢◌, ℕ, ◌^◌, ◌<◌, List, ◌++◌, ap, arith, drop, get_or}
-use Rattle.std.specs.Int.{w32, w64, to_be_bytes}
+use Rattle.std.proofs.Common.{◌≢◌, ℕ, ◌^◌, ◌<◌, ap, arith, drop, get_or}
+use Rattle.std.specs.Int.{w64, to_be_bytes}
 use Rattle.xom_base.specs.declared.key.ImageId.{ImageId}
 use Rattle.xom_seal.specs.declared.names.LineName.{LineName}
 use Rattle.xom_seal.specs.declared.names.LineName.TheVariants.{Image, Run}
 use Rattle.xom_seal.specs.declared.names.RegName.{RegName}
 use Rattle.xom_seal.specs.Counters.{counter_block, envelope_counter, line_counter, register_counter}
-use Rattle.xom_seal.specs.Laws.{CounterBlocksTell, CounterKindsDiffer, LineCountersTell, RegisterCountersTell, SharesCounters}
-use Rattle.xom_seal.specs.Messages.{IsLineName, IsRegName}
+use Rattle.xom_seal.specs.Laws.{CounterBlocksTell, CounterKindsDiffer, LineCountersTell, RegisterCountersTell}
 use Rattle.xom_seal.proofs.Fields.{front_4, same_numbers_8}
 
 -- blocks of two domains differ whatever the other fields are

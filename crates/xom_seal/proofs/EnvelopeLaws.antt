@@ -1,5 +1,5 @@
 -- A wrapped key opens to what was wrapped.
-use Rattle.std.proofs.Common.{◌≡◌, ℕ, ◌^◌, ◌<◌, ◌≤◌, ◌+◌, List, ◌∷◌, ◌++◌, Option, Some, None, if◌then◌else◌, length, take, drop, refl, ap, sym, ◌∙◌, arith, append_assoc, subst}
+use Rattle.std.proofs.Common.{◌≡◌, ℕ, ◌^◌, ◌<◌, ◌+◌, List, ◌∷◌, ◌++◌, Some, None, if◌then◌else◌, length, take, drop, refl, ap, sym, ◌∙◌, arith, append_assoc, subst}
 use Rattle.std.specs.Int.{w32, from_be_bytes, to_be_bytes}
 use Rattle.std.specs.Str.{bytes_eq}
 use Rattle.std.proofs.Math.Seq.{drop-append-add, take-append_seam, take-length}
@@ -9,9 +9,7 @@ use Rattle.keyed_mac.specs.Hmac.{hmac_sha256}
 use Rattle.keyed_mac.proofs.Lengths.{tags_have_their_length}
 use Rattle.xom_base.specs.declared.key.Key256.{Key256}
 use Rattle.xom_seal.specs.declared.envelope.Unwrapped.{Unwrapped}
-use Rattle.xom_seal.specs.Counters.{envelope_counter}
 use Rattle.xom_seal.specs.Envelopes.{contents_of, entry_in, envelope_fields, envelope_pad, envelope_tag, fields_of, id_in, key_masked, lines_in, tag_in, unwrapped, wrapped, wrapped_in}
-use Rattle.xom_seal.specs.Keys.{envelope_aes_key}
 use Rattle.xom_seal.specs.Laws.{EnvelopesOpen, EnvelopesShow, IsUnwrapped, Shows}
 use Rattle.xom_seal.specs.Messages.{envelope_message}
 use Rattle.xom_seal.proofs.Masks.{length-xored, xored_twice}

@@ -4,3 +4,4 @@ pub mod MessageLaws
 pub mod CounterLaws
 pub mod SealLaws
 pub mod EnvelopeLaws
+pub mod NamingLaws

@@ -1,5 +1,5 @@
 -- Equal messages are of one kind, one name and one ciphertext.
-use Rattle.std.proofs.Common.{◌≡◌, ◌≢◌, ℕ, suc, ◌^◌, ◌<◌, ◌+◌, List, [], ◌∷◌, ◌++◌, length, take, drop, refl, ap, sym, ◌∙◌, arith, get_or}
+use Rattle.std.proofs.Common.{◌≡◌, ◌≢◌, ℕ, suc, List, ◌∷◌, ◌++◌, length, drop, ap, sym, ◌∙◌, arith, get_or}
 use Rattle.std.specs.Int.{w32, w64, to_be_bytes}
 use Rattle.std.proofs.lemmas.List.{length-append, length-take-le}
 use Rattle.xom_base.specs.declared.key.ImageId.{ImageId}
@@ -8,7 +8,7 @@ use Rattle.xom_seal.specs.declared.names.LineName.TheVariants.{Image, Run}
 use Rattle.xom_seal.specs.declared.names.RegName.{RegName}
 use Rattle.xom_seal.specs.Envelopes.{envelope_fields}
 use Rattle.xom_seal.specs.Laws.{EnvelopeFieldsTell, EnvelopeMessagesTell, KindsDiffer, LineMessagesTell, MessageLengths, RegisterMessagesTell}
-use Rattle.xom_seal.specs.Messages.{IsLineName, IsRegName, envelope_message, line_message, register_message}
+use Rattle.xom_seal.specs.Messages.{envelope_message, line_message, register_message}
 use Rattle.xom_seal.proofs.Fields.{front_4, front_8, same_parts}
 
 -- what stands behind the byte that tells the kind

@@ -1,5 +1,5 @@
 -- What was sealed opens.
-use Rattle.std.proofs.Common.{◌≡◌, ℕ, ◌^◌, ◌<◌, Bool, true, false, List, ◌++◌, Option, Some, None, inl, inr, length, refl, ap, sym, ◌∙◌, arith, if◌then◌else◌}
+use Rattle.std.proofs.Common.{◌≡◌, ℕ, List, Some, None, inl, inr, length, refl, ap, sym, ◌∙◌, arith, if◌then◌else◌}
 use Rattle.std.specs.Int.{w32, from_be_bytes, to_be_bytes}
 use Rattle.std.specs.Str.{bytes_eq}
 use Rattle.std.proofs.lemmas.Bool.{cases_Bool}
@@ -11,13 +11,12 @@ use Rattle.aes_block.specs.State.{add_round_key}
 use Rattle.keyed_mac.proofs.Lengths.{tags_have_their_length}
 use Rattle.xom_seal.specs.declared.keys.LineKeys.{LineKeys}
 use Rattle.xom_seal.specs.declared.keys.RegisterKeys.{RegisterKeys}
-use Rattle.xom_seal.specs.declared.line.SealedLine.{SealedLine}
 use Rattle.xom_seal.specs.declared.names.LineName.{LineName}
 use Rattle.xom_seal.specs.declared.names.RegName.{RegName}
 use Rattle.xom_seal.specs.Counters.{register_counter}
 use Rattle.xom_seal.specs.Laws.{LinesAreSealings, LinesOpen, RegistersOpen, SealedLinesHaveTheirLength}
 use Rattle.xom_seal.specs.Messages.{line_message}
-use Rattle.xom_seal.specs.Sealing.{line_masked, line_pad, line_tag, register_masked, register_pad, register_tag, sealed_line, unsealed_line}
+use Rattle.xom_seal.specs.Sealing.{line_masked, line_pad, line_tag, register_masked, register_pad, register_tag}
 use Rattle.xom_seal.proofs.Masks.{length-xored, xored_twice}
 
 -- ---- Tests of tags

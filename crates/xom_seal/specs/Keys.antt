@@ -3,7 +3,6 @@ use Rattle.std.specs.Prelude.{ℕ, List, ◌∷◌, ◌++◌, drop, take}
 use Rattle.std.specs.Int.{w64, to_be_bytes}
 use Rattle.keyed_mac.specs.Hmac.{hmac_sha256}
 use Rattle.xom_base.specs.declared.key.ImageId.{ImageId}
-use Rattle.xom_base.specs.declared.key.Key128.{Key128}
 use Rattle.xom_base.specs.declared.key.Key256.{Key256}
 use Rattle.xom_seal.specs.declared.keys.LineKeys.{LineKeys}
 use Rattle.xom_seal.specs.declared.keys.RegisterKeys.{RegisterKeys}

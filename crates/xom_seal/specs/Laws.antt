@@ -1,5 +1,5 @@
 -- What whoever rests on seals may know of them: each message tells its kind, its name and its ciphertext, no pad serves two names under one key, and what was sealed opens.
-use Rattle.std.specs.Prelude.{ℕ, ◌≡◌, ◌≢◌, ◌^◌, ◌<◌, List, length, Some, take}
+use Rattle.std.specs.Prelude.{ℕ, ◌≡◌, ◌≢◌, ◌^◌, ◌<◌, ◌==◌, ◌&&◌, false, List, length, Some, take}
 use Rattle.xom_base.specs.declared.key.ImageId.{ImageId}
 use Rattle.xom_base.specs.declared.key.Key256.{Key256}
 use Rattle.xom_seal.specs.declared.envelope.Unwrapped.{Unwrapped}
@@ -9,10 +9,9 @@ use Rattle.xom_seal.specs.declared.line.SealedLine.{SealedLine}
 use Rattle.xom_seal.specs.declared.names.LineName.{LineName}
 use Rattle.xom_seal.specs.declared.names.LineName.TheVariants.{Image, Run}
 use Rattle.xom_seal.specs.declared.names.RegName.{RegName}
-use Rattle.xom_seal.specs.declared.register.SealedReg.{SealedReg}
 use Rattle.xom_seal.specs.Counters.{counter_block, envelope_counter, line_counter, register_counter}
 use Rattle.xom_seal.specs.Envelopes.{entry_in, envelope_fields, id_in, lines_in, unwrapped, wrapped}
-use Rattle.xom_seal.specs.Messages.{IsLineName, IsRegName, envelope_message, line_message, register_message}
+use Rattle.xom_seal.specs.Messages.{IsLineName, IsRegName, envelope_message, line_message, names_run_line, register_message, version_in}
 use Rattle.xom_seal.specs.Sealing.{sealed_line, sealed_register, unsealed_line, unsealed_register}
 
 -- ---- Messages
@@ -59,6 +58,16 @@ pub record MessageLengths : Type 0 where
       → length (line_message (Run boot install line version) ct) ≡ 61
   pub register : (name : RegName) (ct : List ℕ) → length ct ≡ 4 → length (register_message name ct) ≡ 30
   pub envelope : (envelope : List ℕ) → length envelope ≡ 88 → length (envelope_message envelope) ≡ 57
+
+-- Whether a message is of a run line of this install and line, and of which version, is read from its fields.
+pub record RunLinesAreTold : Type 0 where
+  pub run : (n at boot install line version : ℕ) (ct : List ℕ) → n < 2 ^ 64 → at < 2 ^ 32 → install < 2 ^ 64 → line < 2 ^ 32
+      → names_run_line n at (line_message (Run boot install line version) ct) ≡ ((install == n) && (line == at))
+  pub version : (boot install line version : ℕ) (ct : List ℕ) → version < 2 ^ 64
+      → version_in (line_message (Run boot install line version) ct) ≡ version
+  pub image : (n at : ℕ) (id : ImageId) (line : ℕ) (ct : List ℕ) → names_run_line n at (line_message (Image id line) ct) ≡ false
+  pub register : (n at : ℕ) (name : RegName) (ct : List ℕ) → names_run_line n at (register_message name ct) ≡ false
+  pub envelope : (n at : ℕ) (envelope : List ℕ) → names_run_line n at (envelope_message envelope) ≡ false
 
 -- ---- Counter blocks
 

@@ -1,7 +1,7 @@
 -- The messages: the texts whose tags are taken. Numbers have four or eight bytes, the highest first. The first byte tells the kind. The formats are this project's own.
-use Rattle.std.specs.Prelude.{ℕ, ◌^◌, ◌<◌, ◌≡◌, List, ◌∷◌, ◌++◌, length, take}
-use Rattle.std.specs.Int.{w32, w64, to_be_bytes}
-use Rattle.xom_base.specs.declared.key.ImageId.{ImageId}
+use Rattle.std.specs.Prelude.{ℕ, ◌^◌, ◌<◌, ◌≡◌, ◌&&◌, Bool, List, [], ◌∷◌, ◌++◌, drop, length, take}
+use Rattle.std.specs.Int.{w32, w64, from_be_bytes, to_be_bytes}
+use Rattle.std.specs.Str.{bytes_eq}
 use Rattle.xom_seal.specs.declared.names.LineName.{LineName}
 use Rattle.xom_seal.specs.declared.names.LineName.TheVariants.{Image, Run}
 use Rattle.xom_seal.specs.declared.names.RegName.{RegName}
@@ -33,3 +33,15 @@ pub record IsRegName (name : RegName) : Type 0 where
   pub install : name.install < 2 ^ 64
   pub epoch : name.epoch < 2 ^ 64
   pub reg : name.reg < 2 ^ 8
+
+-- ---- What the message of a run line names
+
+-- the message is of a run line of this install and this line, whatever its boot, version and ciphertext
+unfoldable pub names_run_line : ℕ → ℕ → List ℕ → Bool
+names_run_line install line message =
+    bytes_eq (take 1 message) (2 ∷ [])
+    && (bytes_eq (take 8 (drop 9 message)) (to_be_bytes w64 install) && bytes_eq (take 4 (drop 17 message)) (to_be_bytes w32 line))
+
+-- the version that it names
+abbrev pub version_in : List ℕ → ℕ
+version_in message = from_be_bytes w64 (take 8 (drop 21 message))

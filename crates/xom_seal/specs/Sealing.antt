@@ -1,5 +1,5 @@
 -- Sealed lines and registers: the ciphertext is the plain bytes xor what AES-128 makes of the counter blocks, the tag is HMAC of the message. The formats are this project's own.
-use Rattle.std.specs.Prelude.{ℕ, Bool, List, [], ◌∷◌, ◌++◌, Option, Some, None, bit_xor, if◌then◌else◌, take}
+use Rattle.std.specs.Prelude.{ℕ, List, [], ◌∷◌, ◌++◌, Option, Some, None, bit_xor, if◌then◌else◌, take}
 use Rattle.std.specs.Int.{w32, from_be_bytes, to_be_bytes}
 use Rattle.std.specs.Str.{bytes_eq}
 use Rattle.aes_block.specs.Cipher.{aes128}

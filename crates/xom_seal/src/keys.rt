@@ -22,7 +22,7 @@ const ENVELOPE: u8 = 0x13;
 /// That of the AES key of an image's lines.
 const IMAGE_AES: u8 = 0x14;
 
-/// The keys of lines.
+/// The keys of an image's lines, or of those that the machine writes for an install.
 #[derive(Clone, Copy, Debug, PartialEq, Eq)]
 pub struct LineKeys {
     /// The key of the tags.

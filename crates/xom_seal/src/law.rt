@@ -1,4 +1,4 @@
-ghost use Rattle.xom_seal.specs.Laws.{CounterBlocksTell, CounterKindsDiffer, EnvelopeFieldsTell, EnvelopeMessagesTell, EnvelopesOpen, EnvelopesShow, KindsDiffer, LineCountersTell, LineMessagesTell, LinesAreSealings, LinesOpen, MessageLengths, RegisterCountersTell, RegisterMessagesTell, RegistersOpen, SealedLinesHaveTheirLength};
+ghost use Rattle.xom_seal.specs.Laws.{CounterBlocksTell, CounterKindsDiffer, EnvelopeFieldsTell, EnvelopeMessagesTell, EnvelopesOpen, EnvelopesShow, KindsDiffer, LineCountersTell, LineMessagesTell, LinesAreSealings, LinesOpen, MessageLengths, RegisterCountersTell, RegisterMessagesTell, RegistersOpen, RunLinesAreTold, SealedLinesHaveTheirLength};
 
 /// Laws and no code: equal messages are of one kind, one name and one ciphertext, and each kind has
 /// one length.
@@ -35,4 +35,11 @@ pub fn sealings_open()
 pub fn sealings_have_their_form()
     ensures lines { SealedLinesHaveTheirLength }
     ensures envelopes { EnvelopesShow }
+{}
+
+/// A law and no code: whether a message is of a run line of an install, and of which version, is
+/// read from its fields.
+#[tactic(auto, using(crate::proofs::NamingLaws::run_lines_are_told))]
+pub fn run_lines_are_told()
+    ensures { RunLinesAreTold }
 {}

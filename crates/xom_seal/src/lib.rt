@@ -22,8 +22,8 @@ mod text;
 pub use envelope::{Unwrapped, unwrap, wrap};
 pub use keys::{LineKeys, RegisterKeys, image_keys, register_keys, run_keys};
 pub use law::{
-    counter_blocks_tell_their_names, messages_tell_their_names, sealings_have_their_form,
-    sealings_open,
+    counter_blocks_tell_their_names, messages_tell_their_names, run_lines_are_told,
+    sealings_have_their_form, sealings_open,
 };
 pub use line::{SealedLine, seal_line, unseal_line};
 pub use message::{envelope_message, line_message, register_message};
