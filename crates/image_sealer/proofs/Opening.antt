@@ -19,7 +19,7 @@ use Rattle.xom_seal.specs.Keys.{image_keys}
 use Rattle.xom_seal.specs.Laws.{IsUnwrapped, Shows}
 use Rattle.xom_seal.specs.Messages.{envelope_message}
 use Rattle.xom_seal.specs.Sealing.{line_tag, sealed_line, unsealed_line}
-use Rattle.xom_seal.proofs.EnvelopeLaws.{envelopes_open as wrapped_open, envelopes_show}
+use Rattle.xom_seal.proofs.EnvelopeLaws.{envelopes_open as wrapped_open}
 use Rattle.xom_seal.proofs.SealLaws.{lines_open as sealed_lines_open, sealed_lines_have_their_length}
 use Rattle.xom_image.specs.declared.sealed_image.SealedImage.{SealedImage}
 use Rattle.xom_image.proofs.LineBytes.{AreWhole, get-made}
@@ -91,17 +91,13 @@ lines_open machine owner sealed is = (
 -- ---- The envelope
 
 -- what it says is in range
-pub contents-ranges : (owner : Owner) → IsOwner owner → IsUnwrapped (contents_of owner)
+contents-ranges : (owner : Owner) → IsOwner owner → IsUnwrapped (contents_of owner)
 contents-ranges owner is_owner =
     let private : owner.plain.entry < 2 ^ 20 = owner.plain.private in
     let few = line_count-fits owner in
     record { id = is_owner.id; entry = omega arith; lines = omega arith; key = is_owner.key }
 
--- and shown by it
-pub envelope-shows : (machine : Key256) (owner : Owner) → IsOwner owner → Shows (envelope_of machine owner) (contents_of owner)
-unfolding envelope_of
-envelope-shows machine owner is_owner = envelopes_show machine (contents_of owner) (contents-ranges owner is_owner)
-
+-- and read by the machine
 envelope_opens : (machine : Key256) (owner : Owner) → IsOwner owner → unwrapped machine (envelope_of machine owner) ≡ Some (contents_of owner)
 unfolding envelope_of
 envelope_opens machine owner is_owner = wrapped_open machine (contents_of owner) (contents-ranges owner is_owner)

@@ -2,7 +2,7 @@
 use Rattle.std.proofs.Common.{◌≡◌, ℕ, zero, suc, ◌+◌, ◌*◌, ◌<◌, ◌≤◌, List, [], ◌∷◌, ◌++◌, Some, length, get_or, take, drop, map, refl, sym, ◌∙◌, ap, arith, add-one, append_assoc, length-append, length-drop}
 use Rattle.std.specs.Prelude.{slice_get}
 use Rattle.std.specs.List.{flat_map, range_with_len}
-use Rattle.std.proofs.Math.Seq.{take-add, drop-drop, drop-cons, drop-nil, take_all, take_at, drop_at, drop-append-add, take-append-le, length-take-le}
+use Rattle.std.proofs.Math.Seq.{take-add, drop-drop, drop-cons, drop-nil, take_all, take_at, drop_at, drop-append-add, length-take-le}
 use Rattle.std.proofs.lemmas.List.{append-nil}
 use Rattle.std.proofs.lemmas.List.Concat.{flat_map-append}
 use Rattle.std.proofs.lemmas.List.FromFn.{get_or-map-range_with_len, length-map-range_with_len, map-range_with_len_more, fill_by_all}
@@ -118,10 +118,10 @@ line_at-lines before lines k size whole below =
     let line = get_or lines k no_line in
     let place : 96 + 64 * k ≡ length before + 64 * k = omega arith in
     let left : drop (96 + 64 * k) file ≡ line_bytes line ++ flat_map line_bytes (drop (suc k) lines) =
-        ap (λ n. drop n file) place
-        ∙ drop-append-add before (flat_map line_bytes lines) (64 * k)
-        ∙ lines-drop lines k whole
-        ∙ ap (λ rest. flat_map line_bytes rest) (drop-cons lines k no_line below)
+    ap (λ n. drop n file) place
+    ∙ drop-append-add before (flat_map line_bytes lines) (64 * k)
+    ∙ lines-drop lines k whole
+    ∙ ap (λ rest. flat_map line_bytes rest) (drop-cons lines k no_line below)
     in
     sym (line_at-front file (96 + 64 * k) ∙ ap (λ rest. line_at rest 0) left ∙ front_line line (flat_map line_bytes (drop (suc k) lines)) (whole k line (slice_get-get_or lines k no_line below)))
 

@@ -1,12 +1,12 @@
 -- The fields of an image file are read where they stand, or the first bad place is found.
-use Rattle.std.proofs.Common.{◌≡◌, ℕ, ◌+◌, ◌*◌, ◌%◌, ◌^◌, ◌<◌, ◌≤◌, ◌⊎◌, ◌≢◌, inl, inr, true, false, List, [], ◌∷◌, Result, Ok, Err, get_or, length, min, take, refl, sym, ◌∙◌, ap, arith, ltb, eqb, zero, suc, IsOk, IfOk, ◌↔◌, subst}
+use Rattle.std.proofs.Common.{◌≡◌, ℕ, ◌+◌, ◌%◌, ◌^◌, ◌<◌, ◌≤◌, ◌⊎◌, ◌≢◌, inl, inr, true, false, List, [], ◌∷◌, Result, Ok, Err, get_or, length, min, take, refl, sym, ◌∙◌, ap, arith, ltb, eqb, zero, suc, IsOk, IfOk, ◌↔◌, subst}
 use Rattle.std.proofs.lemmas.Bool.{cond_both, eqb-true, eqb-false, ltb-true, ltb-false, and_cases, cases_lt}
 use Rattle.std.proofs.lemmas.Bool.Decides.{nat_tests}
 use Rattle.std.proofs.lemmas.List.Sums.{take_while-cons}
 use Rattle.xom_image.specs.declared.fault.ImageFault.{ImageFault}
 use Rattle.xom_image.specs.declared.fault.ImageFault.TheVariants as fault
 use Rattle.xom_image.specs.declared.fields.Format.{Format}
-use Rattle.xom_image.specs.Fields.{number_at, entry_of, count_of, size_of, DiffersAt, IsBadAt, IsFirstBadOf, is_entry, agreed, fields_at, AnswersBy, IsWhole, IsFormat}
+use Rattle.xom_image.specs.Fields.{entry_of, count_of, size_of, DiffersAt, IsBadAt, IsFirstBadOf, is_entry, agreed, fields_at, AnswersBy, IsWhole, IsFormat}
 
 -- ---- Where two texts agree
 
@@ -51,6 +51,7 @@ agreed-all (x ∷ xs) (y ∷ ys) all =
       | inl h ↦ let rest = agreed-all xs ys (omega arith) in cc
       | inr h ↦ absurd (omega arith)
     ]
+
 -- ---- The reading is right
 
 is_entry-parts : (entry : ℕ) → is_entry entry ≡ true → (entry % 4 ≡ 0) × (entry < 2 ^ 20)

@@ -1,6 +1,5 @@
 -- The reading of a sealed image file is the grammar, both ways.
-use Rattle.std.proofs.Common.{◌≡◌, ℕ, ◌+◌, ◌*◌, ◌%◌, ◌^◌, ◌<◌, ◌≤◌, ◌⊎◌, List, ◌++◌, Some, Result, Ok, Err, drop, length, take, refl, sym, ◌∙◌, ap, arith, ◌↔◌, length-append, length-drop, append_assoc}
-use Rattle.std.specs.Prelude.{slice_get}
+use Rattle.std.proofs.Common.{◌≡◌, ℕ, ◌+◌, ◌*◌, ◌%◌, ◌^◌, ◌<◌, ◌≤◌, ◌⊎◌, List, ◌++◌, Result, Ok, Err, drop, length, take, refl, sym, ◌∙◌, ap, arith, ◌↔◌, length-append, length-drop, append_assoc}
 use Rattle.std.specs.Int.{w32, from_be_bytes}
 use Rattle.std.specs.List.{flat_map}
 use Rattle.std.proofs.Math.Seq.{drop-drop, take_at, take-append-le, drop-append-le, length-take-le, take-take}
