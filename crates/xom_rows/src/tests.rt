@@ -205,7 +205,7 @@ fn files_are_looked_at_in_order(rt: HostRuntime) -> Result<(), Fail> {
 
     hold(rt.alloc(), &mut files, "one.img", b"XOMS")?;
     let image = traced(rt.alloc(), &mut files, "r.run")?;
-    assert_eq!(rt; image.out.bytes(), b"xom: one.img: not built\n".as_slice());
+    assert_eq!(rt; image.out.bytes(), b"xom: one.img byte 3: bad\n".as_slice());
     assert_eq!(rt; image.status, 4);
     Ok(())
 }

@@ -1,0 +1,71 @@
+-- Envelopes: what a machine must know of an image before it can install it, 88 bytes: id (16), entry (4), lines (4), wrapped key (32), tag (32). The format is this project's own.
+use Rattle.std.specs.Prelude.{ℕ, List, ◌++◌, Option, Some, None, drop, if◌then◌else◌, take}
+use Rattle.std.specs.Int.{w32, from_be_bytes, to_be_bytes}
+use Rattle.std.specs.Str.{bytes_eq}
+use Rattle.aes_block.specs.Cipher.{aes128}
+use Rattle.keyed_mac.specs.Hmac.{hmac_sha256}
+use Rattle.xom_base.specs.declared.key.Key256.{Key256}
+use Rattle.xom_seal.specs.declared.envelope.Unwrapped.{Unwrapped}
+use Rattle.xom_seal.specs.Counters.{envelope_counter}
+use Rattle.xom_seal.specs.Keys.{envelope_aes_key}
+use Rattle.xom_seal.specs.Messages.{envelope_message}
+use Rattle.xom_seal.specs.Sealing.{xored}
+
+-- ---- The fields of an envelope
+
+-- all the fields before the tag: id, entry, lines, wrapped key
+unfoldable pub envelope_fields : List ℕ → ℕ → ℕ → List ℕ → List ℕ
+envelope_fields id entry lines wrapped = id ++ (to_be_bytes w32 entry ++ (to_be_bytes w32 lines ++ wrapped))
+
+-- the same, read from an envelope
+abbrev pub id_in : List ℕ → List ℕ
+id_in envelope = take 16 envelope
+
+abbrev pub entry_in : List ℕ → ℕ
+entry_in envelope = from_be_bytes w32 (take 4 (drop 16 envelope))
+
+abbrev pub lines_in : List ℕ → ℕ
+lines_in envelope = from_be_bytes w32 (take 4 (drop 20 envelope))
+
+abbrev pub wrapped_in : List ℕ → List ℕ
+wrapped_in envelope = take 32 (drop 24 envelope)
+
+abbrev pub tag_in : List ℕ → List ℕ
+tag_in envelope = take 32 (drop 56 envelope)
+
+-- ---- Wrapping
+
+-- the 32 bytes that an image key is masked with in the envelope of this id
+unfoldable pub envelope_pad : Key256 → List ℕ → List ℕ
+envelope_pad machine id =
+    aes128 (envelope_aes_key machine.0 id) (envelope_counter 0) ++ aes128 (envelope_aes_key machine.0 id) (envelope_counter 1)
+
+-- an image key masked, which takes the key to the wrapped key and back
+unfoldable pub key_masked : Key256 → List ℕ → List ℕ → List ℕ
+key_masked machine id key = xored key (envelope_pad machine id)
+
+-- the tag of an envelope, which is taken of its first 56 bytes, all that stands before it
+unfoldable pub envelope_tag : Key256 → List ℕ → List ℕ
+envelope_tag machine envelope = hmac_sha256 machine.0 (envelope_message envelope)
+
+-- the fields of an envelope for an image
+abbrev pub fields_of : Key256 → Unwrapped → List ℕ
+fields_of machine plain = envelope_fields plain.id.0 plain.entry plain.lines (key_masked machine plain.id.0 plain.key.0)
+
+-- the envelope for an image
+unfoldable pub wrapped : Key256 → Unwrapped → List ℕ
+wrapped machine plain = fields_of machine plain ++ envelope_tag machine (fields_of machine plain)
+
+-- what an envelope says of its image
+unfoldable pub contents_of : Key256 → List ℕ → Unwrapped
+contents_of machine envelope = record {
+  id = record { 0 = id_in envelope };
+  entry = entry_in envelope;
+  lines = lines_in envelope;
+  key = record { 0 = key_masked machine (id_in envelope) (wrapped_in envelope) };
+}
+
+-- the same of an envelope whose tag is right
+abbrev pub unwrapped : Key256 → List ℕ → Option Unwrapped
+unwrapped machine envelope =
+    if bytes_eq (tag_in envelope) (envelope_tag machine envelope) then Some (contents_of machine envelope) else None

@@ -1,0 +1,6 @@
+pub mod Messages
+pub mod Keys
+pub mod Counters
+pub mod Sealing
+pub mod Envelopes
+pub mod Laws

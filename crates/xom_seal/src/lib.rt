@@ -1,0 +1,31 @@
+//! Names, keys and messages of what leaves the chip, and its sealing: lines of private memory,
+//! registers, and the envelopes of images.
+//!
+//! What is sealed is enciphered by AES-128 over counter blocks and tagged by HMAC over SHA-256.
+//! Unsealing answers plain bytes exactly where the tag is that of the message. Two names that
+//! differ have messages that differ, whatever their ciphertexts. Nothing here takes memory.
+#![tactic(auto)]
+
+mod counter;
+mod envelope;
+mod keys;
+mod law;
+mod line;
+mod mask;
+mod message;
+mod names;
+mod register;
+#[cfg(test)]
+mod tests;
+mod text;
+
+pub use envelope::{Unwrapped, unwrap, wrap};
+pub use keys::{LineKeys, RegisterKeys, image_keys, register_keys, run_keys};
+pub use law::{
+    counter_blocks_tell_their_names, messages_tell_their_names, sealings_have_their_form,
+    sealings_open,
+};
+pub use line::{SealedLine, seal_line, unseal_line};
+pub use message::{envelope_message, line_message, register_message};
+pub use names::{LineName, RegName};
+pub use register::{SealedReg, seal_register, unseal_register};
