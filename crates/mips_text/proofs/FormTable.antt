@@ -1,25 +1,24 @@
 -- The table of forms is exact both ways: an instruction is built of its own form, and what is built has that form.
-use Rattle.std.proofs.Common.{◌≡◌, ◌≢◌, ◌⊎◌, ℕ, Bool, true, false, cond, List, [], ◌∷◌, map, Option, Some, None, codes, refl, sym, ◌∙◌, ap, inl, inr, is_some}
+use Rattle.std.proofs.Common.{◌≡◌, ◌⊎◌, ℕ, Bool, true, false, cond, List, [], ◌∷◌, map, Option, Some, None, refl, sym, ◌∙◌, ap, inl, inr, is_some}
 use Rattle.std.proofs.lemmas.Bool.{cases_Bool}
 use Rattle.std.proofs.lemmas.Slice.Eq.{bytes_eq-Decides}
 use Rattle.std.specs.Str.{bytes_eq}
 use Rattle.std.specs.List.{AllByRecursion, find}
 use Rattle.mips_isa.specs.declared.instruction.Ins.{Ins}
 use Rattle.mips_isa.specs.declared.instruction.Ins.TheVariants.{Sll, Srl, Sra, Sllv, Srlv, Srav, Jr, Jalr, Syscall, Break, Mfhi, Mthi, Mflo, Mtlo, Mult, Multu, Div, Divu, Add, Addu, Sub, Subu, And, Or, Xor, Nor, Slt, Sltu, Bltz, Bgez, Bltzal, Bgezal, J, Jal, Beq, Bne, Blez, Bgtz, Addi, Addiu, Slti, Sltiu, Andi, Ori, Xori, Lui, Lb, Lh, Lwl, Lw, Lbu, Lhu, Lwr, Sb, Sh, Swl, Sw, Swr, Xlwn, Xswn, Xmvtn, Xmvfn, Xexit, Xhand, Xsigret, Xinstall, Xenter, Xresume, Xsave, Xrestore, Xmap, Xunmap, Xkill, Xout, Xhalt, Xstat, Xcause, Xarg, Xwho}
-use Rattle.mips_isa.specs.Words.{Fits}
 use Rattle.mips_text.specs.declared.operand.Operand.{Operand}
 use Rattle.mips_text.specs.declared.operand.Operand.TheVariants.{Register, Shift, Signed, Unsigned, Code, Branch, Jump, Offset}
 use Rattle.mips_text.specs.declared.operand.OperandKind.{OperandKind}
 use Rattle.mips_text.specs.declared.operand.OperandKind.TheVariants as kinds
-use Rattle.mips_text.specs.Forms.{form_of, kind_of, InRange, IsNoMnemonic, Takes}
-use Rattle.mips_text.specs.Builds.{Row, in_rows, rows_of, plain_rows, register_rows, two_registers_rows, three_registers_rows, shift_rows, signed_rows, unsigned_rows, upper_rows, access_rows, compare_rows, test_rows, jump_rows, coded_rows, build_of, shapes, sample_of, takes, kinds_of}
+use Rattle.mips_text.specs.Forms.{form_of, kind_of, IsNoMnemonic, Takes}
+use Rattle.mips_text.specs.Builds.{Row, in_rows, rows_of, plain_rows, register_rows, two_registers_rows, three_registers_rows, sum_rows, slot_rows, shift_rows, signed_rows, unsigned_rows, upper_rows, access_rows, compare_rows, test_rows, jump_rows, coded_rows, build_of, shapes, sample_of, takes, kinds_of}
 use Rattle.mips_text.specs.FormLaws.{FormsDiffer, KindsOfForms, OperandsFit}
 
 -- ---- From the instruction to its form and back
 
 -- each instruction is built of its own form
 pub built_form : (i : Ins) → build_of (form_of i).0 (form_of i).1 ≡ Some i
-unfolding rows_of plain_rows register_rows two_registers_rows three_registers_rows shift_rows signed_rows unsigned_rows upper_rows access_rows compare_rows test_rows jump_rows coded_rows
+unfolding rows_of plain_rows register_rows two_registers_rows three_registers_rows sum_rows slot_rows shift_rows signed_rows unsigned_rows upper_rows access_rows compare_rows test_rows jump_rows coded_rows
 built_form (Sll rd rt sa) = refl
 built_form (Srl rd rt sa) = refl
 built_form (Sra rd rt sa) = refl
@@ -128,7 +127,7 @@ in_rows-form name operands i (row ∷ rows) all is =
 
 -- each row of the tables makes an instruction of its form
 rows_of-hold : (operands : List Operand) → AllByRecursion (Holds operands) (rows_of operands)
-unfolding rows_of plain_rows register_rows two_registers_rows three_registers_rows shift_rows signed_rows unsigned_rows upper_rows access_rows compare_rows test_rows jump_rows coded_rows
+unfolding rows_of plain_rows register_rows two_registers_rows three_registers_rows sum_rows slot_rows shift_rows signed_rows unsigned_rows upper_rows access_rows compare_rows test_rows jump_rows coded_rows
 rows_of-hold [] = (refl, (refl, (refl, tt)))
 rows_of-hold (Register a ∷ []) = (refl, (refl, (refl, (refl, (refl, (refl, (refl, (refl, (refl, (refl, (refl, (refl, (refl, (refl, tt))))))))))))))
 rows_of-hold (Register a ∷ Register b ∷ []) = (refl, (refl, (refl, (refl, (refl, (refl, (refl, (refl, tt))))))))
@@ -155,7 +154,7 @@ form-build_of name operands i is = ap (λ (form : List ℕ × List Operand). bui
 -- ---- Which operands a mnemonic takes
 
 pub kinds_of_forms : KindsOfForms
-unfolding kinds_of rows_of plain_rows register_rows two_registers_rows three_registers_rows shift_rows signed_rows unsigned_rows upper_rows access_rows compare_rows test_rows jump_rows coded_rows
+unfolding kinds_of rows_of plain_rows register_rows two_registers_rows three_registers_rows sum_rows slot_rows shift_rows signed_rows unsigned_rows upper_rows access_rows compare_rows test_rows jump_rows coded_rows
 kinds_of_forms (Sll rd rt sa) = refl
 kinds_of_forms (Srl rd rt sa) = refl
 kinds_of_forms (Sra rd rt sa) = refl

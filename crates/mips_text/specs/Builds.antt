@@ -36,14 +36,22 @@ two_registers_rows a b =
     (codes "jalr", Jalr a b) ∷ (codes "mult", Mult a b) ∷ (codes "multu", Multu a b) ∷ (codes "div", Div a b) ∷
     (codes "divu", Divu a b) ∷ (codes "xmvfn", Xmvfn a b) ∷ (codes "xresume", Xresume a b) ∷ (codes "xunmap", Xunmap a b) ∷ []
 
+-- three registers, a slot first
+unfoldable pub slot_rows : (rs rt rd : ℕ) → List Row
+slot_rows rs rt rd =
+    (codes "xinstall", Xinstall rs rt rd) ∷ (codes "xsave", Xsave rs rt rd) ∷ (codes "xrestore", Xrestore rs rt rd) ∷ (codes "xmap", Xmap rs rt rd) ∷ []
+
+-- three registers, the result first
+unfoldable pub sum_rows : (rd rs rt : ℕ) → List Row
+sum_rows rd rs rt =
+    (codes "add", Add rd rs rt) ∷ (codes "addu", Addu rd rs rt) ∷ (codes "sub", Sub rd rs rt) ∷ (codes "subu", Subu rd rs rt) ∷
+    (codes "and", And rd rs rt) ∷ (codes "or", Or rd rs rt) ∷ (codes "xor", Xor rd rs rt) ∷ (codes "nor", Nor rd rs rt) ∷
+    (codes "slt", Slt rd rs rt) ∷ (codes "sltu", Sltu rd rs rt) ∷ slot_rows rd rs rt
+
 -- three registers
 unfoldable pub three_registers_rows : (a b c : ℕ) → List Row
 three_registers_rows a b c =
-    (codes "sllv", Sllv a b c) ∷ (codes "srlv", Srlv a b c) ∷ (codes "srav", Srav a b c) ∷ (codes "add", Add a b c) ∷
-    (codes "addu", Addu a b c) ∷ (codes "sub", Sub a b c) ∷ (codes "subu", Subu a b c) ∷ (codes "and", And a b c) ∷
-    (codes "or", Or a b c) ∷ (codes "xor", Xor a b c) ∷ (codes "nor", Nor a b c) ∷ (codes "slt", Slt a b c) ∷
-    (codes "sltu", Sltu a b c) ∷ (codes "xinstall", Xinstall a b c) ∷ (codes "xsave", Xsave a b c) ∷ (codes "xrestore", Xrestore a b c) ∷
-    (codes "xmap", Xmap a b c) ∷ []
+    (codes "sllv", Sllv a b c) ∷ (codes "srlv", Srlv a b c) ∷ (codes "srav", Srav a b c) ∷ sum_rows a b c
 
 -- two registers and a shift amount
 unfoldable pub shift_rows : (a b amount : ℕ) → List Row

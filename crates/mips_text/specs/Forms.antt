@@ -118,6 +118,11 @@ InRange (Branch imm) = imm < 2 ^ 16
 InRange (Jump index) = index < 2 ^ 26
 InRange (Offset imm base) = (imm < 2 ^ 16) × (base < 32)
 
+-- the base register of an offset, and 0 of any other operand
+abbrev pub base_of : Operand → ℕ
+base_of (Offset imm base) = base
+base_of _ = 0
+
 -- no instruction has this mnemonic
 abbrev pub IsNoMnemonic : List ℕ → Type 0
 IsNoMnemonic name = (i : Ins) → (form_of i).0 ≢ name

@@ -1,4 +1,8 @@
 pub mod Builds
 pub mod FormLaws
 pub mod Forms
+pub mod Integers
+pub mod Lexemes
+pub mod Registers
 pub mod Texts
+pub mod Tokens

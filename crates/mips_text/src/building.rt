@@ -1,6 +1,6 @@
 ghost use Rattle.std.specs.Prelude.{◌≡◌, ◌↔◌, ◌∷◌, [], MatchOption};
 ghost use Rattle.mips_text.specs.Forms.{form_of, Takes, IsNoMnemonic};
-ghost use Rattle.mips_text.specs.Builds.{build_of, kinds_of, in_rows, plain_rows, register_rows, two_registers_rows, three_registers_rows, shift_rows, signed_rows, unsigned_rows, upper_rows, access_rows, compare_rows, test_rows, jump_rows, coded_rows};
+ghost use Rattle.mips_text.specs.Builds.{build_of, kinds_of, in_rows, plain_rows, register_rows, two_registers_rows, three_registers_rows, sum_rows, slot_rows, shift_rows, signed_rows, unsigned_rows, upper_rows, access_rows, compare_rows, test_rows, jump_rows, coded_rows};
 
 use crate::OperandKind::{Branch, Code, Jump, Offset, Register, Shift, Signed, Unsigned};
 use crate::{Operand, OperandKind};
@@ -75,28 +75,28 @@ fn found(name: &[u8], operands: &[Operand]) -> Option<Ins>
             Operand::Register(c),
         ] => three_registers(name, a, b, c),
         [
-            Operand::Register(a),
-            Operand::Register(b),
-            Operand::Shift(amount),
-        ] => shift(name, a, b, amount),
+            Operand::Register(rd),
+            Operand::Register(rt),
+            Operand::Shift(sa),
+        ] => shift(name, rd, rt, sa),
         [
-            Operand::Register(a),
-            Operand::Register(b),
+            Operand::Register(rt),
+            Operand::Register(rs),
             Operand::Signed(imm),
-        ] => signed(name, a, b, imm),
+        ] => signed(name, rt, rs, imm),
         [
-            Operand::Register(a),
-            Operand::Register(b),
+            Operand::Register(rt),
+            Operand::Register(rs),
             Operand::Unsigned(imm),
-        ] => unsigned(name, a, b, imm),
-        [Operand::Register(a), Operand::Unsigned(imm)] => upper(name, a, imm),
-        [Operand::Register(a), Operand::Offset { imm, base }] => access(name, a, imm, base),
+        ] => unsigned(name, rt, rs, imm),
+        [Operand::Register(rt), Operand::Unsigned(imm)] => upper(name, rt, imm),
+        [Operand::Register(rt), Operand::Offset { imm, base: rs }] => access(name, rt, imm, rs),
         [
-            Operand::Register(a),
-            Operand::Register(b),
+            Operand::Register(rs),
+            Operand::Register(rt),
             Operand::Branch(imm),
-        ] => compare(name, a, b, imm),
-        [Operand::Register(a), Operand::Branch(imm)] => test(name, a, imm),
+        ] => compare(name, rs, rt, imm),
+        [Operand::Register(rs), Operand::Branch(imm)] => test(name, rs, imm),
         [Operand::Jump(index)] => jump(name, index),
         [Operand::Code(code)] => coded(name, code),
         _ => None,
@@ -185,111 +185,63 @@ fn two_registers(name: &[u8], a: u8, b: u8) -> Option<Ins>
 
 /// Three registers.
 #[tactic(auto, unfolding(crate::specs::Builds::three_registers_rows))]
-fn three_registers(name: &[u8], a: u8, b: u8, c: u8) -> Option<Ins>
-    ensures { result ≡ in_rows name.now (three_registers_rows a b c) }
+fn three_registers(name: &[u8], rd: u8, rt: u8, rs: u8) -> Option<Ins>
+    ensures { result ≡ in_rows name.now (three_registers_rows rd rt rs) }
 {
     if name == b"sllv".as_slice() {
-        Some(Ins::Sllv {
-            rd: a,
-            rt: b,
-            rs: c,
-        })
+        Some(Ins::Sllv { rd, rt, rs })
     } else if name == b"srlv".as_slice() {
-        Some(Ins::Srlv {
-            rd: a,
-            rt: b,
-            rs: c,
-        })
+        Some(Ins::Srlv { rd, rt, rs })
     } else if name == b"srav".as_slice() {
-        Some(Ins::Srav {
-            rd: a,
-            rt: b,
-            rs: c,
-        })
-    } else if name == b"add".as_slice() {
-        Some(Ins::Add {
-            rd: a,
-            rs: b,
-            rt: c,
-        })
+        Some(Ins::Srav { rd, rt, rs })
+    } else {
+        sum(name, rd, rt, rs)
+    }
+}
+
+/// Three registers, the result first.
+#[tactic(auto, unfolding(crate::specs::Builds::sum_rows))]
+fn sum(name: &[u8], rd: u8, rs: u8, rt: u8) -> Option<Ins>
+    ensures { result ≡ in_rows name.now (sum_rows rd rs rt) }
+{
+    if name == b"add".as_slice() {
+        Some(Ins::Add { rd, rs, rt })
     } else if name == b"addu".as_slice() {
-        Some(Ins::Addu {
-            rd: a,
-            rs: b,
-            rt: c,
-        })
+        Some(Ins::Addu { rd, rs, rt })
     } else if name == b"sub".as_slice() {
-        Some(Ins::Sub {
-            rd: a,
-            rs: b,
-            rt: c,
-        })
+        Some(Ins::Sub { rd, rs, rt })
     } else if name == b"subu".as_slice() {
-        Some(Ins::Subu {
-            rd: a,
-            rs: b,
-            rt: c,
-        })
+        Some(Ins::Subu { rd, rs, rt })
     } else if name == b"and".as_slice() {
-        Some(Ins::And {
-            rd: a,
-            rs: b,
-            rt: c,
-        })
+        Some(Ins::And { rd, rs, rt })
     } else if name == b"or".as_slice() {
-        Some(Ins::Or {
-            rd: a,
-            rs: b,
-            rt: c,
-        })
+        Some(Ins::Or { rd, rs, rt })
     } else if name == b"xor".as_slice() {
-        Some(Ins::Xor {
-            rd: a,
-            rs: b,
-            rt: c,
-        })
+        Some(Ins::Xor { rd, rs, rt })
     } else if name == b"nor".as_slice() {
-        Some(Ins::Nor {
-            rd: a,
-            rs: b,
-            rt: c,
-        })
+        Some(Ins::Nor { rd, rs, rt })
     } else if name == b"slt".as_slice() {
-        Some(Ins::Slt {
-            rd: a,
-            rs: b,
-            rt: c,
-        })
+        Some(Ins::Slt { rd, rs, rt })
     } else if name == b"sltu".as_slice() {
-        Some(Ins::Sltu {
-            rd: a,
-            rs: b,
-            rt: c,
-        })
-    } else if name == b"xinstall".as_slice() {
-        Some(Ins::Xinstall {
-            rs: a,
-            rt: b,
-            rd: c,
-        })
+        Some(Ins::Sltu { rd, rs, rt })
+    } else {
+        slot(name, rd, rs, rt)
+    }
+}
+
+/// Three registers, a slot first.
+#[tactic(auto, unfolding(crate::specs::Builds::slot_rows))]
+fn slot(name: &[u8], rs: u8, rt: u8, rd: u8) -> Option<Ins>
+    ensures { result ≡ in_rows name.now (slot_rows rs rt rd) }
+{
+    if name == b"xinstall".as_slice() {
+        Some(Ins::Xinstall { rs, rt, rd })
     } else if name == b"xsave".as_slice() {
-        Some(Ins::Xsave {
-            rs: a,
-            rt: b,
-            rd: c,
-        })
+        Some(Ins::Xsave { rs, rt, rd })
     } else if name == b"xrestore".as_slice() {
-        Some(Ins::Xrestore {
-            rs: a,
-            rt: b,
-            rd: c,
-        })
+        Some(Ins::Xrestore { rs, rt, rd })
     } else if name == b"xmap".as_slice() {
-        Some(Ins::Xmap {
-            rs: a,
-            rt: b,
-            rd: c,
-        })
+        Some(Ins::Xmap { rs, rt, rd })
     } else {
         None
     }
@@ -297,27 +249,15 @@ fn three_registers(name: &[u8], a: u8, b: u8, c: u8) -> Option<Ins>
 
 /// Two registers and a shift amount.
 #[tactic(auto, unfolding(crate::specs::Builds::shift_rows))]
-fn shift(name: &[u8], a: u8, b: u8, amount: u8) -> Option<Ins>
-    ensures { result ≡ in_rows name.now (shift_rows a b amount) }
+fn shift(name: &[u8], rd: u8, rt: u8, sa: u8) -> Option<Ins>
+    ensures { result ≡ in_rows name.now (shift_rows rd rt sa) }
 {
     if name == b"sll".as_slice() {
-        Some(Ins::Sll {
-            rd: a,
-            rt: b,
-            sa: amount,
-        })
+        Some(Ins::Sll { rd, rt, sa })
     } else if name == b"srl".as_slice() {
-        Some(Ins::Srl {
-            rd: a,
-            rt: b,
-            sa: amount,
-        })
+        Some(Ins::Srl { rd, rt, sa })
     } else if name == b"sra".as_slice() {
-        Some(Ins::Sra {
-            rd: a,
-            rt: b,
-            sa: amount,
-        })
+        Some(Ins::Sra { rd, rt, sa })
     } else {
         None
     }
@@ -325,17 +265,17 @@ fn shift(name: &[u8], a: u8, b: u8, amount: u8) -> Option<Ins>
 
 /// Two registers and an immediate with its sign.
 #[tactic(auto, unfolding(crate::specs::Builds::signed_rows))]
-fn signed(name: &[u8], a: u8, b: u8, imm: u16) -> Option<Ins>
-    ensures { result ≡ in_rows name.now (signed_rows a b imm) }
+fn signed(name: &[u8], rt: u8, rs: u8, imm: u16) -> Option<Ins>
+    ensures { result ≡ in_rows name.now (signed_rows rt rs imm) }
 {
     if name == b"addi".as_slice() {
-        Some(Ins::Addi { rt: a, rs: b, imm })
+        Some(Ins::Addi { rt, rs, imm })
     } else if name == b"addiu".as_slice() {
-        Some(Ins::Addiu { rt: a, rs: b, imm })
+        Some(Ins::Addiu { rt, rs, imm })
     } else if name == b"slti".as_slice() {
-        Some(Ins::Slti { rt: a, rs: b, imm })
+        Some(Ins::Slti { rt, rs, imm })
     } else if name == b"sltiu".as_slice() {
-        Some(Ins::Sltiu { rt: a, rs: b, imm })
+        Some(Ins::Sltiu { rt, rs, imm })
     } else {
         None
     }
@@ -343,15 +283,15 @@ fn signed(name: &[u8], a: u8, b: u8, imm: u16) -> Option<Ins>
 
 /// Two registers and an immediate without a sign.
 #[tactic(auto, unfolding(crate::specs::Builds::unsigned_rows))]
-fn unsigned(name: &[u8], a: u8, b: u8, imm: u16) -> Option<Ins>
-    ensures { result ≡ in_rows name.now (unsigned_rows a b imm) }
+fn unsigned(name: &[u8], rt: u8, rs: u8, imm: u16) -> Option<Ins>
+    ensures { result ≡ in_rows name.now (unsigned_rows rt rs imm) }
 {
     if name == b"andi".as_slice() {
-        Some(Ins::Andi { rt: a, rs: b, imm })
+        Some(Ins::Andi { rt, rs, imm })
     } else if name == b"ori".as_slice() {
-        Some(Ins::Ori { rt: a, rs: b, imm })
+        Some(Ins::Ori { rt, rs, imm })
     } else if name == b"xori".as_slice() {
-        Some(Ins::Xori { rt: a, rs: b, imm })
+        Some(Ins::Xori { rt, rs, imm })
     } else {
         None
     }
@@ -359,11 +299,11 @@ fn unsigned(name: &[u8], a: u8, b: u8, imm: u16) -> Option<Ins>
 
 /// A register and an immediate without a sign.
 #[tactic(auto, unfolding(crate::specs::Builds::upper_rows))]
-fn upper(name: &[u8], a: u8, imm: u16) -> Option<Ins>
-    ensures { result ≡ in_rows name.now (upper_rows a imm) }
+fn upper(name: &[u8], rt: u8, imm: u16) -> Option<Ins>
+    ensures { result ≡ in_rows name.now (upper_rows rt imm) }
 {
     if name == b"lui".as_slice() {
-        Some(Ins::Lui { rt: a, imm })
+        Some(Ins::Lui { rt, imm })
     } else {
         None
     }
@@ -371,93 +311,37 @@ fn upper(name: &[u8], a: u8, imm: u16) -> Option<Ins>
 
 /// A register, and an offset from a base register.
 #[tactic(auto, unfolding(crate::specs::Builds::access_rows))]
-fn access(name: &[u8], a: u8, imm: u16, base: u8) -> Option<Ins>
-    ensures { result ≡ in_rows name.now (access_rows a imm base) }
+fn access(name: &[u8], rt: u8, imm: u16, rs: u8) -> Option<Ins>
+    ensures { result ≡ in_rows name.now (access_rows rt imm rs) }
 {
     if name == b"lb".as_slice() {
-        Some(Ins::Lb {
-            rt: a,
-            imm,
-            rs: base,
-        })
+        Some(Ins::Lb { rt, imm, rs })
     } else if name == b"lh".as_slice() {
-        Some(Ins::Lh {
-            rt: a,
-            imm,
-            rs: base,
-        })
+        Some(Ins::Lh { rt, imm, rs })
     } else if name == b"lwl".as_slice() {
-        Some(Ins::Lwl {
-            rt: a,
-            imm,
-            rs: base,
-        })
+        Some(Ins::Lwl { rt, imm, rs })
     } else if name == b"lw".as_slice() {
-        Some(Ins::Lw {
-            rt: a,
-            imm,
-            rs: base,
-        })
+        Some(Ins::Lw { rt, imm, rs })
     } else if name == b"lbu".as_slice() {
-        Some(Ins::Lbu {
-            rt: a,
-            imm,
-            rs: base,
-        })
+        Some(Ins::Lbu { rt, imm, rs })
     } else if name == b"lhu".as_slice() {
-        Some(Ins::Lhu {
-            rt: a,
-            imm,
-            rs: base,
-        })
+        Some(Ins::Lhu { rt, imm, rs })
     } else if name == b"lwr".as_slice() {
-        Some(Ins::Lwr {
-            rt: a,
-            imm,
-            rs: base,
-        })
+        Some(Ins::Lwr { rt, imm, rs })
     } else if name == b"sb".as_slice() {
-        Some(Ins::Sb {
-            rt: a,
-            imm,
-            rs: base,
-        })
+        Some(Ins::Sb { rt, imm, rs })
     } else if name == b"sh".as_slice() {
-        Some(Ins::Sh {
-            rt: a,
-            imm,
-            rs: base,
-        })
+        Some(Ins::Sh { rt, imm, rs })
     } else if name == b"swl".as_slice() {
-        Some(Ins::Swl {
-            rt: a,
-            imm,
-            rs: base,
-        })
+        Some(Ins::Swl { rt, imm, rs })
     } else if name == b"sw".as_slice() {
-        Some(Ins::Sw {
-            rt: a,
-            imm,
-            rs: base,
-        })
+        Some(Ins::Sw { rt, imm, rs })
     } else if name == b"swr".as_slice() {
-        Some(Ins::Swr {
-            rt: a,
-            imm,
-            rs: base,
-        })
+        Some(Ins::Swr { rt, imm, rs })
     } else if name == b"xlwn".as_slice() {
-        Some(Ins::Xlwn {
-            rt: a,
-            imm,
-            rs: base,
-        })
+        Some(Ins::Xlwn { rt, imm, rs })
     } else if name == b"xswn".as_slice() {
-        Some(Ins::Xswn {
-            rt: a,
-            imm,
-            rs: base,
-        })
+        Some(Ins::Xswn { rt, imm, rs })
     } else {
         None
     }
@@ -465,13 +349,13 @@ fn access(name: &[u8], a: u8, imm: u16, base: u8) -> Option<Ins>
 
 /// Two registers and a branch target.
 #[tactic(auto, unfolding(crate::specs::Builds::compare_rows))]
-fn compare(name: &[u8], a: u8, b: u8, imm: u16) -> Option<Ins>
-    ensures { result ≡ in_rows name.now (compare_rows a b imm) }
+fn compare(name: &[u8], rs: u8, rt: u8, imm: u16) -> Option<Ins>
+    ensures { result ≡ in_rows name.now (compare_rows rs rt imm) }
 {
     if name == b"beq".as_slice() {
-        Some(Ins::Beq { rs: a, rt: b, imm })
+        Some(Ins::Beq { rs, rt, imm })
     } else if name == b"bne".as_slice() {
-        Some(Ins::Bne { rs: a, rt: b, imm })
+        Some(Ins::Bne { rs, rt, imm })
     } else {
         None
     }
@@ -479,21 +363,21 @@ fn compare(name: &[u8], a: u8, b: u8, imm: u16) -> Option<Ins>
 
 /// A register and a branch target.
 #[tactic(auto, unfolding(crate::specs::Builds::test_rows))]
-fn test(name: &[u8], a: u8, imm: u16) -> Option<Ins>
-    ensures { result ≡ in_rows name.now (test_rows a imm) }
+fn test(name: &[u8], rs: u8, imm: u16) -> Option<Ins>
+    ensures { result ≡ in_rows name.now (test_rows rs imm) }
 {
     if name == b"bltz".as_slice() {
-        Some(Ins::Bltz { rs: a, imm })
+        Some(Ins::Bltz { rs, imm })
     } else if name == b"bgez".as_slice() {
-        Some(Ins::Bgez { rs: a, imm })
+        Some(Ins::Bgez { rs, imm })
     } else if name == b"bltzal".as_slice() {
-        Some(Ins::Bltzal { rs: a, imm })
+        Some(Ins::Bltzal { rs, imm })
     } else if name == b"bgezal".as_slice() {
-        Some(Ins::Bgezal { rs: a, imm })
+        Some(Ins::Bgezal { rs, imm })
     } else if name == b"blez".as_slice() {
-        Some(Ins::Blez { rs: a, imm })
+        Some(Ins::Blez { rs, imm })
     } else if name == b"bgtz".as_slice() {
-        Some(Ins::Bgtz { rs: a, imm })
+        Some(Ins::Bgtz { rs, imm })
     } else {
         None
     }

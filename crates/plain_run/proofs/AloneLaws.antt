@@ -1,5 +1,5 @@
 -- A run is the program alone, and there is just one.
-use Rattle.std.proofs.Common.{◌≡◌, ℕ, zero, suc, ◌+◌, ◌≤◌, ◌<◌, ◌++◌, List, [], ◌∷◌, length, Option, Some, None, Bool, true, false, if◌then◌else◌, refl, sym, ap, subst, ◌∙◌, arith}
+use Rattle.std.proofs.Common.{◌≡◌, ℕ, zero, suc, ◌≤◌, ◌<◌, ◌++◌, List, [], ◌∷◌, length, Option, Some, None, Bool, true, false, if◌then◌else◌, refl, sym, ap, subst, ◌∙◌, arith}
 use Rattle.std.specs.List.{cons_option}
 use Rattle.xom_base.specs.declared.image.PlainImage.{PlainImage}
 use Rattle.xom_base.specs.declared.event.OwnFault.{OwnFault}
@@ -16,8 +16,8 @@ use Rattle.mips_plain.specs.Machine.{State, is_exit, plain, start}
 use Rattle.mips_plain.proofs.Runs.{runs_follow}
 use Rattle.plain_run.specs.declared.ending.PlainEnd.{PlainEnd}
 use Rattle.plain_run.specs.declared.ending.PlainEnd.TheVariants as ending
-use Rattle.plain_run.specs.Laws.{EndsByExit, IsAlone, OneRun, Receives, RunsAlone, Stops, value_in, values_in}
-use Rattle.plain_run.specs.Runs.{Next, Run, after, goes_on, next, run_from, run_of, stops, with_value}
+use Rattle.plain_run.specs.Laws.{EndsByExit, OneRun, Receives, RunsAlone, Stops, value_in, values_in}
+use Rattle.plain_run.specs.Runs.{Run, after, goes_on, next, run_from, run_of, stops, with_value}
 use Rattle.plain_run.proofs.RunLaws.{none_more}
 use Rattle.plain_run.proofs.Steps.{exit_is, is_over, nothing_received, over_answers, over_of_exit, signal_unfit, unfit_receives, value_needed, value_received}
 

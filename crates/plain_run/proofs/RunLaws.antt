@@ -1,8 +1,7 @@
 -- Runs, one step after another.
-use Rattle.std.proofs.Common.{◌≡◌, ℕ, zero, suc, if◌then◌else◌, ◌-◌, ◌<◌, ◌≤◌, ◌++◌, List, [], ◌∷◌, Bool, true, false, refl, sym, ap, ◌∙◌, append-nil, append_assoc, arith}
+use Rattle.std.proofs.Common.{◌≡◌, ℕ, zero, suc, if◌then◌else◌, ◌-◌, ◌<◌, ◌≤◌, ◌++◌, List, ◌∷◌, Bool, refl, sym, ap, ◌∙◌, append-nil, append_assoc, arith}
 use Rattle.std.specs.List.{flat_map}
 use Rattle.xom_base.specs.declared.step.Step.{Step}
-use Rattle.mips_plain.specs.declared.given.PlainStep.{PlainStep}
 use Rattle.mips_plain.specs.declared.given.PlainStep.TheVariants.{Did}
 use Rattle.mips_plain.specs.Machine.{State}
 use Rattle.plain_run.specs.Runs.{Next, Run, behind, goes_on, next, run_from, step_line, stops}

@@ -1,5 +1,5 @@
 -- What the plain machine answers where nothing, or a value, is given.
-use Rattle.std.proofs.Common.{◌≡◌, ℕ, Bool, true, false, if◌then◌else◌, List, Result, Ok, Err, refl, sym, ap, subst, ◌∙◌}
+use Rattle.std.proofs.Common.{◌≡◌, ℕ, Bool, true, false, if◌then◌else◌, List, Result, Ok, Err, refl, sym, ap, ◌∙◌}
 use Rattle.xom_base.specs.declared.event.OwnFault.{OwnFault}
 use Rattle.xom_base.specs.declared.step.Writes.{Writes}
 use Rattle.xom_base.specs.declared.step.Received.TheVariants as received
@@ -12,7 +12,7 @@ use Rattle.mips_effect.specs.declared.wish.Wish.TheVariants as wish
 use Rattle.mips_plain.specs.declared.given.Given.{Given}
 use Rattle.mips_plain.specs.declared.given.Given.TheVariants as given
 use Rattle.mips_plain.specs.declared.given.PlainStep.{PlainStep}
-use Rattle.mips_plain.specs.declared.given.PlainStep.TheVariants.{Did, Fault, Unfit, Over}
+use Rattle.mips_plain.specs.declared.given.PlainStep.TheVariants.{Did, Unfit, Over}
 use Rattle.mips_plain.specs.Instruction.{fetched, made, receives, step_made, tried}
 use Rattle.mips_plain.specs.Machine.{State, answered, did, is_exit, plain, seen}
 

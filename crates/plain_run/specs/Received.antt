@@ -1,5 +1,5 @@
 -- Received files: the values that a program run alone receives, one a line. This project's own format.
-use Rattle.std.specs.Prelude.{◌≡◌, ℕ, List, [], ◌∷◌, Option, Some, None, Result, Ok, Err, option_map}
+use Rattle.std.specs.Prelude.{◌≡◌, ℕ, List, [], ◌∷◌, Option, None, Result, Ok, Err, option_map}
 use Rattle.std.specs.Int.{w32, from_be_bytes}
 use Rattle.xom_base.specs.Hex.{IsHex, hex_of}
 use Rattle.xom_base.specs.Lines.{IsFirstBad, LineStep, Reads, Rows, lines_of, read_from, step_of}

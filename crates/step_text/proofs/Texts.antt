@@ -1,5 +1,5 @@
 -- What is added to a text stands behind what it had.
-use Rattle.std.proofs.Common.{◌≡◌, ℕ, zero, suc, ◌+◌, ◌*◌, drop, ◌∷◌, arith, ap, List, [], ◌++◌, refl, sym, ◌∙◌, append_assoc, append-nil}
+use Rattle.std.proofs.Common.{◌≡◌, ℕ, zero, suc, ◌*◌, drop, ◌∷◌, arith, List, [], ◌++◌, refl, sym, ◌∙◌, append_assoc, append-nil}
 use Rattle.hex.specs.Hex.{encode_with}
 use Rattle.step_text.specs.StepTexts.{Begins}
 

@@ -1,5 +1,5 @@
 -- The text of one recorded step, field by field, and the names of a guest's own faults. This project's own format.
-use Rattle.std.specs.Prelude.{◌≡◌, ℕ, ◌-◌, List, [], ◌∷◌, ◌++◌, drop, codes}
+use Rattle.std.specs.Prelude.{◌≡◌, ℕ, ◌-◌, List, ◌++◌, drop, codes}
 use Rattle.std.specs.Fmt.{decimal}
 use Rattle.std.specs.Int.{w32, to_be_bytes}
 use Rattle.hex.specs.Hex.{encode_lower}

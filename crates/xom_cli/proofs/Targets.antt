@@ -1,13 +1,15 @@
 -- The file that a command answers is the one that its words name.
 use Rattle.std.proofs.Common.{◌≡◌, ◌⊎◌, inl, inr, List, ℕ, Option, Some, None, Result, Ok, Err, refl, sym, ◌∙◌, ap, subst}
+use Rattle.xom_base.specs.declared.key.ImageId.{ImageId}
+use Rattle.xom_base.specs.declared.key.Key256.{Key256}
 use Rattle.xom_cli.specs.declared.answer.Answer.{Answer}
 use Rattle.xom_cli.specs.declared.answer.OutputFile.{OutputFile}
 use Rattle.xom_cli.specs.declared.refusal.Refusal.{Refusal}
 use Rattle.xom_cli.specs.declared.trace.Parts.{Parts}
 use Rattle.xom_cli.specs.Inputs.{◌>>=◌, Held, image_of}
 use Rattle.xom_cli.specs.Outcome.{IsOutcome}
-use Rattle.xom_cli.specs.Programs.{disasm_of, plain_of, prints, values_of}
-use Rattle.xom_cli.specs.Rows.{Row, Disasm, Plain, Trace, target_of}
+use Rattle.xom_cli.specs.Programs.{disasm_of, plain_of, prints, seal_of, values_of}
+use Rattle.xom_cli.specs.Rows.{Row, Disasm, Plain, Seal, Trace, target_of}
 use Rattle.xom_cli.specs.Trace.{parts_of, trace_of, traced}
 
 -- where two steps answer, the first did, and the second of what it gave
@@ -41,7 +43,12 @@ plain-file held image steps received answer is =
     let read = (bind-ok (image_of held image) _ answer is).2 in
     let last = (bind-ok (values_of held received) _ answer read).2 in cc
 
+seal-file : (held : Held) (image : List ℕ) (key : Key256) (id : ImageId) (machine : Key256) (sealed : List ℕ) (answer : Answer) (file : OutputFile) → seal_of held image key id machine sealed ≡ Ok answer → answer.file ≡ Some file → file.name ≡ sealed
+unfolding seal_of
+seal-file held image key id machine sealed answer file is written = let last = (bind-ok (image_of held image) _ answer is).2 in cc
+
 pub target-written : (row : Row) (held : Held) (answer : Answer) (file : OutputFile) → IsOutcome row held (Ok answer) → answer.file ≡ Some file → target_of row ≡ Some file.name
 target-written (Disasm image) held answer file is written = let none = disasm-file held image answer is in absurd (cc)
 target-written (Plain image steps received) held answer file is written = let none = plain-file held image steps received answer is in absurd (cc)
+target-written (Seal image key id machine sealed) held answer file is written = ap Some (sym (seal-file held image key id machine sealed answer file is written))
 target-written (Trace run) held answer file is written = let none = trace-file held run answer is in absurd (cc)

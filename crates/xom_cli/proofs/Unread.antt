@@ -1,6 +1,8 @@
 -- A file that can't be read, where no read failed, isn't held.
 use Rattle.std.proofs.Common.{◌≡◌, ◌⊎◌, inl, inr, ℕ, List, Option, Some, None, Result, Ok, Err, Bool, true, false, cond, length, refl, sym, ◌∙◌, ap, subst}
 use Rattle.std.specs.Prelude.{nat_le}
+use Rattle.xom_base.specs.declared.key.ImageId.{ImageId}
+use Rattle.xom_base.specs.declared.key.Key256.{Key256}
 use Rattle.xom_cli.specs.declared.answer.Answer.{Answer}
 use Rattle.xom_cli.specs.declared.refusal.InputFault.{InputFault}
 use Rattle.xom_cli.specs.declared.refusal.InputFault.TheVariants.{TooLong}
@@ -8,8 +10,8 @@ use Rattle.xom_cli.specs.declared.refusal.Refusal.{Refusal}
 use Rattle.xom_cli.specs.declared.refusal.Refusal.TheVariants.{Unread, Bad}
 use Rattle.xom_cli.specs.Inputs.{◌>>=◌, Held, fetched, fetched_bytes, image_of, in_file, input_of, received_of, run_file_of, script_of}
 use Rattle.xom_cli.specs.Outcome.{IsOutcome}
-use Rattle.xom_cli.specs.Programs.{disasm_of, plain_of, values_of}
-use Rattle.xom_cli.specs.Rows.{Row, Disasm, Plain, Trace}
+use Rattle.xom_cli.specs.Programs.{disasm_of, plain_of, seal_of, values_of}
+use Rattle.xom_cli.specs.Rows.{Row, Disasm, Plain, Seal, Trace}
 use Rattle.xom_cli.specs.Trace.{parts_of, trace_of, traced}
 
 -- where a step and what follows it are refused, one of them is
@@ -73,6 +75,13 @@ plain-unread held image steps received name is = elim (bind-err (image_of held i
   ]
 ]
 
+seal-unread : (held : Held) (image : List ℕ) (key : Key256) (id : ImageId) (machine : Key256) (sealed name : List ℕ) → seal_of held image key id machine sealed ≡ Err (Unread name) → held name ≡ None
+unfolding seal_of
+seal-unread held image key id machine sealed name is = elim (bind-err (image_of held image) _ (Unread name) is) [
+  | inl here ↦ image-unread held image name here
+  | inr read ↦ absurd (let last = read.2 in cc)
+]
+
 parts-unread : (held : Held) (run name : List ℕ) → parts_of held run ≡ Err (Unread name) → held name ≡ None
 unfolding parts_of
 parts-unread held run name is = elim (bind-err (run_file_of held run) _ (Unread name) is) [
@@ -96,4 +105,5 @@ trace-unread held run name is = elim (bind-err (parts_of held run) _ (Unread nam
 pub row-unread : (row : Row) (held : Held) (name : List ℕ) → IsOutcome row held (Err (Unread name)) → held name ≡ None
 row-unread (Disasm image) held name is = disasm-unread held image name is
 row-unread (Plain image steps received) held name is = plain-unread held image steps received name is
+row-unread (Seal image key id machine sealed) held name is = seal-unread held image key id machine sealed name is
 row-unread (Trace run) held name is = trace-unread held run name is

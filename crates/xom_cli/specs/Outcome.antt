@@ -5,14 +5,15 @@ use Rattle.xom_cli.specs.declared.answer.OutputFile.{OutputFile}
 use Rattle.xom_cli.specs.declared.refusal.Refusal.{Refusal}
 use Rattle.xom_cli.specs.Inputs.{Held}
 use Rattle.xom_cli.specs.Refusals.{line_of, refusal_status, words_line}
-use Rattle.xom_cli.specs.Programs.{disasm_of, plain_of}
-use Rattle.xom_cli.specs.Rows.{Row, Disasm, Plain, Trace, row_of}
+use Rattle.xom_cli.specs.Programs.{disasm_of, plain_of, seal_of}
+use Rattle.xom_cli.specs.Rows.{Row, Disasm, Plain, Seal, Trace, row_of}
 use Rattle.xom_cli.specs.Trace.{trace_of}
 
 -- what a row's command comes to: its answer, or why it isn't carried out
 abbrev pub IsOutcome : Row → Held → Result Answer Refusal → Type 0
 IsOutcome (Disasm image) held result = disasm_of held image ≡ result
 IsOutcome (Plain image steps received) held result = plain_of held image steps received ≡ result
+IsOutcome (Seal image key id machine sealed) held result = seal_of held image key id machine sealed ≡ result
 IsOutcome (Trace run) held result = trace_of held run ≡ result
 
 -- what is printed, the file that is written, if there is one, and the status

@@ -1,7 +1,14 @@
--- The commands on programs alone: their listing, and their run on the plain machine.
-use Rattle.std.specs.Prelude.{ℕ, List, [], Option, Some, None, Result, Ok, Err}
+-- The commands on programs alone: their listing, their run on the plain machine, and their sealing.
+use Rattle.std.specs.Prelude.{ℕ, List, [], ◌++◌, Option, Some, None, Result, Ok, Err, codes, length}
+use Rattle.std.specs.Fmt.{decimal}
+use Rattle.xom_base.specs.declared.image.PlainImage.{PlainImage}
+use Rattle.xom_base.specs.declared.key.ImageId.{ImageId}
+use Rattle.xom_base.specs.declared.key.Key256.{Key256}
+use Rattle.image_sealer.specs.declared.owner.Owner.{Owner}
+use Rattle.image_sealer.specs.Sealing.{envelope_of, sealed_lines_of}
 use Rattle.mips_text.specs.Texts.{listing_of}
 use Rattle.plain_run.specs.Runs.{run_text}
+use Rattle.xom_image.specs.SealedFiles.{sealed_file}
 use Rattle.xom_cli.specs.declared.answer.Answer.{Answer}
 use Rattle.xom_cli.specs.declared.refusal.Refusal.{Refusal}
 use Rattle.xom_cli.specs.Inputs.{◌>>=◌, Held, image_of, received_of}
@@ -9,6 +16,10 @@ use Rattle.xom_cli.specs.Inputs.{◌>>=◌, Held, image_of, received_of}
 -- the answer that prints this text and does nothing else
 abbrev pub prints : List ℕ → Answer
 prints text = record { text = text; file = None; status = 0 }
+
+-- the answer that puts this file and prints this text
+abbrev pub writes : List ℕ → List ℕ → List ℕ → Answer
+writes text name bytes = record { text = text; file = Some (record { name = name; bytes = bytes }); status = 0 }
 
 -- `disasm IMAGE`: the listing of the image's words
 unfoldable pub disasm_of : Held → List ℕ → Result Answer Refusal
@@ -27,3 +38,26 @@ plain_of held name steps received = do
   image ← image_of held name
   values ← values_of held received
   Ok (prints (run_text image steps values))
+
+-- ---- Sealing
+
+-- the file of an owner's image, sealed for a machine
+abbrev pub sealed_bytes : Key256 → Owner → List ℕ
+sealed_bytes machine owner = sealed_file (envelope_of machine owner) (sealed_lines_of owner)
+
+-- how many lines were sealed, and how many bytes the file has
+abbrev pub sealed_text : (lines size : ℕ) → List ℕ
+sealed_text lines size = codes "sealed " ++ (decimal lines ++ (codes " lines " ++ (decimal size ++ codes " bytes\n")))
+
+abbrev pub sealing_answer : Key256 → Owner → List ℕ → Answer
+sealing_answer machine owner target =
+    writes (sealed_text (length (sealed_lines_of owner)) (length (sealed_bytes machine owner))) target (sealed_bytes machine owner)
+
+abbrev pub owner_with : PlainImage → Key256 → ImageId → Owner
+owner_with image key id = record { plain = image; key = key; id = id }
+
+-- `seal IMAGE KEY ID MACHINE SEALED`: the image's file, sealed by its owner for a machine
+unfoldable pub seal_of : Held → List ℕ → Key256 → ImageId → Key256 → List ℕ → Result Answer Refusal
+seal_of held name key id machine target = do
+  image ← image_of held name
+  Ok (sealing_answer machine (owner_with image key id) target)

@@ -1,13 +1,19 @@
 -- The words after the program's name, as a row of the table of commands.
 use Rattle.std.specs.Prelude.{◌≡◌, ℕ, ◌+◌, ◌^◌, Bool, List, [], ◌∷◌, Option, Some, None, codes, option_map, if◌then◌else◌}
 use Rattle.std.specs.Str.{bytes_eq}
+use Rattle.xom_base.specs.Hex.{hex_of}
 use Rattle.xom_base.specs.Numbers.{number_below_of}
+use Rattle.xom_base.specs.declared.key.ImageId.{ImageId}
+use Rattle.xom_base.specs.declared.key.Key256.{Key256}
+use Rattle.xom_script.specs.Forms.{◌>>=◌}
 
 pub data Row : Type 0 where
   -- prints the words of a plain image
   Disasm : (image : List ℕ) → Row
   -- runs a plain image alone, for at most so many steps, with a received file where one is named
   Plain : (image : List ℕ) → (steps : ℕ) → (received : Option (List ℕ)) → Row
+  -- seals a plain image under an owner's key and id for a machine, and writes it
+  Seal : (image : List ℕ) → (key : Key256) → (id : ImageId) → (machine : Key256) → (sealed : List ℕ) → Row
   -- makes the run of a run file and judges its journal
   Trace : (run : List ℕ) → Row
 
@@ -19,17 +25,40 @@ most_steps = 2 ^ 20
 abbrev pub plain_row : List ℕ → List ℕ → Option (List ℕ) → Option Row
 plain_row image steps received = option_map (λ n. Plain image n received) (number_below_of (most_steps + 1) steps)
 
--- the row that the words match, or none
-abbrev pub row_of : List (List ℕ) → Option Row
-row_of (command ∷ a ∷ []) =
+-- the row of `seal`, where the words for its keys and its id are their digits
+unfoldable pub seal_row : List ℕ → List ℕ → List ℕ → List ℕ → List ℕ → Option Row
+seal_row image key id machine sealed = do
+  key ← hex_of 32 key
+  id ← hex_of 16 id
+  machine ← hex_of 32 machine
+  Some (Seal image (record { 0 = key }) (record { 0 = id }) (record { 0 = machine }) sealed)
+
+-- the rows of a command with one word, with two, with three and with five
+abbrev pub row_of_one : List ℕ → List ℕ → Option Row
+row_of_one command a =
     if bytes_eq command (codes "disasm") then Some (Disasm a)
     else (if bytes_eq command (codes "trace") then Some (Trace a) else None)
-row_of (command ∷ a ∷ b ∷ []) = if bytes_eq command (codes "plain") then plain_row a b None else None
-row_of (command ∷ a ∷ b ∷ c ∷ []) = if bytes_eq command (codes "plain") then plain_row a b (Some c) else None
+
+abbrev pub row_of_two : List ℕ → List ℕ → List ℕ → Option Row
+row_of_two command a b = if bytes_eq command (codes "plain") then plain_row a b None else None
+
+abbrev pub row_of_three : List ℕ → List ℕ → List ℕ → List ℕ → Option Row
+row_of_three command a b c = if bytes_eq command (codes "plain") then plain_row a b (Some c) else None
+
+abbrev pub row_of_five : List ℕ → List ℕ → List ℕ → List ℕ → List ℕ → List ℕ → Option Row
+row_of_five command a b c d e = if bytes_eq command (codes "seal") then seal_row a b c d e else None
+
+-- the row that the words match, or none
+abbrev pub row_of : List (List ℕ) → Option Row
+row_of (command ∷ a ∷ []) = row_of_one command a
+row_of (command ∷ a ∷ b ∷ []) = row_of_two command a b
+row_of (command ∷ a ∷ b ∷ c ∷ []) = row_of_three command a b c
+row_of (command ∷ a ∷ b ∷ c ∷ d ∷ e ∷ []) = row_of_five command a b c d e
 row_of other = None
 
 -- the file that a row's command writes, if it writes one
 abbrev pub target_of : Row → Option (List ℕ)
 target_of (Disasm image) = None
 target_of (Plain image steps received) = None
+target_of (Seal image key id machine sealed) = Some sealed
 target_of (Trace run) = None

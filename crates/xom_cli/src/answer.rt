@@ -1,5 +1,5 @@
 ghost use Rattle.std.specs.Prelude.{◌≡◌};
-ghost use Rattle.xom_cli.specs.Programs.{prints};
+ghost use Rattle.xom_cli.specs.Programs.{prints, writes};
 
 use xom_base::ByteList;
 use xom_script::Name;
@@ -32,6 +32,17 @@ impl Answer {
         Answer {
             text,
             file: None,
+            status: 0,
+        }
+    }
+
+    /// The answer that writes a file of this name and then prints a text.
+    pub fn of_file(text: ByteList, name: Name, bytes: ByteList) -> Answer
+        ensures { result ≡ writes text name bytes }
+    {
+        Answer {
+            text,
+            file: Some(OutputFile { name, bytes }),
             status: 0,
         }
     }

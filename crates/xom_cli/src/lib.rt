@@ -2,7 +2,7 @@
 //!
 //! The way of a call: words to a row of the table of commands (`row`); the row's files, each read
 //! and looked at in turn (`reading`); the work of the command (`disasm`,
-//! `plain`, `trace`); its file and its text to
+//! `plain`, `seal`, `trace`); its file and its text to
 //! the outside (`delivery`); the status (`ending`).
 #![tactic(auto)]
 
@@ -14,6 +14,7 @@ mod plain;
 mod reading;
 mod refusal;
 mod row;
+mod seal;
 mod top;
 mod trace;
 

@@ -51,11 +51,7 @@ pub fn image<F: Files>(alloc: Global, files: &mut F, name: &String) -> Result<Pl
 
 /// The values of the received file of this name.
 #[tactic(auto, unfolding(crate::specs::Inputs::received_of))]
-pub fn received<F: Files>(
-    alloc: Global,
-    files: &mut F,
-    name: &String,
-) -> Result<ReceivedList, Stop>
+pub fn received<F: Files>(alloc: Global, files: &mut F, name: &String) -> Result<ReceivedList, Stop>
     ensures gives { Gives (F.held files.old) (λ held. received_of held (string_bytes name.now))
         (F.reads files.old) (F.reads files.new) result }
     ensures names { F.held files.new ≡ F.held files.old }

@@ -12,6 +12,7 @@ use crate::ending::Ending;
 use crate::plain::plain;
 use crate::refusal::Stop;
 use crate::row::{Row, row_named};
+use crate::seal::seal;
 use crate::trace::trace;
 use std::alloc::Global;
 use xom_io::{Files, Sink};
@@ -22,6 +23,8 @@ use xom_io::{Files, Sink};
 /// - `disasm IMAGE` prints each word of a plain image as its address, itself and its instruction.
 /// - `plain IMAGE STEPS` and `plain IMAGE STEPS RECEIVED` run an image's program alone, for at most
 ///   STEPS steps, and print each; the values that it receives come from a received file.
+/// - `seal IMAGE KEY ID MACHINE SEALED` seals a plain image under its owner's key and id for a
+///   machine, and writes it as the file SEALED.
 /// - `trace RUN` makes the run of a run file and prints the judgement of its journal.
 ///
 /// 0: carried out; for a run, the kernel halted. 1: the words match no command. 2: a file can't be
@@ -74,6 +77,13 @@ fn answer<F: Files>(alloc: Global, row: Row<'_>, files: &mut F) -> Result<Answer
             steps,
             received,
         } => plain(alloc, files, image, steps, received),
+        Row::Seal {
+            image,
+            key,
+            id,
+            machine,
+            sealed,
+        } => seal(alloc, files, image, key, id, &machine, sealed),
         Row::Trace { run } => trace(alloc, files, run),
     }
 }

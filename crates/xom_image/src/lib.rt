@@ -1,13 +1,20 @@
-//! Image files: programs as bytes on a disk.
+//! Image files: programs as bytes on a disk, plain or sealed.
 //!
-//! A plain image file reads as one image or is bad at one place, and never both. What is written
-//! of an image reads as that image again.
+//! A plain or a sealed image file reads as one image or is bad at one place, and never both. What is
+//! written of an image reads as that image again. No tag is looked at here.
 #![tactic(auto)]
 
 mod fault;
+mod fields;
+mod line_list;
 mod plain;
+mod sealed;
+mod sealed_image;
 #[cfg(test)]
 mod tests;
 
 pub use fault::ImageFault;
+pub use line_list::SealedLineList;
 pub use plain::{read_plain, write_plain};
+pub use sealed::{read_sealed, write_sealed};
+pub use sealed_image::SealedImage;

@@ -1,19 +1,23 @@
-ghost use Rattle.std.specs.Prelude.{◌≡◌, ◌+◌, ◌%◌, ◌^◌, ◌<◌, ◌≤◌, ◌⊎◌, ◌↔◌, ℕ, Ok, Err, IfOk, MatchResult, SomeIff, length};
+ghost use Rattle.std.specs.Prelude.{◌≡◌, ◌⊎◌, ◌↔◌, ℕ, Ok, Err, IfOk};
 ghost use Rattle.xom_base.specs.declared.image.PlainImage.{PlainImage};
-ghost use Rattle.xom_image.specs.PlainFiles.{agreed as agreed_of, Answers, IsFirstBad, IsPlainFile, number_at as number_of, plain_file, plain_image_at};
+ghost use Rattle.xom_image.specs.PlainFiles.{Answers, IsFirstBad, IsPlainFile, plain_file, plain_image_at};
 
 use crate::ImageFault;
+use crate::fields::{Format, fields};
 use std::alloc::Global;
 use xom_base::{ByteList, NoMemory, PlainImage};
-
-/// The name of the format and its version.
-const HEAD: [u8; 8] = *b"XOMP\0\0\0\x01";
 
 /// How many bytes stand before those of the image.
 const START: usize = 16;
 
-/// The size of private memory in bytes, which no entry reaches and no length exceeds.
-const PRIVATE: u32 = 1 << 20;
+/// A part is a byte, and there are at most as many as private memory has.
+const PLAIN: Format = Format {
+    head: *b"XOMP\0\0\0\x01",
+    entry: 8,
+    start: 16,
+    part: 1,
+    most: 1 << 20,
+};
 
 /// The image of a plain image file. The bytes are copied once.
 pub fn read_plain(alloc: Global, bytes: &ByteList) -> Result<PlainImage, ImageFault>
@@ -26,64 +30,17 @@ pub fn read_plain(alloc: Global, bytes: &ByteList) -> Result<PlainImage, ImageFa
 }
 
 /// The image of the bytes of a plain image file.
+#[tactic(auto, unfolding(crate::specs::PlainFiles::plain_image_at))]
 fn image_of(alloc: Global, file: &[u8]) -> Result<PlainImage, ImageFault>
     ensures found { IfOk result (IsPlainFile file.now) }
     ensures value { Answers (plain_image_at file.now) result }
 {
-    let (entry, bytes) = parts(file).map_err(ImageFault::Bad)?;
-    let bytes = Vec::from_slice(alloc, bytes)?;
+    let (entry, _length) = fields(&PLAIN, file).map_err(ImageFault::Bad)?;
+    let bytes = Vec::from_slice(alloc, &file[START..])?;
     Ok(PlainImage {
         entry,
         bytes: ByteList::from_vec(bytes),
     })
-}
-
-/// The entry and the bytes of a plain image file, or its first bad place.
-#[tactic(auto, unfolding(crate::specs::PlainFiles::plain_image_at))]
-fn parts(file: &[u8]) -> Result<(u32, &[u8]), u64>
-    ensures value { MatchResult result (λ p. plain_image_at file.now ≡ Ok (p.0, p.1.now)) (λ n. plain_image_at file.now ≡ Err n) }
-    ensures valid { IfOk result (λ p. (p.0 % 4 ≡ 0) × (p.0 < 2 ^ 20) × (length p.1.now ≤ 2 ^ 20)) }
-{
-    let agreed = agreed(&HEAD, file);
-    if agreed < HEAD.len() {
-        return Err(agreed as u64);
-    }
-    let size = file.len() as u64;
-    let entry = number_at(file, 8).ok_or(size)?;
-    if entry % 4 != 0 || entry >= PRIVATE {
-        return Err(8);
-    }
-    let length = number_at(file, 12).ok_or(size)?;
-    if length > PRIVATE {
-        return Err(12);
-    }
-    let end = START as u64 + u64::from(length);
-    if size != end {
-        return Err(size.min(end));
-    }
-    Ok((entry, &file[START..]))
-}
-
-/// How many bytes two texts have in common from the front on.
-#[tactic(auto, using(crate::proofs::Reading::agreed_within), unfolding(crate::specs::PlainFiles::agreed))]
-fn agreed(a: &[u8], b: &[u8]) -> usize
-    ensures value { result ≡ agreed_of a.now b.now }
-    ensures within { result ≤ length b.now }
-{
-    a.iter()
-        .zip(b.iter())
-        .take_while(|(x, y)| **x == **y)
-        .count()
-}
-
-/// The number in the four bytes from this place on, if they are all there.
-#[tactic(auto, unfolding(crate::specs::PlainFiles::number_at))]
-fn number_at(file: &[u8], place: usize) -> Option<u32>
-    requires { place ≤ length file.now }
-    ensures { SomeIff result (place + 4 ≤ length file.now) (number_of file.now place) }
-{
-    let field = file[place..].first_chunk()?;
-    Some(u32::from_be_bytes(*field))
 }
 
 /// The file of a plain image. The bytes are copied once.
@@ -93,7 +50,7 @@ pub fn write_plain(alloc: Global, image: &PlainImage) -> Result<ByteList, NoMemo
 {
     let bytes = image.bytes.as_slice();
     let mut file = Vec::with_capacity(alloc, START + bytes.len())?;
-    file.extend_from_slice(&HEAD)?;
+    file.extend_from_slice(&PLAIN.head)?;
     file.extend_from_slice(&image.entry.to_be_bytes())?;
     file.extend_from_slice(&(bytes.len() as u32).to_be_bytes())?;
     file.extend_from_slice(bytes)?;

@@ -1,5 +1,5 @@
 -- What the reader promises follows from what it answers.
-use Rattle.xom_image.proofs.Reading.{Answers-only, Answers-bad}
+use Rattle.xom_image.proofs.PlainReading.{Answers-only, Answers-bad}
 use Rattle.xom_image.proofs.plain.read_plain.Goals as goal
 
 pub returns-clause-only : goal.returns-clause-only

@@ -1,0 +1,177 @@
+-- The reading of a sealed image file is the grammar, both ways.
+use Rattle.std.proofs.Common.{◌≡◌, ℕ, ◌+◌, ◌*◌, ◌%◌, ◌^◌, ◌<◌, ◌≤◌, ◌⊎◌, List, ◌++◌, Some, Result, Ok, Err, drop, length, take, refl, sym, ◌∙◌, ap, arith, ◌↔◌, length-append, length-drop, append_assoc}
+use Rattle.std.specs.Prelude.{slice_get}
+use Rattle.std.specs.Int.{w32, from_be_bytes}
+use Rattle.std.specs.List.{flat_map}
+use Rattle.std.proofs.Math.Seq.{drop-drop, take_at, take-append-le, drop-append-le, length-take-le, take-take}
+use Rattle.std.proofs.lemmas.List.{take-append-drop, drop-take}
+use Rattle.xom_seal.specs.declared.line.SealedLine.{SealedLine}
+use Rattle.xom_seal.specs.Envelopes.{entry_in, lines_in}
+use Rattle.xom_image.specs.declared.fault.ImageFault.{ImageFault}
+use Rattle.xom_image.specs.declared.fault.ImageFault.TheVariants as fault
+use Rattle.xom_image.specs.declared.sealed_image.SealedImage.{SealedImage}
+use Rattle.xom_image.proofs.Images.{SealedImage-equal}
+use Rattle.xom_image.proofs.LineBytes.{AreWhole, length-lines_at, lines_at-all, lines_at-lines, lines_at-whole, lines-length}
+use Rattle.xom_image.proofs.Reading.{agreed-all, bad-fields, fields-bad, fields-told, ok_apart, whole-fields, AnswersBy-bad, AnswersBy-only}
+use Rattle.xom_image.specs.Fields.{number_at, agreed, fields_at, IsFormat, IsWhole}
+use Rattle.xom_image.specs.SealedFiles.{sealed_head, line_bytes, sealed_file, sealed_format, lines_at, envelope_at, sealed_of, IsSealedFile, IsFirstBadSealed, sealed_image_at, AnswersSealed}
+
+pub sealed_is_format : IsFormat sealed_format
+sealed_is_format = record { named = refl; behind = omega arith; before = omega arith }
+
+-- ---- From the file to its image
+
+two : {a b a' b' : List ℕ} (c : List ℕ) → a ≡ a' → b ≡ b' → a ++ (b ++ c) ≡ a' ++ (b' ++ c)
+two c first second = cc
+
+pieces : (file : List ℕ) → take 8 file ++ (take 88 (drop 8 file) ++ drop 96 file) ≡ file
+pieces file =
+    ap (λ rest. take 8 file ++ (take 88 (drop 8 file) ++ rest)) (sym (drop-drop 88 8 file))
+    ∙ ap (λ rest. take 8 file ++ rest) (take-append-drop 88 (drop 8 file))
+    ∙ take-append-drop 8 file
+
+-- a file that breaks no rule is that of its own parts
+pub IsWhole-sealed_file : (file : List ℕ) → IsWhole sealed_format file → file ≡ sealed_file (envelope_at file) (lines_at file (number_at file 28))
+unfolding sealed_file
+IsWhole-sealed_file file whole =
+    let size : length file ≡ 96 + 64 * number_at file 28 = whole.size in
+    sym (pieces file)
+    ∙ ap (λ head. head ++ (envelope_at file ++ drop 96 file)) (agreed-all sealed_head file whole.head)
+    ∙ ap (λ rest. sealed_head ++ (envelope_at file ++ rest)) (sym (lines_at-all file (number_at file 28) size))
+
+-- the numbers of its envelope are those of the file
+field-in : (file : List ℕ) (place after : ℕ) → place + after ≡ 88 → 4 ≤ after → take 4 (drop place (envelope_at file)) ≡ take 4 (drop (8 + place) file)
+field-in file place after all within =
+    ap (λ n. take 4 (drop place (take n (drop 8 file)))) (sym all)
+    ∙ ap (take 4) (drop-take place after (drop 8 file))
+    ∙ take-take 4 after (drop place (drop 8 file)) within
+    ∙ ap (take 4) (drop-drop place 8 file)
+
+entry_in-file : (file : List ℕ) → entry_in (envelope_at file) ≡ number_at file 24
+unfolding number_at
+entry_in-file file = ap (from_be_bytes w32) (field-in file 16 72 refl (omega arith))
+
+lines_in-file : (file : List ℕ) → lines_in (envelope_at file) ≡ number_at file 28
+unfolding number_at
+lines_in-file file = ap (from_be_bytes w32) (field-in file 20 68 refl (omega arith))
+
+-- What is read of a file keeps the rules of an image.
+module _ (file : List ℕ) (entry count : ℕ) (is : fields_at sealed_format file ≡ Ok (entry, count)) where
+  breaks_none : IsWhole sealed_format file
+  breaks_none = (fields-told sealed_format file (entry, count) sealed_is_format is).0
+
+  count_told : count ≡ number_at file 28
+  count_told = ap (λ (fields : ℕ × ℕ). fields.1) (fields-told sealed_format file (entry, count) sealed_is_format is).1
+
+  pub told-room : 96 + 64 * count ≤ length file
+  told-room = let size : length file ≡ 96 + 64 * number_at file 28 = breaks_none.size in omega (arith, count_told)
+
+  pub told-sized : length (envelope_at file) ≡ 88
+  told-sized = length-take-le 88 (drop 8 file) (simp length-drop (omega (arith, told-room)))
+
+  pub told-aligned : entry_in (envelope_at file) % 4 ≡ 0
+  told-aligned = rw (entry_in-file file) breaks_none.aligned
+
+  pub told-private : entry_in (envelope_at file) < 2 ^ 20
+  told-private = rw (entry_in-file file) breaks_none.private
+
+  pub told-counted : lines_in (envelope_at file) ≡ length (lines_at file count)
+  told-counted = lines_in-file file ∙ sym (count_told) ∙ sym (length-lines_at file count)
+
+  pub told-fits : length (lines_at file count) ≤ 2 ^ 15
+  told-fits = let most : number_at file 28 ≤ 2 ^ 15 = breaks_none.most in omega (arith, count_told, length-lines_at file count)
+
+  pub told-whole : AreWhole (lines_at file count)
+  told-whole = lines_at-whole file count told-room
+
+  -- it is in the grammar
+  pub told-file : file ≡ sealed_file (envelope_at file) (lines_at file count)
+  told-file = IsWhole-sealed_file file breaks_none ∙ ap (λ n. sealed_file (envelope_at file) (lines_at file n)) (sym count_told)
+
+-- ---- From the image to its file
+
+-- a field of the envelope, looked up in the file
+field-of : (envelope rest : List ℕ) (place : ℕ) → place + 4 ≤ length envelope → take 4 (drop place (envelope ++ rest)) ≡ take 4 (drop place envelope)
+field-of envelope rest place within =
+    ap (take 4) (drop-append-le place envelope rest (omega arith))
+    ∙ take-append-le 4 (drop place envelope) rest (simp length-drop (omega arith))
+
+module _ (envelope : List ℕ) (lines : List SealedLine) (sized : length envelope ≡ 88) where
+  entry_is : number_at (sealed_file envelope lines) 24 ≡ entry_in envelope
+  unfolding sealed_file number_at
+  entry_is = ap (from_be_bytes w32) (field-of envelope (flat_map line_bytes lines) 16 (omega arith))
+
+  count_is : number_at (sealed_file envelope lines) 28 ≡ lines_in envelope
+  unfolding sealed_file number_at
+  count_is = ap (from_be_bytes w32) (field-of envelope (flat_map line_bytes lines) 20 (omega arith))
+
+  envelope_is : envelope_at (sealed_file envelope lines) ≡ envelope
+  unfolding sealed_file
+  envelope_is = take_at envelope (flat_map line_bytes lines) 88 sized
+
+  head_is : agreed sealed_head (sealed_file envelope lines) ≡ 8
+  unfolding sealed_file agreed
+  head_is = refl
+
+  size_is : AreWhole lines → length (sealed_file envelope lines) ≡ 96 + 64 * length lines
+  unfolding sealed_file
+  size_is whole =
+      let joined : length (envelope ++ flat_map line_bytes lines) ≡ length envelope + length (flat_map line_bytes lines) = length-append envelope (flat_map line_bytes lines) in
+      let rest : length (flat_map line_bytes lines) ≡ 64 * length lines = lines-length lines whole in
+      omega arith
+
+  lines_are : AreWhole lines → lines_at (sealed_file envelope lines) (length lines) ≡ lines
+  unfolding sealed_file
+  lines_are whole =
+      let before : length (sealed_head ++ envelope) ≡ 96 = simp length-append (omega arith) in
+      ap (λ file. lines_at file (length lines)) (sym (append_assoc sealed_head envelope (flat_map line_bytes lines)))
+      ∙ lines_at-lines (sealed_head ++ envelope) lines before whole
+
+-- the file of an image breaks no rule
+sealed_file-whole : (image : SealedImage) → IsWhole sealed_format (sealed_file image.envelope image.lines)
+sealed_file-whole image =
+    let entry : number_at (sealed_file image.envelope image.lines) 24 ≡ entry_in image.envelope = entry_is image.envelope image.lines image.sized in
+    let count : number_at (sealed_file image.envelope image.lines) 28 ≡ length image.lines = count_is image.envelope image.lines image.sized ∙ image.counted in
+    record {
+      head = head_is image.envelope image.lines image.sized;
+      aligned = rw entry image.aligned;
+      private = rw entry image.private;
+      most = rw count image.fits;
+      size = rw count (size_is image.envelope image.lines image.sized image.whole);
+    }
+
+-- the file of an image is read as its envelope and its lines
+pub IsSealedFile-read : (file : List ℕ) (image : SealedImage) → IsSealedFile file image → sealed_image_at file ≡ Ok (image.envelope, image.lines)
+unfolding sealed_image_at
+IsSealedFile-read file image is =
+    let written = sealed_file image.envelope image.lines in
+    let count : number_at written 28 ≡ length image.lines = count_is image.envelope image.lines image.sized ∙ image.counted in
+    ap (λ bytes. sealed_of bytes (fields_at sealed_format bytes)) is
+    ∙ ap (sealed_of written) (whole-fields sealed_format written sealed_is_format (sealed_file-whole image))
+    ∙ ap (λ n. Ok (envelope_at written, lines_at written n)) count
+    ∙ ap (λ envelope. Ok (envelope, lines_at written (length image.lines))) (envelope_is image.envelope image.lines image.sized)
+    ∙ ap (λ lines. Ok (image.envelope, lines)) (lines_are image.envelope image.lines image.sized image.whole)
+
+-- ---- What a reader promises follows from what it answers
+
+pub AnswersSealed-only : (file : List ℕ) (result : Result SealedImage ImageFault) → AnswersSealed (sealed_image_at file) result → (image : SealedImage) → IsSealedFile file image → (result ≡ Ok image) ⊎ (result ≡ Err fault.NoMemory)
+AnswersSealed-only file result answers image is =
+    AnswersBy-only (λ (image : SealedImage). (image.envelope, image.lines)) (sealed_image_at file)
+    (λ a b same. SealedImage-equal a b (ap (λ (p : List ℕ × List SealedLine). p.0) same) (ap (λ (p : List ℕ × List SealedLine). p.1) same))
+    image (IsSealedFile-read file image is) result answers
+
+sealed_of-bad : (file : List ℕ) (fields : Result (ℕ × ℕ) ℕ) (n : ℕ) → sealed_of file fields ≡ Err n → fields ≡ Err n
+sealed_of-bad file (Ok fields) n is = absurd (ok_apart is)
+sealed_of-bad file (Err m) n is = cc
+
+sealed_image_at-bad : (file : List ℕ) (n : ℕ) → sealed_image_at file ≡ Err n → IsFirstBadSealed file n
+unfolding sealed_image_at
+sealed_image_at-bad file n is = fields-bad sealed_format file n sealed_is_format (sealed_of-bad file (fields_at sealed_format file) n is)
+
+bad-sealed_image_at : (file : List ℕ) (n : ℕ) → IsFirstBadSealed file n → sealed_image_at file ≡ Err n
+unfolding sealed_image_at
+bad-sealed_image_at file n first = ap (sealed_of file) (bad-fields sealed_format file n sealed_is_format first)
+
+pub AnswersSealed-bad : (file : List ℕ) (result : Result SealedImage ImageFault) → AnswersSealed (sealed_image_at file) result → (n : ℕ) → (result ≡ Err (fault.Bad n)) ↔ IsFirstBadSealed file n
+AnswersSealed-bad file result answers n =
+    AnswersBy-bad (λ (image : SealedImage). (image.envelope, image.lines)) (sealed_image_at file) (IsFirstBadSealed file) (sealed_image_at-bad file) (bad-sealed_image_at file) result answers n

@@ -1,0 +1,100 @@
+-- What the files of plain and of sealed images have in common: a name with a version, an entry with a count behind it, and then so many parts of one size. Numbers have four bytes, the highest first. The formats are this project's own.
+use Rattle.std.specs.Prelude.{ℕ, ◌≡◌, ◌≢◌, ◌+◌, ◌*◌, ◌%◌, ◌^◌, ◌<◌, ◌≤◌, ◌⊎◌, ◌==◌, ◌&&◌, Bool, List, Result, Ok, Err, IsOk, drop, length, min, nat_lt, slice_index, take, take_while, zip, if◌then◌else◌}
+use Rattle.std.specs.Int.{w32, from_be_bytes}
+use Rattle.xom_image.specs.declared.fault.ImageFault.{ImageFault}
+use Rattle.xom_image.specs.declared.fault.ImageFault.TheVariants as fault
+use Rattle.xom_image.specs.declared.fields.Format.{Format}
+
+-- ---- What a file says
+
+-- the number in the four bytes from this place on
+unfoldable pub number_at : List ℕ → ℕ → ℕ
+number_at file place = from_be_bytes w32 (take 4 (drop place file))
+
+-- the entry that a file says
+abbrev pub entry_of : Format → List ℕ → ℕ
+entry_of format file = number_at file format.entry
+
+-- how many parts a file says there are, which stands behind the entry
+abbrev pub count_of : Format → List ℕ → ℕ
+count_of format file = number_at file (format.entry + 4)
+
+-- how many bytes it has if there are that many
+abbrev pub size_of : Format → List ℕ → ℕ
+size_of format file = format.start + format.part * count_of format file
+
+-- ---- Where a file is bad
+
+-- a byte of the name or of the version differs here
+abbrev pub DiffersAt : Format → List ℕ → ℕ → Type 0
+DiffersAt format file n = (n < 8) × (n < length file) × (slice_index file n ≢ slice_index format.head n)
+
+-- the entry, which is all there, is no multiple of 4 or not below 1,048,576
+abbrev pub HasBadEntryAt : Format → List ℕ → ℕ → Type 0
+HasBadEntryAt format file n =
+    (n ≡ format.entry) × (format.entry + 4 ≤ length file) × ((entry_of format file % 4 ≢ 0) ⊎ (2 ^ 20 ≤ entry_of format file))
+
+-- the count, which is all there, is above the most that there may be
+abbrev pub HasBadCountAt : Format → List ℕ → ℕ → Type 0
+HasBadCountAt format file n = (n ≡ format.entry + 4) × (format.entry + 8 ≤ length file) × (format.most < count_of format file)
+
+-- the file ends here, which is too early: before its parts begin, or before all the parts that it says
+abbrev pub EndsEarlyAt : Format → List ℕ → ℕ → Type 0
+EndsEarlyAt format file n = (n ≡ length file) × (length file < size_of format file)
+
+-- here is the first of further bytes
+abbrev pub GoesOnAt : Format → List ℕ → ℕ → Type 0
+GoesOnAt format file n = (n ≡ size_of format file) × (n < length file)
+
+-- the file is bad at this place, for one of these causes
+abbrev pub IsBadAt : Format → List ℕ → ℕ → Type 0
+IsBadAt format file n =
+    DiffersAt format file n
+    ⊎ (HasBadEntryAt format file n ⊎ (HasBadCountAt format file n ⊎ (EndsEarlyAt format file n ⊎ GoesOnAt format file n)))
+
+-- this is the least place at which the file is bad
+pub record IsFirstBadOf (format : Format) (file : List ℕ) (n : ℕ) : Type 0 where
+  pub bad : IsBadAt format file n
+  pub least : (m : ℕ) → IsBadAt format file m → n ≤ m
+
+-- ---- The same as one function, to compute with
+
+-- whether an entry is an address of private memory where an instruction may stand
+abbrev pub is_entry : ℕ → Bool
+is_entry entry = (entry % 4 == 0) && nat_lt entry (2 ^ 20)
+
+-- how many bytes of two texts agree, from the front on
+unfoldable pub agreed : List ℕ → List ℕ → ℕ
+agreed xs ys = length (take_while (λ (p : ℕ × ℕ). p.0 == p.1) (zip xs ys))
+
+-- the entry and the count of a file, or its first bad place
+unfoldable pub fields_at : Format → List ℕ → Result (ℕ × ℕ) ℕ
+fields_at format file =
+    if nat_lt (agreed format.head file) 8 then Err (agreed format.head file)
+    else (if nat_lt (length file) (format.entry + 4) then Err (length file)
+    else (if is_entry (entry_of format file) then
+    (if nat_lt (length file) (format.entry + 8) then Err (length file)
+    else (if nat_lt format.most (count_of format file) then Err (format.entry + 4)
+    else (if length file == size_of format file then Ok (entry_of format file, count_of format file)
+    else Err (min (length file) (size_of format file)))))
+    else Err format.entry))
+
+-- a file that breaks no rule
+pub record IsWhole (format : Format) (file : List ℕ) : Type 0 where
+  pub head : agreed format.head file ≡ 8
+  pub aligned : entry_of format file % 4 ≡ 0
+  pub private : entry_of format file < 2 ^ 20
+  pub most : count_of format file ≤ format.most
+  pub size : length file ≡ size_of format file
+
+-- the fields stand behind the name and the version, and the parts behind them
+pub record IsFormat (format : Format) : Type 0 where
+  pub named : length format.head ≡ 8
+  pub behind : 8 ≤ format.entry
+  pub before : format.entry + 8 ≤ format.start
+
+-- what a reader answers: what was read, unless there is an image for which memory ran out
+abbrev pub AnswersBy : {X Image : Type 0} → (Image → X) → Result X ℕ → Result Image ImageFault → Type 0
+AnswersBy parts read (Ok image) = read ≡ Ok (parts image)
+AnswersBy parts read (Err (fault.Bad n)) = read ≡ Err n
+AnswersBy parts read (Err fault.NoMemory) = IsOk read
