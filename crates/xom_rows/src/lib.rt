@@ -9,4 +9,6 @@ mod row;
 #[cfg(test)]
 mod scene;
 #[cfg(test)]
+mod sealing_tests;
+#[cfg(test)]
 mod tests;
