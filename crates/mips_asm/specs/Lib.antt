@@ -1,0 +1,5 @@
+pub mod Layout
+pub mod Passes
+pub mod Encoding
+pub mod Images
+pub mod Sources
