@@ -3,3 +3,4 @@ pub mod Passes
 pub mod Encoding
 pub mod Images
 pub mod Sources
+pub mod LabelMaps

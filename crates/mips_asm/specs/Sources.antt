@@ -77,42 +77,60 @@ pub record IsFirst {X : Type 0} (line : X → ℕ) (Bad : X → Type 0) (xs : Li
 abbrev pub Writes : Labels → List Placed → List Chunk → Type 0
 Writes labels [] chunks = chunks ≡ []
 Writes labels (placed ∷ more) chunks =
-    (bytes : List ℕ) (rest : List Chunk) × Gives labels placed.place placed.part.content bytes
+    (bytes : List ℕ) × (rest : List Chunk) × Gives labels placed.place placed.part.content bytes
     × (chunks ≡ record { place = placed.place; bytes = bytes } ∷ rest) × Writes labels more rest
 
+-- ---- labels and statements at their places
+
+-- what the labels stand for
+abbrev pub labels_of : List Placed → Labels
+labels_of placed = place_of placed
+
+-- the line of the last `.entry`, where what it says is no entry
+abbrev pub bad_entry_of : List Placed → Option ℕ
+bad_entry_of placed = bad_entry (labels_of placed) (last_entry placed)
+
+-- The image: nothing is written twice, each name is that of a label, and each value is in its range. The
+-- bytes are those that the statements write, each at its place, and the entry is that of the last
+-- `.entry`.
+pub record IsPlacedImage (placed : List Placed) (image : PlainImage) : Type 0 where
+  pub no_overlap : overlap_line placed ≡ None
+  pub no_unknown : unknown_line (labels_of placed) placed ≡ None
+  pub entry : entry_by (labels_of placed) (last_entry placed) ≡ Some image.entry
+  pub chunks : List Chunk
+  pub writes : Writes (labels_of placed) placed chunks
+  pub bytes : IsImage chunks image.bytes
+
+-- the fault of the first kind that occurs, of those that are looked for at places
+abbrev pub IsPlacedFault : List Placed → AsmFault → Type 0
+IsPlacedFault placed (Overlap n) = overlap_line placed ≡ Some n
+IsPlacedFault placed (UnknownName n) = (overlap_line placed ≡ None) × (unknown_line (labels_of placed) placed ≡ Some n)
+IsPlacedFault placed (Range n) =
+    (overlap_line placed ≡ None) × (unknown_line (labels_of placed) placed ≡ None)
+    × IsFirst line_of (IsOutOfRange (labels_of placed) (bad_entry_of placed)) placed n
+IsPlacedFault placed NoMemory = Unit {0}
+IsPlacedFault placed _ = ⊥
+
+-- ---- sources
+
 -- The image of a source: its lines are all in the grammar, no label is named twice, nothing is written
--- past the limit or twice, each name is that of a label, and each value is in its range. The bytes are
--- those that the statements write, each at its place, and the entry is that of the last `.entry`.
+-- past the limit, and its labels and statements, each at its place, have this image.
 pub record IsImageOf (text : List ℕ) (image : PlainImage) : Type 0 where
   pub parts : List Part
   pub read : source_of text ≡ Ok parts
   pub no_duplicate : duplicate_line parts ≡ None
   pub not_too_long : too_long_line (layout 0 parts) ≡ None
-  pub no_overlap : overlap_line (layout 0 parts) ≡ None
-  pub no_unknown : unknown_line (place_of (layout 0 parts)) (layout 0 parts) ≡ None
-  pub entry : entry_by (place_of (layout 0 parts)) (last_entry (layout 0 parts)) ≡ Some image.entry
-  pub chunks : List Chunk
-  pub writes : Writes (place_of (layout 0 parts)) (layout 0 parts) chunks
-  pub bytes : IsImage chunks image.bytes
+  pub placed : IsPlacedImage (layout 0 parts) image
 
--- The labels and statements have this fault, and none of a kind before it. Want of memory comes freely.
+-- the labels and statements have this fault, and none of a kind before it
 abbrev pub IsPartsFault : List Part → AsmFault → Type 0
 IsPartsFault parts (Syntax n) = ⊥
 IsPartsFault parts (Duplicate n) = duplicate_line parts ≡ Some n
 IsPartsFault parts (TooLong n) = (duplicate_line parts ≡ None) × (too_long_line (layout 0 parts) ≡ Some n)
-IsPartsFault parts (Overlap n) =
-    (duplicate_line parts ≡ None) × (too_long_line (layout 0 parts) ≡ None) × (overlap_line (layout 0 parts) ≡ Some n)
-IsPartsFault parts (UnknownName n) =
-    (duplicate_line parts ≡ None) × (too_long_line (layout 0 parts) ≡ None) × (overlap_line (layout 0 parts) ≡ None)
-    × (unknown_line (place_of (layout 0 parts)) (layout 0 parts) ≡ Some n)
-IsPartsFault parts (Range n) =
-    (duplicate_line parts ≡ None) × (too_long_line (layout 0 parts) ≡ None) × (overlap_line (layout 0 parts) ≡ None)
-    × (unknown_line (place_of (layout 0 parts)) (layout 0 parts) ≡ None)
-    × IsFirst line_of (IsOutOfRange (place_of (layout 0 parts)) (bad_entry (place_of (layout 0 parts)) (last_entry (layout 0 parts)))) (layout 0 parts) n
-IsPartsFault parts NoMemory = Unit {0}
+IsPartsFault parts fault = (duplicate_line parts ≡ None) × (too_long_line (layout 0 parts) ≡ None) × IsPlacedFault (layout 0 parts) fault
 
 -- The source has this fault: its first line off the grammar, or, where all lines are in it, the first
--- fault of the first kind that occurs.
+-- line with a fault of the first kind that occurs. Want of memory comes freely.
 abbrev pub IsFaultOf : List ℕ → AsmFault → Type 0
 IsFaultOf text (Syntax n) = source_of text ≡ Err n
 IsFaultOf text NoMemory = Unit {0}

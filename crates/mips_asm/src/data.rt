@@ -1,5 +1,6 @@
 ghost use Rattle.std.specs.Prelude.{◌≡◌, ◌<◌, ◌≤◌, ◌+◌, ◌%◌, ◌^◌, ℕ, List, Some, IfOk, MatchOption, option_map, replicate};
 ghost use Rattle.asm_syntax.specs.Forms.{map_some};
+ghost use Rattle.mips_asm.specs.LabelMaps.{place_in};
 ghost use Rattle.mips_asm.specs.Layout.{limit, padding, size_of};
 ghost use Rattle.mips_asm.specs.Encoding.{Gives, IsCode, alone, byte_value, instruction_at, join_some, word_bytes, word_value};
 
@@ -21,7 +22,7 @@ pub fn bytes_of(
     content: &Content,
 ) -> Result<Option<ByteList>, NoMemory>
     requires inside { 0 < size_of place content.now → place + size_of place content.now ≤ limit }
-    ensures { IfOk result (λ found. MatchOption found ((bytes : List ℕ) → ¬ Gives labels.now place content.now bytes) (Gives labels.now place content.now)) }
+    ensures { IfOk result (λ found. MatchOption found ((bytes : List ℕ) → ¬ Gives (place_in labels.now) place content.now bytes) (Gives (place_in labels.now) place content.now)) }
 {
     match content {
         Content::Label(_) | Content::Org(_) | Content::Entry(_) => Ok(Some(ByteList::new(alloc))),
@@ -47,7 +48,7 @@ pub fn bytes_of(
 
 /// The bytes of the values of `.word`, at a multiple of 4.
 fn word_list(alloc: Global, labels: &Labels, place: u64, values: &[Value]) -> Result<Option<ByteList>, NoMemory>
-    ensures { IfOk result (λ found. MatchOption found ((bytes : List ℕ) → ¬ ((place % 4 ≡ 0) × (join_some (word_value labels.now) values.now ≡ Some bytes))) (λ bytes. (place % 4 ≡ 0) × (join_some (word_value labels.now) values.now ≡ Some bytes))) }
+    ensures { IfOk result (λ found. MatchOption found ((bytes : List ℕ) → ¬ ((place % 4 ≡ 0) × (join_some (word_value (place_in labels.now)) values.now ≡ Some bytes))) (λ bytes. (place % 4 ≡ 0) × (join_some (word_value (place_in labels.now)) values.now ≡ Some bytes))) }
 {
     if place % 4 != 0 {
         return Ok(None);
@@ -56,7 +57,7 @@ fn word_list(alloc: Global, labels: &Labels, place: u64, values: &[Value]) -> Re
 }
 
 fn joined_words(alloc: Global, labels: &Labels, values: &[Value]) -> Result<Option<ByteList>, NoMemory>
-    ensures { IfOk result (λ found. found ≡ join_some (word_value labels.now) values.now) }
+    ensures { IfOk result (λ found. found ≡ join_some (word_value (place_in labels.now)) values.now) }
 {
     let mut bytes = Vec::new(alloc);
     for value in values {
@@ -71,7 +72,7 @@ fn joined_words(alloc: Global, labels: &Labels, values: &[Value]) -> Result<Opti
 /// The four bytes of a value from -2^31 to 2^32 - 1.
 #[tactic(auto, unfolding(crate::specs::Encoding::word_value))]
 fn word_value(labels: &Labels, value: &Value) -> Option<[u8; 4]>
-    ensures { result ≡ word_value labels.now value.now }
+    ensures { result ≡ word_value (place_in labels.now) value.now }
 {
     word_bytes(number_of(labels, value)?)
 }
@@ -153,7 +154,7 @@ fn instruction(
     arguments: &[Argument],
 ) -> Result<Option<Items<Ins>>, NoMemory>
     requires { place < 2 ^ 20 }
-    ensures { IfOk result (λ found. found ≡ option_map alone (instruction_at labels.now place name.now arguments.now)) }
+    ensures { IfOk result (λ found. found ≡ option_map alone (instruction_at (place_in labels.now) place name.now arguments.now)) }
 {
     match instruction_at(alloc, labels, place as u32, name, arguments)? {
         None => Ok(None),

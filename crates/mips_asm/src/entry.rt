@@ -1,4 +1,5 @@
 ghost use Rattle.std.specs.Prelude.{◌≡◌, ◌<◌, ◌%◌, ◌^◌, Some, None, IfOk, IfSome, MatchResult, option_map};
+ghost use Rattle.mips_asm.specs.LabelMaps.{place_in};
 ghost use Rattle.mips_asm.specs.Sources.{bad_entry, entry_by, entry_content, entry_in, last_entry as last_entry_of};
 
 use crate::fields::{number_of, unsigned_below};
@@ -25,10 +26,10 @@ fn is_entry(content: &Content) -> bool
 /// The entry by the last `.entry`, 0 where there is none. The error is its line, where what it says is
 /// no multiple of 4 below 2^20.
 pub fn entry(labels: &Labels, last: Option<&Placed>) -> Result<u32, u64>
-    ensures value { IfOk result (λ entry. entry_by labels.now (option_map (λ placed. placed.now) last) ≡ Some entry) }
+    ensures value { IfOk result (λ entry. entry_by (place_in labels.now) (option_map (λ placed. placed.now) last) ≡ Some entry) }
     ensures aligned { IfOk result (λ entry. entry % 4 ≡ 0) }
     ensures private { IfOk result (λ entry. entry < 2 ^ 20) }
-    ensures bad { MatchResult result (λ entry. bad_entry labels.now (option_map (λ placed. placed.now) last) ≡ None) (λ line. bad_entry labels.now (option_map (λ placed. placed.now) last) ≡ Some line) }
+    ensures bad { MatchResult result (λ entry. bad_entry (place_in labels.now) (option_map (λ placed. placed.now) last) ≡ None) (λ line. bad_entry (place_in labels.now) (option_map (λ placed. placed.now) last) ≡ Some line) }
 {
     match last {
         None => Ok(0),
@@ -38,7 +39,7 @@ pub fn entry(labels: &Labels, last: Option<&Placed>) -> Result<u32, u64>
 
 /// The entry that a statement says.
 fn entry_in(labels: &Labels, content: &Content) -> Option<u32>
-    ensures value { result ≡ entry_in labels.now content.now }
+    ensures value { result ≡ entry_in (place_in labels.now) content.now }
     ensures aligned { IfSome result (λ entry. entry % 4 ≡ 0) }
     ensures private { IfSome result (λ entry. entry < 2 ^ 20) }
 {

@@ -1,4 +1,5 @@
 ghost use Rattle.std.specs.Prelude.{◌≡◌, ◌≤◌, ◌<◌, ◌%◌, ◌^◌, IfSome};
+ghost use Rattle.mips_asm.specs.LabelMaps.{place_in};
 ghost use Rattle.mips_asm.specs.Encoding.{address_of, branch_field, distance, field_of, jump_field, number_of, offset_field, operand_of, signed_immediate, unsigned_below, wrapped};
 
 use crate::labels::Labels;
@@ -8,7 +9,7 @@ use mips_text::{Integer, Operand, OperandKind};
 
 /// What a value stands for.
 pub fn number_of(labels: &Labels, value: &Value) -> Option<Integer>
-    ensures { result ≡ number_of labels.now value.now }
+    ensures { result ≡ number_of (place_in labels.now) value.now }
 {
     match value {
         Value::Number(number) => Some(*number),
@@ -125,7 +126,7 @@ fn offset_field(base: u8, number: Integer) -> Option<Operand>
 #[tactic(auto, unfolding(crate::specs::Encoding::operand_of))]
 pub fn operand_of(labels: &Labels, pc: u32, kind: OperandKind, argument: &Argument) -> Option<Operand>
     requires { pc < 2 ^ 20 }
-    ensures { result ≡ operand_of labels.now pc kind argument.now }
+    ensures { result ≡ operand_of (place_in labels.now) pc kind argument.now }
 {
     match argument {
         Argument::Register(register) => Some(Operand::Register(*register)),

@@ -1,4 +1,5 @@
 ghost use Rattle.std.specs.Prelude.{◌≡◌, ◌<◌, ◌^◌, ◌∷◌, [], ℕ, List, IfOk, MatchOption};
+ghost use Rattle.mips_asm.specs.LabelMaps.{place_in};
 ghost use Rattle.mips_asm.specs.Encoding.{Appends, AreWords, halves, instruction_at, load_address, load_number, operands_of};
 
 use crate::fields::{operand_of, wrapped};
@@ -34,7 +35,7 @@ pub fn instruction_at(
     arguments: &[Argument],
 ) -> Result<Option<Ins>, NoMemory>
     requires { pc < 2 ^ 20 }
-    ensures { IfOk result (λ ins. ins ≡ instruction_at labels.now pc name.now arguments.now) }
+    ensures { IfOk result (λ ins. ins ≡ instruction_at (place_in labels.now) pc name.now arguments.now) }
 {
     let Some(shape) = kinds(name) else {
         return Ok(None);
@@ -56,7 +57,7 @@ fn add_operands(
     operands: &mut Items<Operand>,
 ) -> Result<bool, NoMemory>
     requires { pc < 2 ^ 20 }
-    ensures { IfOk result (λ all. Appends (operands_of labels.now pc shape.now arguments.now) operands.old all operands.new) }
+    ensures { IfOk result (λ all. Appends (operands_of (place_in labels.now) pc shape.now arguments.now) operands.old all operands.new) }
 {
     let [kind, shape @ ..] = shape else {
         return Ok(arguments.is_empty());
@@ -94,7 +95,7 @@ pub fn load_number(alloc: Global, register: u8, number: Integer) -> Result<Optio
 /// `la`: the two halves of a label's place, or none where it is not below 2^32.
 #[tactic(auto, unfolding(crate::specs::Encoding::load_address))]
 pub fn load_address(alloc: Global, labels: &Labels, register: u8, name: &[u8]) -> Result<Option<Items<Ins>>, NoMemory>
-    ensures { IfOk result (λ found. found ≡ load_address labels.now register name.now) }
+    ensures { IfOk result (λ found. found ≡ load_address (place_in labels.now) register name.now) }
 {
     match labels.place(name) {
         Some(place) if place <= 0xffff_ffff => Ok(Some(halves(alloc, register, place as u32)?)),

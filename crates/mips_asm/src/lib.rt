@@ -5,7 +5,7 @@
 //! its own over the labels and statements.
 #![tactic(auto)]
 
-mod assemble;
+mod assembly;
 mod chunk;
 mod data;
 mod duplicates;
@@ -23,5 +23,5 @@ mod ranges;
 mod tests;
 mod unknown;
 
-pub use assemble::assemble;
+pub use assembly::assemble;
 pub use fault::AsmFault;

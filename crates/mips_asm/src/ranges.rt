@@ -1,4 +1,5 @@
 ghost use Rattle.std.specs.Prelude.{◌≡◌, ◌⊎◌, ℕ, Some, All, IfOk, IfErr};
+ghost use Rattle.mips_asm.specs.LabelMaps.{place_in};
 ghost use Rattle.mips_asm.specs.Images.{FitsImage};
 ghost use Rattle.mips_asm.specs.Layout.{IsInside, IsSized};
 ghost use Rattle.mips_asm.specs.Passes.{line_of};
@@ -21,10 +22,10 @@ pub fn chunks(
 ) -> Result<Vec<Chunk>, AsmFault>
     requires inside { All IsInside placed.now }
     requires sized { All IsSized placed.now }
-    ensures found { IfOk result (λ chunks. Writes labels.now placed.now chunks.items) }
+    ensures found { IfOk result (λ chunks. Writes (place_in labels.now) placed.now chunks.items) }
     ensures fitting { IfOk result (λ chunks. All FitsImage chunks.items) }
     ensures entry { IfOk result (λ chunks. All (λ p. ¬ (bad_entry ≡ Some (line_of p))) placed.now) }
-    ensures fault { IfErr result (λ fault. (fault ≡ AsmFault.NoMemory) ⊎ ((n : ℕ) × (fault ≡ AsmFault.Range n) × IsFirst line_of (IsOutOfRange labels.now bad_entry) placed.now n)) }
+    ensures fault { IfErr result (λ fault. (fault ≡ AsmFault.NoMemory) ⊎ ((n : ℕ) × (fault ≡ AsmFault.Range n) × IsFirst line_of (IsOutOfRange (place_in labels.now) bad_entry) placed.now n)) }
 {
     let mut chunks = Vec::new(alloc);
     for placed in placed {

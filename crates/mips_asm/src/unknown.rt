@@ -1,5 +1,6 @@
 ghost use Rattle.std.specs.Prelude.{◌≡◌};
 ghost use Rattle.std.specs.List.{list_any};
+ghost use Rattle.mips_asm.specs.LabelMaps.{place_in};
 ghost use Rattle.mips_asm.specs.Passes.{AnswersPass, argument_unknown, content_unknown, unknown_line, value_unknown};
 
 use crate::AsmFault;
@@ -9,7 +10,7 @@ use asm_source::{Argument, Content, Value};
 
 /// Looks for the first name that no label has. It costs time linear in the source, beside the look-ups.
 pub fn no_unknown(labels: &Labels, placed: &[Placed]) -> Result<(), AsmFault>
-    ensures { AnswersPass AsmFault.UnknownName (unknown_line labels.now placed.now) result }
+    ensures { AnswersPass AsmFault.UnknownName (unknown_line (place_in labels.now) placed.now) result }
 {
     let unknown = placed
         .iter()
@@ -22,7 +23,7 @@ pub fn no_unknown(labels: &Labels, placed: &[Placed]) -> Result<(), AsmFault>
 
 /// Whether a value of a statement is the name of no label.
 fn content_unknown(labels: &Labels, content: &Content) -> bool
-    ensures { result ≡ content_unknown labels.now content.now }
+    ensures { result ≡ content_unknown (place_in labels.now) content.now }
 {
     match content {
         Content::Words(values) => any_value_unknown(labels, values.as_slice()),
@@ -34,13 +35,13 @@ fn content_unknown(labels: &Labels, content: &Content) -> bool
 }
 
 fn any_value_unknown(labels: &Labels, values: &[Value]) -> bool
-    ensures { result ≡ list_any (value_unknown labels.now) values.now }
+    ensures { result ≡ list_any (value_unknown (place_in labels.now)) values.now }
 {
     values.iter().any(|value| value_unknown(labels, value))
 }
 
 fn any_argument_unknown(labels: &Labels, arguments: &[Argument]) -> bool
-    ensures { result ≡ list_any (argument_unknown labels.now) arguments.now }
+    ensures { result ≡ list_any (argument_unknown (place_in labels.now)) arguments.now }
 {
     arguments
         .iter()
@@ -48,7 +49,7 @@ fn any_argument_unknown(labels: &Labels, arguments: &[Argument]) -> bool
 }
 
 fn argument_unknown(labels: &Labels, argument: &Argument) -> bool
-    ensures { result ≡ argument_unknown labels.now argument.now }
+    ensures { result ≡ argument_unknown (place_in labels.now) argument.now }
 {
     match argument {
         Argument::Value(value) | Argument::Offset(value, _) => value_unknown(labels, value),
@@ -57,7 +58,7 @@ fn argument_unknown(labels: &Labels, argument: &Argument) -> bool
 }
 
 fn value_unknown(labels: &Labels, value: &Value) -> bool
-    ensures { result ≡ value_unknown labels.now value.now }
+    ensures { result ≡ value_unknown (place_in labels.now) value.now }
 {
     match value {
         Value::Number(_) => false,

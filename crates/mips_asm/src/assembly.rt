@@ -1,6 +1,6 @@
 ghost use Rattle.std.specs.Prelude.{◌≡◌, All, MatchResult};
 ghost use Rattle.mips_asm.specs.Layout.{IsInside, IsSized};
-ghost use Rattle.mips_asm.specs.Sources.{IsFaultOf, IsImageOf};
+ghost use Rattle.mips_asm.specs.Sources.{IsFaultOf, IsImageOf, IsPlacedFault, IsPlacedImage};
 
 use crate::AsmFault;
 use crate::duplicates::no_duplicate;
