@@ -1,5 +1,5 @@
 -- Names and quoted texts in source lines. This project's own.
-use Rattle.std.specs.Prelude.{◌≡◌, ◌≢◌, ℕ, Bool, true, false, ◌==◌, ◌||◌, if◌then◌else◌, ◌⊎◌, List, [], ◌∷◌, ◌++◌, Option, Some, None, option_and_then, IsTrue}
+use Rattle.std.specs.Prelude.{◌≡◌, ◌≢◌, ℕ, Bool, true, false, ◌==◌, ◌||◌, if◌then◌else◌, ◌⊎◌, List, [], ◌∷◌, ◌++◌, Option, Some, None, option_map, option_and_then, IsTrue}
 use Rattle.std.specs.Char.{is_ascii_alphabetic, is_ascii_alphanumeric}
 use Rattle.std.specs.List.{list_all}
 
@@ -59,6 +59,21 @@ read_quoted escaped [] = None
 read_quoted true (letter ∷ more) = option_and_then (λ byte. in_front byte (read_quoted false more)) (escape_of letter)
 read_quoted false (byte ∷ more) =
     if byte == 34 then Some ([], more) else if byte == 92 then read_quoted true more else in_front byte (read_quoted false more)
+
+-- what the letter behind a `\` and what follows it give: the byte, and what is left; none where the escape is unknown
+abbrev pub escaped_first : List ℕ → Option (ℕ × List ℕ)
+escaped_first [] = None
+escaped_first (letter ∷ more) = option_map (λ byte. (byte, more)) (escape_of letter)
+
+-- the first byte that is written, and what is left; none at a closing quote, too
+unfoldable pub written_first : List ℕ → Option (ℕ × List ℕ)
+written_first [] = None
+written_first (byte ∷ more) = if byte == 34 then None else if byte == 92 then escaped_first more else Some (byte, more)
+
+-- what stands behind a quote at the front, or none
+abbrev pub after_quote : List ℕ → Option (List ℕ)
+after_quote [] = None
+after_quote (byte ∷ behind) = if byte == 34 then Some behind else None
 
 -- the bytes, where nothing stands behind the closing quote
 abbrev pub if_whole : List ℕ × List ℕ → Option (List ℕ)

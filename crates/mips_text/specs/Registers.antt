@@ -25,4 +25,4 @@ IsRegister text r = (slice_get register_numbers r ≡ Some text) ⊎ (slice_get 
 
 -- the same as a function: the register of a text, or none
 unfoldable pub register_of : List ℕ → Option ℕ
-register_of text = option_map (λ place. place % 32) (position (bytes_eq text) (register_numbers ++ register_names))
+register_of text = option_map (λ place. place % 32) (position (λ known. bytes_eq known text) (register_numbers ++ register_names))

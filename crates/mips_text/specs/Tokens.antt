@@ -64,16 +64,16 @@ StandBetween line from [] to = BlankBetween line from to
 StandBetween line from (token ∷ tokens) to =
     BlankBetween line from token.start × IsTokenOf line token × StandBetween line token.end tokens to
 
--- the line is over, or a comment begins
-abbrev pub IsOver : List ℕ → Type 0
-IsOver [] = Unit {0}
-IsOver (byte ∷ behind) = IsTrue (begins_comment byte)
+-- nothing stands there any more, or a comment begins
+abbrev pub is_over : List ℕ → Bool
+is_over [] = true
+is_over (byte ∷ behind) = begins_comment byte
 
 -- the line has these tokens: they stand there up to its end or to its comment
 pub record AreTokens (line : List ℕ) (tokens : List Token) : Type 0 where
   pub place : ℕ
   pub stand : StandBetween line 0 tokens place
-  pub over : IsOver (drop place line)
+  pub over : IsTrue (is_over (drop place line))
 
 -- The first byte that begins no token stands at this place: before it are tokens and blanks, it is
 -- no blank and begins no comment, and no token of the line begins there.
@@ -103,26 +103,29 @@ kind_of byte =
 
 -- the first byte, and how many letters, digits, `_` and `.` follow it
 abbrev pub run_of : List ℕ → ℕ
-run_of rest = 1 + prefix_len is_name_byte rest
+run_of bytes = 1 + prefix_len is_name_byte (drop 1 bytes)
 
 -- so many bytes, where the test passes
 abbrev pub so_many : Bool → ℕ → Option ℕ
 so_many passes count = if passes then Some count else None
 
--- how many bytes a token of this kind takes that begins with this byte, or none where there is no such token
-unfoldable pub size_of : TokenKind → ℕ → List ℕ → Option ℕ
-size_of Name first rest = Some (run_of rest)
-size_of Number first rest = so_many (is_some (integer_of (take (run_of rest) (first ∷ rest)))) (run_of rest)
-size_of Register first rest = so_many (is_some (register_of (take (run_of rest) (first ∷ rest)))) (run_of rest)
-size_of Text first rest = option_map (λ read. 1 + (length rest - length read.1)) (read_quoted false rest)
-size_of Comma first rest = Some 1
-size_of Colon first rest = Some 1
-size_of Left first rest = Some 1
-size_of Right first rest = Some 1
+-- how many bytes a token of this kind takes that begins with the first of these bytes, or none where
+-- there is no such token
+unfoldable pub size_of : TokenKind → List ℕ → Option ℕ
+size_of Name bytes = Some (run_of bytes)
+size_of Number bytes = so_many (is_some (integer_of (take (run_of bytes) bytes))) (run_of bytes)
+size_of Register bytes = so_many (is_some (register_of (take (run_of bytes) bytes))) (run_of bytes)
+size_of Text bytes = option_map (λ read. length bytes - length read.1) (read_quoted false (drop 1 bytes))
+size_of Comma bytes = Some 1
+size_of Colon bytes = Some 1
+size_of Left bytes = Some 1
+size_of Right bytes = Some 1
 
--- the kind and the size of the token that begins with this byte, or none
-unfoldable pub token_of : ℕ → List ℕ → Option (TokenKind × ℕ)
-token_of first rest = option_and_then (λ kind. option_map (λ size. (kind, size)) (size_of kind first rest)) (kind_of first)
+-- the kind and the size of the token that begins with the first of these bytes, or none
+unfoldable pub token_of : List ℕ → Option (TokenKind × ℕ)
+token_of [] = None
+token_of (first ∷ rest) =
+    option_and_then (λ kind. option_map (λ size. (kind, size)) (size_of kind (first ∷ rest))) (kind_of first)
 
 -- tokens in front of those that follow
 abbrev pub with_tokens : List Token → Result (List Token) ℕ → Result (List Token) ℕ
@@ -146,7 +149,7 @@ tokens_from at (suc left) (byte ∷ bytes) = tokens_from (at + 1) left bytes
 tokens_from at zero (byte ∷ bytes) =
     if is_blank byte then tokens_from (at + 1) 0 bytes
     else if begins_comment byte then Ok []
-    else go_on at (token_of byte bytes) (λ left. tokens_from (at + 1) left bytes)
+    else go_on at (token_of (byte ∷ bytes)) (λ left. tokens_from (at + 1) left bytes)
 
 -- the tokens of a line, or the place of the first byte that begins none
 unfoldable pub tokens_of : List ℕ → Result (List Token) ℕ

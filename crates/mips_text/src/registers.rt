@@ -1,4 +1,5 @@
-ghost use Rattle.std.specs.Prelude.{◌≡◌, ◌↔◌, ◌<◌, ℕ, IsNone, IfSome, Some};
+ghost use Rattle.std.specs.Prelude.{◌≡◌, ◌↔◌, ◌<◌, ℕ, IsNone, IfSome, Some, map, position};
+ghost use Rattle.std.specs.Str.{bytes_eq};
 ghost use Rattle.mips_text.specs.Registers.{IsRegister, register_of};
 
 /// The texts of the registers: their numbers, then their names.
@@ -19,12 +20,25 @@ pub fn register(text: &[u8]) -> Option<u8>
     ensures small { IfSome result (λ r. r < 32) }
     ensures value { result ≡ register_of text.now }
 {
-    place_of(text)
+    register_in(text)
 }
 
-fn place_of(text: &[u8]) -> Option<u8>
+fn register_in(text: &[u8]) -> Option<u8>
     ensures { result ≡ register_of text.now }
 {
-    let place = TEXTS.iter().position(|known| *known == text)?;
+    let place = place_of(&TEXTS, text)?;
     Some((place % 32) as u8)
+}
+
+/// The first place of a text in a table.
+fn place_of(table: &[&[u8]], text: &[u8]) -> Option<usize>
+    ensures { result ≡ position (λ known. bytes_eq known text.now) (map (λ known. known.now) table.now) }
+{
+    first_place(table, text)
+}
+
+fn first_place(table: &[&[u8]], text: &[u8]) -> Option<usize>
+    ensures { result ≡ position (λ known. bytes_eq known.now text.now) table.now }
+{
+    table.iter().position(|known| *known == text)
 }

@@ -1,0 +1,12 @@
+-- The function is the grammar.
+use Rattle.std.proofs.Common.{◌≡◌}
+use Rattle.xom_base.proofs.NumberLaws.{none_by_exact}
+use Rattle.mips_text.proofs.QuotedLaws.{quoted_of-exact}
+use Rattle.mips_text.specs.Lexemes.{Quotes}
+use Rattle.mips_text.proofs.quoted.unquoted.Goals as goal
+
+pub returns-clause-exact : goal.returns-clause-exact
+returns-clause-exact c = rw c.in_ok-found.ensures (quoted_of-exact c.args.text.now)
+
+pub returns-clause-none : goal.returns-clause-none
+returns-clause-none c = none_by_exact (Quotes c.args.text.now) c.in_ok-found.found (returns-clause-exact c)
