@@ -1,0 +1,59 @@
+//! The pieces of printed text, each added at the end of one growing buffer. Where memory runs out,
+//! a part of a piece may stand there already.
+
+ghost use Rattle.std.specs.Prelude.{◌≡◌, ◌++◌, OnOk, decimal};
+ghost use Rattle.std.specs.Fmt.{signed_decimal};
+ghost use Rattle.mips_effect.specs.Numbers.{signed_16};
+ghost use Rattle.mips_text.specs.Texts.{register_text, address_text, hex8};
+
+use itoa::Buffer;
+use xom_base::NoMemory;
+
+/// Adds these bytes.
+pub fn push_bytes(text: &mut Vec<u8>, bytes: &[u8]) -> Result<(), NoMemory>
+    ensures { OnOk result (text.new.items ≡ text.old.items ++ bytes.now) }
+{
+    text.extend_from_slice(bytes)?;
+    Ok(())
+}
+
+/// Adds a number in decimal.
+pub fn push_decimal(text: &mut Vec<u8>, n: u32) -> Result<(), NoMemory>
+    ensures { OnOk result (text.new.items ≡ text.old.items ++ decimal n) }
+{
+    let mut digits = Buffer::new();
+    push_bytes(text, digits.format(n).as_bytes())
+}
+
+/// Adds a number of 16 bits in decimal, with its sign.
+pub fn push_signed(text: &mut Vec<u8>, imm: u16) -> Result<(), NoMemory>
+    ensures { OnOk result (text.new.items ≡ text.old.items ++ signed_decimal (signed_16 imm)) }
+{
+    let mut digits = Buffer::new();
+    push_bytes(text, digits.format(imm.cast_signed()).as_bytes())
+}
+
+/// Adds a register by its number.
+pub fn push_register(text: &mut Vec<u8>, reg: u8) -> Result<(), NoMemory>
+    ensures { OnOk result (text.new.items ≡ text.old.items ++ register_text reg) }
+{
+    push_bytes(text, b"$")?;
+    push_decimal(text, u32::from(reg))
+}
+
+/// Adds 8 hexadecimal digits.
+pub fn push_hex(text: &mut Vec<u8>, n: u32) -> Result<(), NoMemory>
+    ensures { OnOk result (text.new.items ≡ text.old.items ++ hex8 n) }
+{
+    let mut digits = [0; 8];
+    let _ = hex::encode_to_slice(n.to_be_bytes(), &mut digits);
+    push_bytes(text, &digits)
+}
+
+/// Adds an address: `0x` and 8 hexadecimal digits.
+pub fn push_address(text: &mut Vec<u8>, address: u32) -> Result<(), NoMemory>
+    ensures { OnOk result (text.new.items ≡ text.old.items ++ address_text address) }
+{
+    push_bytes(text, b"0x")?;
+    push_hex(text, address)
+}
