@@ -38,7 +38,7 @@ label_in _ = None
 
 -- it is the label of this name
 abbrev pub is_label : List ℕ → Part → Bool
-is_label name part = option_map_or (λ label. bytes_eq name label) (label_in part.content) false
+is_label name part = option_map_or (λ label. bytes_eq label name) (label_in part.content) false
 
 -- it is a label, and one of the same name stands before it
 abbrev pub repeats : List Part → Part → Bool

@@ -14,7 +14,7 @@ use Rattle.mips_asm.specs.declared.placed.Placed.{Placed}
 use Rattle.mips_asm.specs.Layout.{layout}
 use Rattle.mips_asm.specs.Passes.{Labels, duplicate_line, line_of, overlap_line, place_of, too_long_line, unknown_line}
 use Rattle.mips_asm.specs.Encoding.{Gives, number_of, unsigned_below, where_holds}
-use Rattle.mips_asm.specs.Images.{IsImage}
+use Rattle.mips_asm.specs.Images.{IsWritten}
 
 -- ---- the entry
 
@@ -99,7 +99,7 @@ pub record IsPlacedImage (placed : List Placed) (image : PlainImage) : Type 0 wh
   pub entry : entry_by (labels_of placed) (last_entry placed) ≡ Some image.entry
   pub chunks : List Chunk
   pub writes : Writes (labels_of placed) placed chunks
-  pub bytes : IsImage chunks image.bytes
+  pub bytes : IsWritten chunks image.bytes
 
 -- the fault of the first kind that occurs, of those that are looked for at places
 abbrev pub IsPlacedFault : List Placed → AsmFault → Type 0
