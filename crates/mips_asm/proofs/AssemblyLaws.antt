@@ -31,14 +31,16 @@ pub range_said : (placed : List Placed) (fault : AsmFault) → overlap_line plac
 range_said placed fault apart known (inl none) = subst (IsPlacedFault placed) (sym none) tt
 range_said placed fault apart known (inr some) = subst (IsPlacedFault placed) (sym some.1) (apart, known, some.2)
 
+-- one element, and what is found behind it
+here : {X : Type 0} (P : X → Type 0) (b : Bool) (y x : X) (more : Option X) → P y → (more ≡ Some x → P x) → cond b (Some y) more ≡ Some x → P x
+here P true y x more this later found = subst P (same_Some y x found) this
+here P false y x more this later found = later found
+
 -- what is found in a list is one of it
 found_in : {X : Type 0} (test : X → Bool) (P : X → Type 0) (xs : List X) (x : X) → All P xs → find test xs ≡ Some x → P x
 found_in {X} test P [] x all found = absurd (none-some x found)
-found_in {X} test P (y ∷ xs) x all found = at (test y) found
-  where
-    at : (b : Bool) → cond b (Some y) (find test xs) ≡ Some x → P x
-    at true found = subst P (same_Some y x found) (All-head P y xs all)
-    at false found = found_in test P xs x (All-tail P y xs all) found
+found_in {X} test P (y ∷ xs) x all found =
+    here P (test y) y x (find test xs) (All-head P y xs all) (λ later. found_in test P xs x (All-tail P y xs all) later) found
 
 All-reverse : {X : Type 0} (P : X → Type 0) (xs : List X) → All P xs → All P (reverse xs)
 All-reverse P [] all = All-nil P
@@ -71,14 +73,14 @@ duplicate_said text parts fault read (inr some) = subst (IsFaultOf text) (sym so
 
 pub too_long_said : (text : List ℕ) (parts : List Part) (fault : AsmFault) → source_of text ≡ Ok parts → duplicate_line parts ≡ None → Said (λ n. TooLong n) (too_long_line (layout 0 parts)) fault → IsFaultOf text fault
 too_long_said text parts fault read unique (inl none) = subst (IsFaultOf text) (sym none) tt
-too_long_said text parts fault read unique (inr some) = subst (IsFaultOf text) (sym some.2) (parts, read, unique, some.1)
+too_long_said text parts fault read unique (inr some) = subst (IsFaultOf text) (sym some.2) (parts, read, (unique, some.1))
 
 pub placed_said : (text : List ℕ) (parts : List Part) (fault : AsmFault) → source_of text ≡ Ok parts → duplicate_line parts ≡ None → too_long_line (layout 0 parts) ≡ None
     → IsPlacedFault (layout 0 parts) fault → IsFaultOf text fault
 placed_said text parts (Syntax n) read unique short is = absurd is
 placed_said text parts (Duplicate n) read unique short is = absurd is
 placed_said text parts (TooLong n) read unique short is = absurd is
-placed_said text parts (Overlap n) read unique short is = (parts, read, unique, short, is)
-placed_said text parts (UnknownName n) read unique short is = (parts, read, unique, short, is)
-placed_said text parts (Range n) read unique short is = (parts, read, unique, short, is)
+placed_said text parts (Overlap n) read unique short is = (parts, read, (unique, short, is))
+placed_said text parts (UnknownName n) read unique short is = (parts, read, (unique, short, is))
+placed_said text parts (Range n) read unique short is = (parts, read, (unique, short, is))
 placed_said text parts NoMemory read unique short is = tt

@@ -36,3 +36,7 @@ All-ends (x ∷ xs) bound below =
 
 pub chunk_end-le : (xs : List Chunk) (i : ℕ) (d : Chunk) → i < length xs → chunk_end (get_or xs i d) ≤ chunks_end xs
 chunk_end-le xs i d within = All-get_or (λ (x : Chunk). chunk_end x ≤ chunks_end xs) xs i d within (All-ends xs (chunks_end xs) (omega arith))
+
+pub byte_over_nil : (byte k : ℕ) → byte_over byte [] k ≡ byte
+unfolding byte_over
+byte_over_nil byte k = refl

@@ -20,8 +20,8 @@ pub overlaps_true : (before : List Placed) (p : Placed) (k : ℕ) → p.place �
 overlaps_true [] p k from below here = here
 overlaps_true (e ∷ before) p k from below here =
     elim (cases_Bool (covers e k)) [
-      | inl yes ↦ rw (meets_at p e k from below yes) refl
-      | inr no ↦ or_right (meets p e) (overlaps before p) (overlaps_true before p k from below (rw no at here))
+      | inl here_too ↦ rw (meets_at p e k from below here_too) refl
+      | inr elsewhere ↦ or_right (meets p e) (overlaps before p) (overlaps_true before p k from below (rw elsewhere at here))
     ]
   where
     or_right : (a b : Bool) → b ≡ true → (a || b) ≡ true

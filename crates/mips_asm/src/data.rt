@@ -56,6 +56,7 @@ fn word_list(alloc: Global, labels: &Labels, place: u64, values: &[Value]) -> Re
     joined_words(alloc, labels, values)
 }
 
+#[tactic(auto, using(crate::proofs::JoinLaws::join_some_more, crate::proofs::JoinLaws::join_some_stops))]
 fn joined_words(alloc: Global, labels: &Labels, values: &[Value]) -> Result<Option<ByteList>, NoMemory>
     ensures { IfOk result (λ found. found ≡ join_some (word_value (place_in labels.now)) values.now) }
 {
@@ -87,6 +88,7 @@ fn word_bytes(number: Integer) -> Option<[u8; 4]>
 }
 
 /// The bytes of the numbers of `.byte`.
+#[tactic(auto, using(asm_syntax::proofs::FormLaws::map_some_more, asm_syntax::proofs::FormLaws::map_some_stops))]
 fn byte_list(alloc: Global, numbers: &[Integer]) -> Result<Option<ByteList>, NoMemory>
     ensures { IfOk result (λ found. found ≡ map_some byte_value numbers.now) }
 {

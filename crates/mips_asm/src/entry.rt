@@ -26,10 +26,10 @@ fn is_entry(content: &Content) -> bool
 /// The entry by the last `.entry`, 0 where there is none. The error is its line, where what it says is
 /// no multiple of 4 below 2^20.
 pub fn entry(labels: &Labels, last: Option<&Placed>) -> Result<u32, u64>
-    ensures value { IfOk result (λ entry. entry_by (place_in labels.now) (option_map (λ placed. placed.now) last) ≡ Some entry) }
+    ensures value { IfOk result (λ entry. entry_by (place_in labels.now) (option_map (λ placed. placed.now) last.entry) ≡ Some entry) }
     ensures aligned { IfOk result (λ entry. entry % 4 ≡ 0) }
     ensures private { IfOk result (λ entry. entry < 2 ^ 20) }
-    ensures bad { MatchResult result (λ entry. bad_entry (place_in labels.now) (option_map (λ placed. placed.now) last) ≡ None) (λ line. bad_entry (place_in labels.now) (option_map (λ placed. placed.now) last) ≡ Some line) }
+    ensures bad { MatchResult result (λ entry. bad_entry (place_in labels.now) (option_map (λ placed. placed.now) last.entry) ≡ None) (λ line. bad_entry (place_in labels.now) (option_map (λ placed. placed.now) last.entry) ≡ Some line) }
 {
     match last {
         None => Ok(0),

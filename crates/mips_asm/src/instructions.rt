@@ -12,6 +12,7 @@ use std::alloc::Global;
 use xom_base::{ByteList, NoMemory};
 
 /// The bytes of instructions, where each has its operands in their ranges.
+#[tactic(auto, using(crate::proofs::JoinLaws::AreWords_more, crate::proofs::JoinLaws::AreWords_fits))]
 pub fn words(alloc: Global, instructions: &[Ins]) -> Result<Option<ByteList>, NoMemory>
     ensures { IfOk result (λ found. MatchOption found ((bytes : List ℕ) → ¬ AreWords instructions.now bytes) (AreWords instructions.now)) }
 {

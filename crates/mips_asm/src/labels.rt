@@ -1,9 +1,6 @@
 ghost use Rattle.std.specs.Prelude.{◌≡◌, ℕ, List, Some, None, IfOk, OnOk, is_some, if◌then◌else◌};
 ghost use Rattle.std.specs.Str.{bytes_eq};
-ghost use Rattle.mips_asm.specs.Passes.{place_of};
 
-use crate::duplicates::label_of;
-use crate::placed::Placed;
 use std::alloc::Global;
 use std::collections::BTreeMap;
 use xom_base::NoMemory;
@@ -42,17 +39,4 @@ impl<'a> Labels<'a> {
     {
         self.places.get(name).copied()
     }
-}
-
-/// The places of all labels.
-pub fn all_labels(alloc: Global, placed: &[Placed]) -> Result<Labels, NoMemory>
-    ensures { IfOk result (λ labels. (name : List ℕ) → place_in labels name ≡ place_of placed.now name) }
-{
-    let mut labels = Labels::new(alloc);
-    for placed in placed {
-        if let Some(name) = label_of(&placed.part.content) {
-            let _known = labels.insert(name, placed.place)?;
-        }
-    }
-    Ok(labels)
 }

@@ -16,6 +16,7 @@ mod image;
 mod instructions;
 mod labels;
 mod layout;
+mod naming;
 mod overlap;
 mod placed;
 mod ranges;

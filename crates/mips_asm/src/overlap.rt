@@ -15,26 +15,41 @@ pub fn no_overlap(alloc: Global, placed: &[Placed]) -> Result<(), AsmFault>
     ensures { AnswersPass AsmFault.Overlap (overlap_line placed.now) result }
 {
     let mut written = unwritten(alloc, last_end(placed))?;
+    match first_overlap(&mut written, placed) {
+        Some(line) => Err(AsmFault::Overlap(line)),
+        None => Ok(()),
+    }
+}
+
+/// The line of the first statement that writes where an earlier one did. It lets the places that are
+/// written be so.
+fn first_overlap(written: &mut [bool], placed: &[Placed]) -> Option<u64>
+    requires inside { All IsInside placed.now }
+    requires whole { length written.old ≡ last_end_of placed.now }
+    requires clear { (k : ℕ) → slice_index_or written.old k false ≡ false }
+    ensures { result ≡ overlap_line placed.now }
+{
     for placed in placed {
-        let start = placed.place as usize;
         if placed.size > 0 {
+            let start = placed.place as usize;
             let end = start + placed.size as usize;
-            if any_written(&written, start, end) {
-                return Err(AsmFault::Overlap(placed.part.line));
+            if any_written(written, start, end) {
+                return Some(placed.part.line);
             }
-            mark(&mut written, start, end);
+            mark(written, start, end);
         }
     }
-    Ok(())
+    None
 }
 
 /// The place behind the last byte that is written.
+#[tactic(auto, using(crate::proofs::LayoutLaws::last_end_more, crate::proofs::LayoutLaws::last_end_none))]
 pub fn last_end(placed: &[Placed]) -> usize
     requires { All IsInside placed.now }
     ensures value { result ≡ last_end_of placed.now }
     ensures inside { result ≤ limit }
 {
-    let mut end = 0;
+    let mut end: usize = 0;
     for placed in placed {
         if placed.size > 0 {
             end = end.max((placed.place + placed.size) as usize);

@@ -1,5 +1,6 @@
 -- The chunks so far are what the statements so far write.
-use Rattle.std.proofs.Common.{◌≡◌, Some, take, All}
+use Rattle.std.proofs.Common.{◌≡◌, Some, take}
+use Rattle.std.specs.List.{All}
 use Rattle.mips_asm.specs.Images.{FitsImage}
 use Rattle.mips_asm.specs.LabelMaps.{place_in}
 use Rattle.mips_asm.specs.Passes.{line_of}
