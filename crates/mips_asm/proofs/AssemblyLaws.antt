@@ -1,6 +1,7 @@
 -- From the answers of the passes to that of the whole.
 use Rattle.std.proofs.Common.{◌≡◌, ℕ, ◌⊎◌, inl, inr, Bool, true, false, cond, List, [], ◌∷◌, ◌++◌, Option, Some, None, Result, Ok, Err, refl, sym, ap, subst, ◌∙◌, reverse}
-use Rattle.std.specs.Prelude.{find, is_none}
+use Rattle.std.specs.Prelude.{MatchResult, find, is_none}
+use Rattle.std.specs.Result.{IsErrAnd, is_ok, result_err}
 use Rattle.std.specs.List.{All}
 use Rattle.std.proofs.lemmas.List.{reverse-append}
 use Rattle.std.proofs.lemmas.List.Elements.{All-cons, All-head, All-nil, All-push, All-tail}
@@ -84,3 +85,28 @@ placed_said text parts (Overlap n) read unique short is = (parts, read, (unique,
 placed_said text parts (UnknownName n) read unique short is = (parts, read, (unique, short, is))
 placed_said text parts (Range n) read unique short is = (parts, read, (unique, short, is))
 placed_said text parts NoMemory read unique short is = tt
+
+-- what is true of an error is true of the answer that hands it on
+pub err_is : {A : Type 0} (r : Result A AsmFault) (fault : AsmFault) → IsErrAnd r (λ e. e ≡ fault) → (P : A → Type 0) (Q : AsmFault → Type 0) → Q fault → MatchResult r P Q
+err_is (Ok x) fault is P Q q = absurd is
+err_is (Err e) fault is P Q q = subst Q (sym is) q
+
+-- the line that is handed in is that of a bad last entry
+pub bad_is : (r : Result ℕ ℕ) (told bad : Option ℕ) → MatchResult r (λ entry. bad ≡ None) (λ line. bad ≡ Some line) → told ≡ result_err r → told ≡ bad
+bad_is (Ok entry) told bad is given = given ∙ sym is
+bad_is (Err line) told bad is given = given ∙ sym is
+
+pub range_here : (placed : List Placed) (fault : AsmFault) (labels : Labels) (bad : Option ℕ) → labels ≡ labels_of placed → bad ≡ bad_entry_of placed
+    → overlap_line placed ≡ None → unknown_line labels placed ≡ None
+    → (fault ≡ NoMemory) ⊎ ((n : ℕ) × (fault ≡ Range n) × IsFirst line_of (IsOutOfRange labels bad) placed n) → IsPlacedFault placed fault
+range_here placed fault labels bad named last apart known said =
+    let F : Labels → Option ℕ → Type 0 = λ l b. (fault ≡ NoMemory) ⊎ ((n : ℕ) × (fault ≡ Range n) × IsFirst line_of (IsOutOfRange l b) placed n) in
+    range_said placed fault apart (ap (λ (l : Labels). unknown_line l placed) (sym named) ∙ known) (subst (F (labels_of placed)) last (subst (λ (l : Labels). F l bad) named said))
+
+-- where no statement is out of its range, the entry isn't bad
+pub entry_is_ok : (labels : Labels) (placed : List Placed) (r : Result ℕ ℕ) (told : Option ℕ)
+    → MatchResult r (λ entry. bad_entry labels (last_entry placed) ≡ None) (λ line. bad_entry labels (last_entry placed) ≡ Some line)
+    → told ≡ result_err r → All (λ (p : Placed). ¬ (told ≡ Some (line_of p))) placed → is_ok r ≡ true
+entry_is_ok labels placed (Ok entry) told is given all = refl
+entry_is_ok labels placed (Err line) told is given all =
+    absurd (no_bad_entry labels placed line (subst (λ (o : Option ℕ). All (λ (p : Placed). ¬ (o ≡ Some (line_of p))) placed) (given ∙ sym is) all) is)
