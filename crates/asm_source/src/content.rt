@@ -1,0 +1,37 @@
+use crate::{Argument, Items, Value};
+use mips_text::Integer;
+use xom_base::ByteList;
+
+/// A label or a statement.
+#[derive(Drop)]
+pub enum Content {
+    /// `name:`, which names the next place.
+    Label(ByteList),
+    /// `.word`: the values, four bytes each.
+    Words(Items<Value>),
+    /// `.byte`: the numbers, one byte each.
+    Bytes(Items<Integer>),
+    /// `.ascii`: these bytes.
+    Ascii(ByteList),
+    /// `.space`: so many zero bytes.
+    Space(u64),
+    /// `.align`: zeros up to a multiple of this power of 2.
+    Align(u64),
+    /// `.org`: the next place is this.
+    Org(u64),
+    /// `.entry`: the entry of the image is this.
+    Entry(Value),
+    /// `li`: a register gets a number.
+    LoadNumber(u8, Integer),
+    /// `la`: a register gets the place of a label.
+    LoadAddress(u8, ByteList),
+    /// An instruction: its mnemonic, and all its operands in the order of its text.
+    Instruction(ByteList, Items<Argument>),
+}
+
+/// A label or a statement, with the number of its line, counted from 1.
+#[derive(Drop)]
+pub struct Part {
+    pub line: u64,
+    pub content: Content,
+}

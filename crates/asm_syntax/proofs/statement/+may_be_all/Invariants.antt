@@ -1,0 +1,6 @@
+-- The kinds become fewer.
+use Rattle.std.proofs.Common.{length}
+use Rattle.asm_syntax.proofs.statement.+may_be_all.Given as goal
+
+abbrev pub decreases-may_be_all : goal.decreases-may_be_all
+decreases-may_be_all l = length l.shape.now

@@ -1,0 +1,32 @@
+-- How a form of one line is written and answered.
+use Rattle.std.specs.Prelude.{◌≡◌, List, [], ◌∷◌, ◌++◌, Bool, if◌then◌else◌, Option, Some, None, Result, Ok, Err, option_and_then}
+use Rattle.xom_base.specs.declared.lines.LineFault.{LineFault}
+use Rattle.xom_base.specs.declared.lines.LineFault.TheVariants.{Bad, NoMemory}
+
+-- one step and the next, where the first has a value
+infixl 10 ◌>>=◌
+abbrev pub ◌>>=◌ : {A B : Type 0} → Option A → (A → Option B) → Option B
+o >>= f = option_and_then f o
+
+-- what each element gives, where each gives something
+abbrev pub map_some : {X Y : Type 0} → (X → Option Y) → List X → Option (List Y)
+map_some f [] = Some []
+map_some f (x ∷ xs) = do
+  y ← f x
+  ys ← map_some f xs
+  Some (y ∷ ys)
+
+-- the form has no value; want of memory comes freely
+abbrev pub Refuses : {A : Type 0} → Option A → LineFault → Type 0
+Refuses form Bad = form ≡ None
+Refuses form NoMemory = Unit {0}
+
+-- what was answered is the value of the form, or its absence, unless memory ran out
+abbrev pub Answers : {A : Type 0} → Option A → Result A LineFault → Type 0
+Answers form (Ok value) = form ≡ Some value
+Answers form (Err fault) = Refuses form fault
+
+-- What the form has was added at the end of a list. Where it was refused, nothing is said of the list.
+abbrev pub Adds : {A B : Type 0} → Option (List A) → List A → Result B LineFault → List A → Type 0
+Adds {A} form old (Ok done) new = (more : List A) × (form ≡ Some more) × (new ≡ old ++ more)
+Adds form old (Err fault) new = Refuses form fault

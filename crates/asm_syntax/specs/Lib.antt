@@ -1,0 +1,4 @@
+pub mod Forms
+pub mod Lexing
+pub mod Arguments
+pub mod Lines

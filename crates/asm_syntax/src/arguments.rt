@@ -1,0 +1,116 @@
+ghost use Rattle.std.specs.Prelude.{◌≡◌, IfOk, map};
+ghost use Rattle.std.specs.List.{slice_split};
+ghost use Rattle.asm_syntax.specs.Arguments.{argument_of, arguments_of, based_of, is_comma, offset_of, single_of, value_of};
+ghost use Rattle.asm_syntax.specs.Forms.{Answers, map_some};
+
+use crate::copies::copy_bytes;
+use crate::lexeme::Lexeme;
+use asm_source::{Argument, Items, Value};
+use mips_text::Integer;
+use std::alloc::Global;
+use xom_base::{LineFault, NoMemory};
+
+/// The number of an operand that is not there.
+pub const ZERO: Integer = Integer {
+    negative: false,
+    magnitude: 0,
+};
+
+/// All operands of a statement: the parts between commas.
+#[tactic(auto, using(crate::proofs::FormLaws::map_some_map), unfolding(crate::specs::Arguments::arguments_of))]
+pub fn arguments(alloc: Global, lexemes: &[Lexeme]) -> Result<Items<Argument>, LineFault>
+    ensures { Answers (arguments_of lexemes.now) result }
+{
+    if lexemes.is_empty() {
+        return Ok(Items::new(alloc));
+    }
+    let parts = between_commas(alloc, lexemes)?;
+    each_argument(alloc, parts.as_slice())
+}
+
+/// The parts between commas.
+fn between_commas(alloc: Global, lexemes: &[Lexeme]) -> Result<Vec<&[Lexeme]>, NoMemory>
+    ensures { IfOk result (λ parts. map (λ part. part.now) parts.items ≡ slice_split is_comma lexemes.now) }
+{
+    Ok(lexemes
+        .split(|lexeme| matches!(lexeme, Lexeme::Comma))
+        .collect(alloc)?)
+}
+
+/// The operand of each part.
+#[tactic(auto, using(crate::proofs::FormLaws::map_some_more, crate::proofs::FormLaws::map_some_stops))]
+fn each_argument(alloc: Global, parts: &[&[Lexeme]]) -> Result<Items<Argument>, LineFault>
+    ensures { Answers (map_some (λ part. argument_of part.now) parts.now) result }
+{
+    let mut arguments = Items::new(alloc);
+    for part in parts {
+        let argument = argument(alloc, part)?;
+        arguments.push(argument)?;
+    }
+    Ok(arguments)
+}
+
+/// One operand.
+#[tactic(auto, unfolding(crate::specs::Arguments::argument_of))]
+fn argument(alloc: Global, part: &[Lexeme]) -> Result<Argument, LineFault>
+    ensures { Answers (argument_of part.now) result }
+{
+    match part {
+        [one] => single(alloc, one),
+        [left, register, right] => {
+            let base = based(left, register, right).ok_or(LineFault::Bad)?;
+            Ok(Argument::Offset(Value::Number(ZERO), base))
+        }
+        [offset, left, register, right] => offset_from(alloc, offset, based(left, register, right)),
+        _ => Err(LineFault::Bad),
+    }
+}
+
+/// An operand of one lexeme.
+fn single(alloc: Global, lexeme: &Lexeme) -> Result<Argument, LineFault>
+    ensures { Answers (single_of lexeme.now) result }
+{
+    match lexeme {
+        Lexeme::Register(register) => Ok(Argument::Register(*register)),
+        Lexeme::Number(number) => Ok(Argument::Value(Value::Number(*number))),
+        Lexeme::Name(label) => {
+            let label = copy_bytes(alloc, label.as_slice())?;
+            Ok(Argument::Value(Value::Label(label)))
+        }
+        Lexeme::Text(text) => {
+            let bytes = copy_bytes(alloc, text.as_slice())?;
+            Ok(Argument::Text(bytes))
+        }
+        _ => Err(LineFault::Bad),
+    }
+}
+
+/// An offset in front of its register.
+fn offset_from(alloc: Global, offset: &Lexeme, base: Option<u8>) -> Result<Argument, LineFault>
+    ensures { Answers (offset_of offset.now base) result }
+{
+    let offset = value(alloc, offset)?;
+    let base = base.ok_or(LineFault::Bad)?;
+    Ok(Argument::Offset(offset, base))
+}
+
+/// A number, or the name of a label.
+fn value(alloc: Global, lexeme: &Lexeme) -> Result<Value, LineFault>
+    ensures { Answers (value_of lexeme.now) result }
+{
+    match lexeme {
+        Lexeme::Number(number) => Ok(Value::Number(*number)),
+        Lexeme::Name(label) => Ok(Value::Label(copy_bytes(alloc, label.as_slice())?)),
+        _ => Err(LineFault::Bad),
+    }
+}
+
+/// The register of `($r)`.
+fn based(left: &Lexeme, register: &Lexeme, right: &Lexeme) -> Option<u8>
+    ensures { result ≡ based_of left.now register.now right.now }
+{
+    match (left, register, right) {
+        (Lexeme::Left, Lexeme::Register(register), Lexeme::Right) => Some(*register),
+        _ => None,
+    }
+}

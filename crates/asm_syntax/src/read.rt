@@ -1,0 +1,124 @@
+ghost use Rattle.std.specs.Prelude.{◌≡◌, ◌∷◌, ℕ, Ok, MatchOption, MatchResult};
+ghost use Rattle.xom_base.specs.Lines.{Faults};
+ghost use Rattle.asm_syntax.specs.declared.lexeme.Lexeme.TheVariants as lexeme;
+ghost use Rattle.asm_syntax.specs.Forms.{Adds};
+ghost use Rattle.asm_syntax.specs.Lines.{last_of, parts_of, source_of};
+
+use crate::arguments::arguments;
+use crate::copies::copy_bytes;
+use crate::lexeme::{Lexeme, lexemes};
+use crate::statement::statement;
+use asm_source::{Content, Items, Part};
+use std::alloc::Global;
+use std::marker::Model;
+use xom_base::{LineFault, LineReader, TextFault, read_lines};
+
+/// Reads the labels and statements of a source, in their order, or answers the first line that is off
+/// the grammar. It costs time linear in the text.
+#[tactic(auto, unfolding(crate::specs::Lines::source_of))]
+pub fn read_source(alloc: Global, text: &[u8]) -> Result<Items<Part>, TextFault>
+    ensures { MatchResult result (λ parts. source_of text.now ≡ Ok parts) (λ fault. Faults (source_of text.now) fault) }
+{
+    let mut source = Source {
+        parts: Items::new(alloc),
+    };
+    let _lines = read_lines(alloc, text, &mut source)?;
+    Ok(source.into_parts())
+}
+
+/// The labels and statements of the lines that were read.
+#[derive(Drop)]
+struct Source {
+    parts: Items<Part>,
+}
+
+impl Model for Source {
+    ghost use Rattle.std.specs.Prelude.{List};
+    ghost use Rattle.asm_source.specs.declared.content.Part.{Part};
+
+    ghost Value = { List Part };
+
+    ghost view = { λ source. source.parts };
+}
+
+impl Source {
+    fn into_parts(self) -> Items<Part>
+        ensures { result ≡ self }
+    {
+        self.parts
+    }
+}
+
+impl LineReader for Source {
+    ghost use Rattle.asm_syntax.specs.Lines.{source_step};
+
+    type Item = ();
+
+    ghost step = { source_step };
+
+    #[tactic(auto, unfolding(crate::specs::Lines::line_parts))]
+    fn read(&mut self, alloc: Global, number: u64, line: &[u8]) -> Result<Option<()>, LineFault> {
+        let lexemes = lexemes(alloc, line)?;
+        add_line(alloc, number, lexemes.as_slice(), &mut self.parts)?;
+        Ok(None)
+    }
+}
+
+/// Adds the labels and the statement of a line.
+fn add_line(
+    alloc: Global,
+    number: u64,
+    lexemes: &[Lexeme],
+    parts: &mut Items<Part>,
+) -> Result<(), LineFault>
+    ensures { Adds (parts_of number lexemes.now) parts.old result parts.new }
+{
+    let mut rest = lexemes;
+    while let Some((label, more)) = first_label(rest) {
+        let label = copy_bytes(alloc, label)?;
+        parts.push(Part {
+            line: number,
+            content: Content::Label(label),
+        })?;
+        rest = more;
+    }
+    add_last(alloc, number, rest, parts)
+}
+
+/// The label in front of a line, and what stands behind its colon.
+#[tactic(auto, unfolding(crate::specs::Lines::parts_of))]
+fn first_label(lexemes: &[Lexeme]) -> Option<(&[u8], &[Lexeme])>
+    ensures { MatchOption result ((n : ℕ) → parts_of n lexemes.now ≡ last_of n lexemes.now) (λ found. lexemes.now ≡ lexeme.Name found.0.now ∷ lexeme.Colon ∷ found.1.now) }
+{
+    let [first, second, rest @ ..] = lexemes else {
+        return None;
+    };
+    match (first, second) {
+        (Lexeme::Name(label), Lexeme::Colon) => Some((label.as_slice(), rest)),
+        _ => None,
+    }
+}
+
+/// Adds the statement behind the labels, if there is one.
+#[tactic(auto, unfolding(crate::specs::Lines::last_of))]
+fn add_last(
+    alloc: Global,
+    number: u64,
+    lexemes: &[Lexeme],
+    parts: &mut Items<Part>,
+) -> Result<(), LineFault>
+    ensures { Adds (last_of number lexemes.now) parts.old result parts.new }
+{
+    let [first, operands @ ..] = lexemes else {
+        return Ok(());
+    };
+    let Lexeme::Name(name) = first else {
+        return Err(LineFault::Bad);
+    };
+    let arguments = arguments(alloc, operands)?;
+    let content = statement(alloc, name.as_slice(), arguments)?;
+    Ok(parts.push(Part {
+        line: number,
+        content,
+    })?)
+}

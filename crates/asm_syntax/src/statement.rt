@@ -1,0 +1,356 @@
+ghost use Rattle.std.specs.Prelude.{◌≡◌, [], ◌∷◌, IfOk};
+ghost use Rattle.asm_source.specs.declared.content.Content.TheVariants as content;
+ghost use Rattle.asm_syntax.specs.Forms.{Answers, map_some};
+ghost use Rattle.asm_syntax.specs.Lines.{align_of, ascii_of, b_of, byte_of, coded_of, entry_of, instruction_of, jalr_of, la_of, label_in, li_of, may_be, may_be_all, mnemonic_of, move_of, nop_of, number_in, org_of, register_in, size_in, space_of, statement_of, value_in, word_of};
+
+use crate::arguments::ZERO;
+use crate::copies::{copy_bytes, copy_value};
+use asm_source::{Argument, Content, Items, Value};
+use mips_text::{Integer, OperandKind, kinds};
+use std::alloc::Global;
+use xom_base::{ByteList, LineFault, NoMemory};
+
+/// The statement with this name and these operands. Bad where there is none of that form.
+#[tactic(auto, unfolding(crate::specs::Lines::statement_of))]
+pub fn statement(alloc: Global, name: &[u8], arguments: Items<Argument>) -> Result<Content, LineFault>
+    ensures { Answers (statement_of name.now arguments) result }
+{
+    if name == b".word".as_slice() {
+        word(alloc, arguments.as_slice())
+    } else if name == b".byte".as_slice() {
+        byte(alloc, arguments.as_slice())
+    } else if name == b".ascii".as_slice() {
+        ascii(alloc, arguments.as_slice())
+    } else if name == b".space".as_slice() {
+        space(arguments.as_slice()).ok_or(LineFault::Bad)
+    } else if name == b".align".as_slice() {
+        align(arguments.as_slice()).ok_or(LineFault::Bad)
+    } else if name == b".org".as_slice() {
+        org(arguments.as_slice()).ok_or(LineFault::Bad)
+    } else if name == b".entry".as_slice() {
+        entry(alloc, arguments.as_slice())
+    } else {
+        mnemonic(alloc, name, arguments)
+    }
+}
+
+/// A statement that makes instructions.
+#[tactic(auto, unfolding(crate::specs::Lines::mnemonic_of))]
+fn mnemonic(alloc: Global, name: &[u8], arguments: Items<Argument>) -> Result<Content, LineFault>
+    ensures { Answers (mnemonic_of name.now arguments) result }
+{
+    if name == b"li".as_slice() {
+        load_number(arguments.as_slice()).ok_or(LineFault::Bad)
+    } else if name == b"la".as_slice() {
+        load_address(alloc, arguments.as_slice())
+    } else if name == b"move".as_slice() {
+        move_register(alloc, arguments.as_slice())
+    } else if name == b"nop".as_slice() {
+        nop(alloc, arguments.as_slice())
+    } else if name == b"b".as_slice() {
+        branch(alloc, arguments.as_slice())
+    } else if name == b"jalr".as_slice() {
+        link(alloc, arguments)
+    } else if name == b"syscall".as_slice() || name == b"break".as_slice() {
+        coded(alloc, name, arguments)
+    } else {
+        instruction(alloc, name, arguments)
+    }
+}
+
+/// `.word v, v`
+#[tactic(auto, unfolding(crate::specs::Lines::word_of))]
+fn word(alloc: Global, arguments: &[Argument]) -> Result<Content, LineFault>
+    ensures { Answers (word_of arguments.now) result }
+{
+    if arguments.is_empty() {
+        return Err(LineFault::Bad);
+    }
+    Ok(Content::Words(values(alloc, arguments)?))
+}
+
+#[tactic(auto, using(crate::proofs::FormLaws::map_some_more, crate::proofs::FormLaws::map_some_stops))]
+fn values(alloc: Global, arguments: &[Argument]) -> Result<Items<Value>, LineFault>
+    ensures { Answers (map_some value_in arguments.now) result }
+{
+    let mut values = Items::new(alloc);
+    for argument in arguments {
+        let value = value_in(alloc, argument)?;
+        values.push(value)?;
+    }
+    Ok(values)
+}
+
+/// `.byte n, n`
+#[tactic(auto, unfolding(crate::specs::Lines::byte_of))]
+fn byte(alloc: Global, arguments: &[Argument]) -> Result<Content, LineFault>
+    ensures { Answers (byte_of arguments.now) result }
+{
+    if arguments.is_empty() {
+        return Err(LineFault::Bad);
+    }
+    Ok(Content::Bytes(numbers(alloc, arguments)?))
+}
+
+#[tactic(auto, using(crate::proofs::FormLaws::map_some_more, crate::proofs::FormLaws::map_some_stops))]
+fn numbers(alloc: Global, arguments: &[Argument]) -> Result<Items<Integer>, LineFault>
+    ensures { Answers (map_some number_in arguments.now) result }
+{
+    let mut numbers = Items::new(alloc);
+    for argument in arguments {
+        let number = number_in(argument).ok_or(LineFault::Bad)?;
+        numbers.push(number)?;
+    }
+    Ok(numbers)
+}
+
+/// `.ascii "text"`
+#[tactic(auto, unfolding(crate::specs::Lines::ascii_of))]
+fn ascii(alloc: Global, arguments: &[Argument]) -> Result<Content, LineFault>
+    ensures { Answers (ascii_of arguments.now) result }
+{
+    match arguments {
+        [Argument::Text(bytes)] => Ok(Content::Ascii(copy_bytes(alloc, bytes.as_slice())?)),
+        _ => Err(LineFault::Bad),
+    }
+}
+
+/// `.space n`
+#[tactic(auto, unfolding(crate::specs::Lines::space_of))]
+fn space(arguments: &[Argument]) -> Option<Content>
+    ensures { result ≡ space_of arguments.now }
+{
+    match arguments {
+        [size] => Some(Content::Space(size_in(size)?)),
+        _ => None,
+    }
+}
+
+/// `.align n`
+#[tactic(auto, unfolding(crate::specs::Lines::align_of))]
+fn align(arguments: &[Argument]) -> Option<Content>
+    ensures { result ≡ align_of arguments.now }
+{
+    match arguments {
+        [power] => Some(Content::Align(size_in(power)?)),
+        _ => None,
+    }
+}
+
+/// `.org n`
+#[tactic(auto, unfolding(crate::specs::Lines::org_of))]
+fn org(arguments: &[Argument]) -> Option<Content>
+    ensures { result ≡ org_of arguments.now }
+{
+    match arguments {
+        [place] => Some(Content::Org(size_in(place)?)),
+        _ => None,
+    }
+}
+
+/// `.entry v`
+#[tactic(auto, unfolding(crate::specs::Lines::entry_of))]
+fn entry(alloc: Global, arguments: &[Argument]) -> Result<Content, LineFault>
+    ensures { Answers (entry_of arguments.now) result }
+{
+    match arguments {
+        [value] => Ok(Content::Entry(value_in(alloc, value)?)),
+        _ => Err(LineFault::Bad),
+    }
+}
+
+/// `li r, n`
+#[tactic(auto, unfolding(crate::specs::Lines::li_of))]
+fn load_number(arguments: &[Argument]) -> Option<Content>
+    ensures { result ≡ li_of arguments.now }
+{
+    match arguments {
+        [register, number] => {
+            let register = register_in(register)?;
+            Some(Content::LoadNumber(register, number_in(number)?))
+        }
+        _ => None,
+    }
+}
+
+/// `la r, label`
+#[tactic(auto, unfolding(crate::specs::Lines::la_of))]
+fn load_address(alloc: Global, arguments: &[Argument]) -> Result<Content, LineFault>
+    ensures { Answers (la_of arguments.now) result }
+{
+    match arguments {
+        [register, label] => {
+            let register = register_in(register).ok_or(LineFault::Bad)?;
+            Ok(Content::LoadAddress(register, label_in(alloc, label)?))
+        }
+        _ => Err(LineFault::Bad),
+    }
+}
+
+/// `move rd, rs`
+#[tactic(auto, unfolding(crate::specs::Lines::move_of))]
+fn move_register(alloc: Global, arguments: &[Argument]) -> Result<Content, LineFault>
+    ensures { Answers (move_of arguments.now) result }
+{
+    match arguments {
+        [rd, rs] => {
+            let rd = register_in(rd).ok_or(LineFault::Bad)?;
+            let rs = register_in(rs).ok_or(LineFault::Bad)?;
+            let zero = Argument::Register(0);
+            Ok(three(alloc, b"addu", Argument::Register(rd), Argument::Register(rs), zero)?)
+        }
+        _ => Err(LineFault::Bad),
+    }
+}
+
+/// `nop`
+#[tactic(auto, unfolding(crate::specs::Lines::nop_of))]
+fn nop(alloc: Global, arguments: &[Argument]) -> Result<Content, LineFault>
+    ensures { Answers (nop_of arguments.now) result }
+{
+    if !arguments.is_empty() {
+        return Err(LineFault::Bad);
+    }
+    let zero = Argument::Value(Value::Number(ZERO));
+    Ok(three(alloc, b"sll", Argument::Register(0), Argument::Register(0), zero)?)
+}
+
+/// `b target`
+#[tactic(auto, unfolding(crate::specs::Lines::b_of))]
+fn branch(alloc: Global, arguments: &[Argument]) -> Result<Content, LineFault>
+    ensures { Answers (b_of arguments.now) result }
+{
+    match arguments {
+        [target] => {
+            let target = Argument::Value(value_in(alloc, target)?);
+            Ok(three(alloc, b"beq", Argument::Register(0), Argument::Register(0), target)?)
+        }
+        _ => Err(LineFault::Bad),
+    }
+}
+
+/// `jalr rd, rs` or `jalr rs`
+#[tactic(auto, unfolding(crate::specs::Lines::jalr_of))]
+fn link(alloc: Global, arguments: Items<Argument>) -> Result<Content, LineFault>
+    ensures { Answers (jalr_of arguments) result }
+{
+    match arguments.as_slice() {
+        [Argument::Register(rs)] => {
+            let mut full = Items::new(alloc);
+            full.push(Argument::Register(31))?;
+            full.push(Argument::Register(*rs))?;
+            Ok(Content::Instruction(copy_bytes(alloc, b"jalr")?, full))
+        }
+        _ => instruction(alloc, b"jalr", arguments),
+    }
+}
+
+/// `syscall` and `break`, with a code or without
+#[tactic(auto, unfolding(crate::specs::Lines::coded_of))]
+fn coded(alloc: Global, name: &[u8], arguments: Items<Argument>) -> Result<Content, LineFault>
+    ensures { Answers (coded_of name.now arguments) result }
+{
+    if arguments.as_slice().is_empty() {
+        let mut full = Items::new(alloc);
+        full.push(Argument::Value(Value::Number(ZERO)))?;
+        return Ok(Content::Instruction(copy_bytes(alloc, name)?, full));
+    }
+    instruction(alloc, name, arguments)
+}
+
+/// An instruction with all its operands.
+#[tactic(auto, unfolding(crate::specs::Lines::instruction_of))]
+fn instruction(alloc: Global, name: &[u8], arguments: Items<Argument>) -> Result<Content, LineFault>
+    ensures { Answers (instruction_of name.now arguments) result }
+{
+    let shape = kinds(name).ok_or(LineFault::Bad)?;
+    if !may_be_all(shape, arguments.as_slice()) {
+        return Err(LineFault::Bad);
+    }
+    Ok(Content::Instruction(copy_bytes(alloc, name)?, arguments))
+}
+
+/// Whether these operands may stand where the instruction takes those of these kinds.
+fn may_be_all(shape: &[OperandKind], arguments: &[Argument]) -> bool
+    ensures { result ≡ may_be_all shape.now arguments.now }
+{
+    let [kind, shape @ ..] = shape else {
+        return arguments.is_empty();
+    };
+    let [argument, arguments @ ..] = arguments else {
+        return false;
+    };
+    may_be(*kind, argument) && may_be_all(shape, arguments)
+}
+
+/// Whether an operand may stand where the instruction takes one of this kind.
+fn may_be(kind: OperandKind, argument: &Argument) -> bool
+    ensures { result ≡ may_be kind argument.now }
+{
+    match kind {
+        OperandKind::Register => matches!(argument, Argument::Register(_)),
+        OperandKind::Shift | OperandKind::Code => {
+            matches!(argument, Argument::Value(Value::Number(_)))
+        }
+        OperandKind::Signed | OperandKind::Unsigned | OperandKind::Branch | OperandKind::Jump => {
+            matches!(argument, Argument::Value(_))
+        }
+        OperandKind::Offset => matches!(argument, Argument::Offset(..)),
+    }
+}
+
+/// An instruction of three operands.
+fn three(alloc: Global, name: &[u8], first: Argument, second: Argument, third: Argument) -> Result<Content, NoMemory>
+    ensures { IfOk result (λ made. made ≡ content.Instruction name.now (first ∷ second ∷ third ∷ [])) }
+{
+    let mut arguments = Items::new(alloc);
+    arguments.push(first)?;
+    arguments.push(second)?;
+    arguments.push(third)?;
+    Ok(Content::Instruction(copy_bytes(alloc, name)?, arguments))
+}
+
+fn register_in(argument: &Argument) -> Option<u8>
+    ensures { result ≡ register_in argument.now }
+{
+    match argument {
+        Argument::Register(register) => Some(*register),
+        _ => None,
+    }
+}
+
+/// A number or a label.
+fn value_in(alloc: Global, argument: &Argument) -> Result<Value, LineFault>
+    ensures { Answers (value_in argument.now) result }
+{
+    match argument {
+        Argument::Value(value) => Ok(copy_value(alloc, value)?),
+        _ => Err(LineFault::Bad),
+    }
+}
+
+fn number_in(argument: &Argument) -> Option<Integer>
+    ensures { result ≡ number_in argument.now }
+{
+    match argument {
+        Argument::Value(Value::Number(number)) => Some(*number),
+        _ => None,
+    }
+}
+
+fn label_in(alloc: Global, argument: &Argument) -> Result<ByteList, LineFault>
+    ensures { Answers (label_in argument.now) result }
+{
+    match argument {
+        Argument::Value(Value::Label(name)) => Ok(copy_bytes(alloc, name.as_slice())?),
+        _ => Err(LineFault::Bad),
+    }
+}
+
+/// A number with no `-`.
+fn size_in(argument: &Argument) -> Option<u64>
+    ensures { result ≡ size_in argument.now }
+{
+    let number = number_in(argument)?;
+    (!number.negative).then_some(number.magnitude)
+}

@@ -1,0 +1,9 @@
+pub mod FaultLaws
+pub mod JoinLaws
+pub mod LayoutLaws
+pub mod ImageLaws
+pub mod SizeLaws
+pub mod LabelLaws
+pub mod OverlapLaws
+pub mod RangeLaws
+pub mod AssemblyLaws

@@ -1,0 +1,6 @@
+pub mod Layout
+pub mod Passes
+pub mod Encoding
+pub mod Images
+pub mod Sources
+pub mod LabelMaps

@@ -1,0 +1,48 @@
+ghost use Rattle.std.specs.Prelude.{◌≡◌, All, MatchResult};
+ghost use Rattle.mips_asm.specs.Layout.{IsInside, IsSized};
+ghost use Rattle.mips_asm.specs.Sources.{IsFaultOf, IsImageOf, IsPlacedFault, IsPlacedImage};
+
+use crate::AsmFault;
+use crate::duplicates::no_duplicate;
+use crate::entry::{entry, last_entry};
+use crate::image::image;
+use crate::layout::layout;
+use crate::naming::all_labels;
+use crate::overlap::no_overlap;
+use crate::placed::Placed;
+use crate::ranges::chunks;
+use crate::unknown::no_unknown;
+use asm_syntax::read_source;
+use std::alloc::Global;
+use xom_base::{PlainImage, TextFault};
+
+/// Assembles a source: the image that it stands for, or the fault of the first kind that occurs in it.
+/// It costs time linear in the text and the image, beside the ordered map of the labels.
+pub fn assemble(alloc: Global, text: &[u8]) -> Result<PlainImage, AsmFault>
+    ensures { MatchResult result (IsImageOf text.now) (IsFaultOf text.now) }
+{
+    let parts = match read_source(alloc, text) {
+        Ok(parts) => parts,
+        Err(TextFault::Line(line)) => return Err(AsmFault::Syntax(line)),
+        Err(TextFault::NoMemory) => return Err(AsmFault::NoMemory),
+    };
+    no_duplicate(alloc, parts.as_slice())?;
+    let placed = layout(alloc, parts)?;
+    image_of(alloc, placed.as_slice())
+}
+
+/// The image of labels and statements that are laid out.
+fn image_of(alloc: Global, placed: &[Placed]) -> Result<PlainImage, AsmFault>
+    requires inside { All IsInside placed.now }
+    requires sized { All IsSized placed.now }
+    ensures { MatchResult result (IsPlacedImage placed.now) (IsPlacedFault placed.now) }
+{
+    no_overlap(alloc, placed)?;
+    let labels = all_labels(alloc, placed)?;
+    no_unknown(&labels, placed)?;
+    let entry = entry(&labels, last_entry(placed));
+    let chunks = chunks(alloc, &labels, entry.err(), placed)?;
+    let entry = entry.map_err(AsmFault::Range)?;
+    let bytes = image(alloc, chunks.as_slice())?;
+    Ok(PlainImage { entry, bytes })
+}

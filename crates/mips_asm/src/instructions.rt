@@ -1,0 +1,126 @@
+ghost use Rattle.std.specs.Prelude.{◌≡◌, ◌<◌, ◌^◌, ◌∷◌, [], ℕ, List, IfOk, MatchOption};
+ghost use Rattle.mips_asm.specs.LabelMaps.{place_in};
+ghost use Rattle.mips_asm.specs.Encoding.{Appends, AreWords, halves, instruction_at, load_address, load_number, operands_of};
+
+use crate::fields::{operand_of, wrapped};
+use crate::labels::Labels;
+use crate::layout::in_range;
+use asm_source::{Argument, Items};
+use mips_isa::{Ins, encode, fits};
+use mips_text::{Integer, Operand, OperandKind, build, kinds};
+use std::alloc::Global;
+use xom_base::{ByteList, NoMemory};
+
+/// The bytes of instructions, where each has its operands in their ranges.
+#[tactic(auto, using(crate::proofs::JoinLaws::AreWords_more, crate::proofs::JoinLaws::AreWords_fits))]
+pub fn words(alloc: Global, instructions: &[Ins]) -> Result<Option<ByteList>, NoMemory>
+    ensures { IfOk result (λ found. MatchOption found ((bytes : List ℕ) → ¬ AreWords instructions.now bytes) (AreWords instructions.now)) }
+{
+    let mut bytes = Vec::new(alloc);
+    for ins in instructions {
+        if !fits(ins) {
+            return Ok(None);
+        }
+        bytes.extend_from_slice(&encode(*ins).to_be_bytes())?;
+    }
+    Ok(Some(ByteList::from_vec(bytes)))
+}
+
+/// The instruction with this mnemonic and these operands, at `pc`.
+#[tactic(auto, unfolding(crate::specs::Encoding::instruction_at))]
+pub fn instruction_at(
+    alloc: Global,
+    labels: &Labels,
+    pc: u32,
+    name: &[u8],
+    arguments: &[Argument],
+) -> Result<Option<Ins>, NoMemory>
+    requires { pc < 2 ^ 20 }
+    ensures { IfOk result (λ ins. ins ≡ instruction_at (place_in labels.now) pc name.now arguments.now) }
+{
+    let Some(shape) = kinds(name) else {
+        return Ok(None);
+    };
+    let mut operands = Items::new(alloc);
+    if !add_operands(labels, pc, shape, arguments, &mut operands)? {
+        return Ok(None);
+    }
+    Ok(build(name, operands.as_slice()))
+}
+
+/// Adds the operands of these kinds that are written so, and answers whether they all are.
+#[tactic(auto, unfolding(crate::specs::Encoding::operands_of))]
+fn add_operands(
+    labels: &Labels,
+    pc: u32,
+    shape: &[OperandKind],
+    arguments: &[Argument],
+    operands: &mut Items<Operand>,
+) -> Result<bool, NoMemory>
+    requires { pc < 2 ^ 20 }
+    ensures { IfOk result (λ all. Appends (operands_of (place_in labels.now) pc shape.now arguments.now) operands.old all operands.new) }
+{
+    let [kind, shape @ ..] = shape else {
+        return Ok(arguments.is_empty());
+    };
+    let [argument, arguments @ ..] = arguments else {
+        return Ok(false);
+    };
+    let Some(operand) = operand_of(labels, pc, *kind, argument) else {
+        return Ok(false);
+    };
+    operands.push(operand)?;
+    add_operands(labels, pc, shape, arguments, operands)
+}
+
+/// `li`: one instruction or two, or none where the number is out of its range.
+#[tactic(auto, unfolding(crate::specs::Encoding::load_number))]
+pub fn load_number(alloc: Global, register: u8, number: Integer) -> Result<Option<Items<Ins>>, NoMemory>
+    ensures { IfOk result (λ found. found ≡ load_number register number) }
+{
+    if in_range(0x8000, 0x7fff, number) {
+        let imm = wrapped(16, number) as u16;
+        return Ok(Some(one(alloc, Ins::Addiu { rt: register, rs: 0, imm })?));
+    }
+    if in_range(0, 0xffff, number) {
+        let imm = number.magnitude as u16;
+        return Ok(Some(one(alloc, Ins::Ori { rt: register, rs: 0, imm })?));
+    }
+    if in_range(0x8000_0000, 0xffff_ffff, number) {
+        let word = wrapped(32, number) as u32;
+        return Ok(Some(halves(alloc, register, word)?));
+    }
+    Ok(None)
+}
+
+/// `la`: the two halves of a label's place, or none where it is not below 2^32.
+#[tactic(auto, unfolding(crate::specs::Encoding::load_address))]
+pub fn load_address(alloc: Global, labels: &Labels, register: u8, name: &[u8]) -> Result<Option<Items<Ins>>, NoMemory>
+    ensures { IfOk result (λ found. found ≡ load_address (place_in labels.now) register name.now) }
+{
+    match labels.place(name) {
+        Some(place) if place <= 0xffff_ffff => Ok(Some(halves(alloc, register, place as u32)?)),
+        _ => Ok(None),
+    }
+}
+
+/// One instruction.
+pub fn one(alloc: Global, ins: Ins) -> Result<Items<Ins>, NoMemory>
+    ensures { IfOk result (λ list. list ≡ ins ∷ []) }
+{
+    let mut list = Items::new(alloc);
+    list.push(ins)?;
+    Ok(list)
+}
+
+/// The upper and the lower half of a number into a register.
+fn halves(alloc: Global, register: u8, number: u32) -> Result<Items<Ins>, NoMemory>
+    ensures { IfOk result (λ list. list ≡ halves register number) }
+{
+    let upper = (number / 0x1_0000) as u16;
+    let lower = (number % 0x1_0000) as u16;
+    let mut list = Items::new(alloc);
+    list.push(Ins::Lui { rt: register, imm: upper })?;
+    list.push(Ins::Ori { rt: register, rs: register, imm: lower })?;
+    Ok(list)
+}
