@@ -82,10 +82,10 @@ pub lines_open : LinesOpen
 lines_open machine owner sealed is = (
   ap length is.lines ∙ length-sealed_lines owner ∙ sym (length-map-range_with_len (line_of owner.plain.bytes) 0 (line_count owner.plain.bytes)),
   λ i line plain stands there.
-    let lines : slice_get (sealed_lines_of owner) i ≡ Some line = ap (λ all. slice_get all i) (sym is.lines) ∙ stands in
-    let (below, same) = get-made (sealed_line_of owner) (line_count owner.plain.bytes) i line lines in
-    let (under, alike) = get-made (line_of owner.plain.bytes) (line_count owner.plain.bytes) i plain there in
-    ap (unsealed_line (Image owner.id i) (image_keys owner.key owner.id)) same ∙ line_opens owner i ∙ ap Some (sym alike),
+      let lines : slice_get (sealed_lines_of owner) i ≡ Some line = ap (λ all. slice_get all i) (sym is.lines) ∙ stands in
+      let (below, same) = get-made (sealed_line_of owner) (line_count owner.plain.bytes) i line lines in
+      let (under, alike) = get-made (line_of owner.plain.bytes) (line_count owner.plain.bytes) i plain there in
+      ap (unsealed_line (Image owner.id i) (image_keys owner.key owner.id)) same ∙ line_opens owner i ∙ ap Some (sym alike),
 )
 
 -- ---- The envelope

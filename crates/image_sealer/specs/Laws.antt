@@ -28,7 +28,7 @@ LinesOpen =
     (machine : Key256) (owner : Owner) (sealed : SealedImage) → IsSealedFor machine owner sealed
     → (length sealed.lines ≡ length (lines_of owner.plain.bytes))
     × ((i : ℕ) (line : SealedLine) (plain : List ℕ) → slice_get sealed.lines i ≡ Some line → slice_get (lines_of owner.plain.bytes) i ≡ Some plain
-      → unsealed_line (Image owner.id i) (image_keys owner.key owner.id) line ≡ Some plain)
+    → unsealed_line (Image owner.id i) (image_keys owner.key owner.id) line ≡ Some plain)
 
 -- the tags of the envelope and of the lines are those of the owner's sealing, one by one
 abbrev pub TagsAreOfTheSealing : Type 0

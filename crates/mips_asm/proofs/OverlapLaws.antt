@@ -32,8 +32,8 @@ pub overlaps_false : (before : List Placed) (p : Placed) → ((k : ℕ) → p.pl
 overlaps_false [] p none = refl
 overlaps_false (e ∷ before) p none =
     let apart : meets p e ≡ false = false_from_ne_true (meets p e) (λ meet.
-        let some = meets_some p e meet in
-        true≢false (sym (or_left (covers e (max p.place e.place)) _ some.2) ∙ none (max p.place e.place) some.0 some.1)) in
+    let some = meets_some p e meet in
+    true≢false (sym (or_left (covers e (max p.place e.place)) _ some.2) ∙ none (max p.place e.place) some.0 some.1)) in
     rw apart (overlaps_false before p (λ k from below. or_none (covers e k) _ (none k from below)))
   where
     or_left : (a b : Bool) → a ≡ true → (a || b) ≡ true

@@ -87,7 +87,7 @@ load_number-length place r n is read =
       | inr more ↦ elim (cases_Bool (in_range 0 65535 n)) [
         | inl unsigned ↦ rw (small_unsigned n.negative n.magnitude unsigned) (ap (λ (k : ℕ). 4 * k) (same_length (Ori r 0 n.magnitude ∷ []) is (rw (more, unsigned) at read)))
         | inr most ↦ rw (large n.negative n.magnitude more most)
-          (ap (λ (k : ℕ). 4 * k) (sym (ap length (guarded (in_range 2147483648 4294967295 n) (halves r (wrapped 32 n)) is (rw (more, most) at read)))))
+            (ap (λ (k : ℕ). 4 * k) (sym (ap length (guarded (in_range 2147483648 4294967295 n) (halves r (wrapped 32 n)) is (rw (more, most) at read)))))
       ]
     ]
 

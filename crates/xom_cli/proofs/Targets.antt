@@ -6,10 +6,11 @@ use Rattle.xom_cli.specs.declared.answer.Answer.{Answer}
 use Rattle.xom_cli.specs.declared.answer.OutputFile.{OutputFile}
 use Rattle.xom_cli.specs.declared.refusal.Refusal.{Refusal}
 use Rattle.xom_cli.specs.declared.trace.Parts.{Parts}
-use Rattle.xom_cli.specs.Inputs.{◌>>=◌, Held, image_of}
+use Rattle.xom_cli.specs.Assembly.{Assembles, AssemblesRead}
+use Rattle.xom_cli.specs.Inputs.{◌>>=◌, Held, fetched, image_of, source_limit}
 use Rattle.xom_cli.specs.Outcome.{IsOutcome}
 use Rattle.xom_cli.specs.Programs.{disasm_of, plain_of, prints, seal_of, values_of}
-use Rattle.xom_cli.specs.Rows.{Row, Disasm, Plain, Seal, Trace, target_of}
+use Rattle.xom_cli.specs.Rows.{Row, Asm, Disasm, Plain, Seal, Trace, target_of}
 use Rattle.xom_cli.specs.Trace.{parts_of, trace_of, traced}
 
 -- where two steps answer, the first did, and the second of what it gave
@@ -33,6 +34,10 @@ trace-file held run answer is =
     let found = trace-answer held run answer is in
     ap (λ (a : Answer). a.file) found.2 ∙ traced-file found.0
 
+asm_read-file : (source target : List ℕ) (read : Result (List ℕ) Refusal) (answer : Answer) (file : OutputFile) → AssemblesRead source target read (Ok answer) → answer.file ≡ Some file → file.name ≡ target
+asm_read-file source target (Ok text) answer file is written = let last = is.2 in cc
+asm_read-file source target (Err refusal) answer file is written = absurd (cc)
+
 disasm-file : (held : Held) (image : List ℕ) (answer : Answer) → disasm_of held image ≡ Ok answer → answer.file ≡ None
 unfolding disasm_of
 disasm-file held image answer is = let last = (bind-ok (image_of held image) _ answer is).2 in cc
@@ -48,6 +53,7 @@ unfolding seal_of
 seal-file held image key id machine sealed answer file is written = let last = (bind-ok (image_of held image) _ answer is).2 in cc
 
 pub target-written : (row : Row) (held : Held) (answer : Answer) (file : OutputFile) → IsOutcome row held (Ok answer) → answer.file ≡ Some file → target_of row ≡ Some file.name
+target-written (Asm source target) held answer file is written = ap Some (sym (asm_read-file source target (fetched held source source_limit) answer file is written))
 target-written (Disasm image) held answer file is written = let none = disasm-file held image answer is in absurd (cc)
 target-written (Plain image steps received) held answer file is written = let none = plain-file held image steps received answer is in absurd (cc)
 target-written (Seal image key id machine sealed) held answer file is written = ap Some (sym (seal-file held image key id machine sealed answer file is written))

@@ -8,10 +8,13 @@ use Rattle.xom_cli.specs.declared.refusal.InputFault.{InputFault}
 use Rattle.xom_cli.specs.declared.refusal.InputFault.TheVariants.{TooLong}
 use Rattle.xom_cli.specs.declared.refusal.Refusal.{Refusal}
 use Rattle.xom_cli.specs.declared.refusal.Refusal.TheVariants.{Unread, Bad}
-use Rattle.xom_cli.specs.Inputs.{◌>>=◌, Held, fetched, fetched_bytes, image_of, in_file, input_of, received_of, run_file_of, script_of}
+use Rattle.mips_asm.specs.declared.fault.AsmFault.{AsmFault}
+use Rattle.mips_asm.specs.declared.fault.AsmFault.TheVariants as asm_fault
+use Rattle.xom_cli.specs.Assembly.{Assembles, AssemblesRead, said_of}
+use Rattle.xom_cli.specs.Inputs.{◌>>=◌, Held, fetched, fetched_bytes, image_of, in_file, input_of, received_of, run_file_of, script_of, source_limit}
 use Rattle.xom_cli.specs.Outcome.{IsOutcome}
 use Rattle.xom_cli.specs.Programs.{disasm_of, plain_of, seal_of, values_of}
-use Rattle.xom_cli.specs.Rows.{Row, Disasm, Plain, Seal, Trace}
+use Rattle.xom_cli.specs.Rows.{Row, Asm, Disasm, Plain, Seal, Trace}
 use Rattle.xom_cli.specs.Trace.{parts_of, trace_of, traced}
 
 -- where a step and what follows it are refused, one of them is
@@ -58,6 +61,22 @@ values-unread : (held : Held) (received : Option (List ℕ)) (name : List ℕ) �
 values-unread held None name is = absurd (cc)
 values-unread held (Some n) name is = received-unread held n name is
 
+said-unread : (source name : List ℕ) (fault : AsmFault) → said_of source fault ≡ Some (Unread name) → ⊥
+said-unread source name (asm_fault.Syntax line) is = cc
+said-unread source name (asm_fault.Duplicate line) is = cc
+said-unread source name (asm_fault.TooLong line) is = cc
+said-unread source name (asm_fault.Overlap line) is = cc
+said-unread source name (asm_fault.UnknownName line) is = cc
+said-unread source name (asm_fault.Range line) is = cc
+said-unread source name asm_fault.NoMemory is = cc
+
+asm_read-unread : (source target : List ℕ) (read : Result (List ℕ) Refusal) (name : List ℕ) → AssemblesRead source target read (Err (Unread name)) → read ≡ Err (Unread name)
+asm_read-unread source target (Ok text) name is = absurd (said-unread source name is.0 is.2)
+asm_read-unread source target (Err refusal) name is = cc
+
+asm-unread : (held : Held) (source target name : List ℕ) → Assembles source target held (Err (Unread name)) → held name ≡ None
+asm-unread held source target name is = fetched-unread held source name source_limit (asm_read-unread source target (fetched held source source_limit) name is)
+
 disasm-unread : (held : Held) (image name : List ℕ) → disasm_of held image ≡ Err (Unread name) → held name ≡ None
 unfolding disasm_of
 disasm-unread held image name is = elim (bind-err (image_of held image) _ (Unread name) is) [
@@ -103,6 +122,7 @@ trace-unread held run name is = elim (bind-err (parts_of held run) _ (Unread nam
 ]
 
 pub row-unread : (row : Row) (held : Held) (name : List ℕ) → IsOutcome row held (Err (Unread name)) → held name ≡ None
+row-unread (Asm source target) held name is = asm-unread held source target name is
 row-unread (Disasm image) held name is = disasm-unread held image name is
 row-unread (Plain image steps received) held name is = plain-unread held image steps received name is
 row-unread (Seal image key id machine sealed) held name is = seal-unread held image key id machine sealed name is

@@ -96,7 +96,10 @@ abbrev pub in_form : {A : Type 0} → Option A → Result A InputFault
 in_form None = Err NotBuilt
 in_form (Some value) = Ok value
 
--- at most so many bytes are in a run file, a plain image file, a received file and a script
+-- at most so many bytes are in an assembler source, a run file, a plain image file, a received file and a script
+abbrev pub source_limit : ℕ
+source_limit = 1048576
+
 abbrev pub run_limit : ℕ
 run_limit = 65536
 

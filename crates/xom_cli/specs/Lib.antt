@@ -3,6 +3,7 @@ pub mod Words
 pub mod Refusals
 pub mod Inputs
 pub mod Programs
+pub mod Assembly
 pub mod Trace
 pub mod Outcome
 pub mod Endings

@@ -5,12 +5,14 @@ use Rattle.xom_cli.specs.declared.answer.OutputFile.{OutputFile}
 use Rattle.xom_cli.specs.declared.refusal.Refusal.{Refusal}
 use Rattle.xom_cli.specs.Inputs.{Held}
 use Rattle.xom_cli.specs.Refusals.{line_of, refusal_status, words_line}
+use Rattle.xom_cli.specs.Assembly.{Assembles}
 use Rattle.xom_cli.specs.Programs.{disasm_of, plain_of, seal_of}
-use Rattle.xom_cli.specs.Rows.{Row, Disasm, Plain, Seal, Trace, row_of}
+use Rattle.xom_cli.specs.Rows.{Row, Asm, Disasm, Plain, Seal, Trace, row_of}
 use Rattle.xom_cli.specs.Trace.{trace_of}
 
 -- what a row's command comes to: its answer, or why it isn't carried out
 abbrev pub IsOutcome : Row → Held → Result Answer Refusal → Type 0
+IsOutcome (Asm source image) held result = Assembles source image held result
 IsOutcome (Disasm image) held result = disasm_of held image ≡ result
 IsOutcome (Plain image steps received) held result = plain_of held image steps received ≡ result
 IsOutcome (Seal image key id machine sealed) held result = seal_of held image key id machine sealed ≡ result

@@ -8,6 +8,8 @@ use Rattle.xom_base.specs.declared.key.Key256.{Key256}
 use Rattle.xom_script.specs.Forms.{◌>>=◌}
 
 pub data Row : Type 0 where
+  -- assembles a source, and writes its plain image
+  Asm : (source : List ℕ) → (image : List ℕ) → Row
   -- prints the words of a plain image
   Disasm : (image : List ℕ) → Row
   -- runs a plain image alone, for at most so many steps, with a received file where one is named
@@ -40,7 +42,9 @@ row_of_one command a =
     else (if bytes_eq command (codes "trace") then Some (Trace a) else None)
 
 abbrev pub row_of_two : List ℕ → List ℕ → List ℕ → Option Row
-row_of_two command a b = if bytes_eq command (codes "plain") then plain_row a b None else None
+row_of_two command a b =
+    if bytes_eq command (codes "asm") then Some (Asm a b)
+    else (if bytes_eq command (codes "plain") then plain_row a b None else None)
 
 abbrev pub row_of_three : List ℕ → List ℕ → List ℕ → List ℕ → Option Row
 row_of_three command a b c = if bytes_eq command (codes "plain") then plain_row a b (Some c) else None
@@ -58,6 +62,7 @@ row_of other = None
 
 -- the file that a row's command writes, if it writes one
 abbrev pub target_of : Row → Option (List ℕ)
+target_of (Asm source image) = Some image
 target_of (Disasm image) = None
 target_of (Plain image steps received) = None
 target_of (Seal image key id machine sealed) = Some sealed

@@ -1,10 +1,10 @@
 ghost use Rattle.std.specs.Prelude.{◌≡◌, ◌++◌, IfOk, string_bytes};
 ghost use Rattle.xom_cli.specs.Endings.{Delivers, Finishes, IsDone, Prints, PrintsRefusal, PutsFile, disk, output, refused as refused_by};
-ghost use Rattle.xom_cli.specs.Refusals.{fault_text as fault_text_of, line_of};
+ghost use Rattle.xom_cli.specs.Refusals.{fault_text as fault_text_of, line_of, source_word as source_word_of};
 
 use crate::answer::{Answer, OutputFile};
 use crate::ending::Ending;
-use crate::refusal::{InputFault, Refusal, Stop};
+use crate::refusal::{InputFault, Refusal, SourceFault, Stop};
 use std::alloc::{AllocError, Global};
 use xom_io::{FileFault, Files, Sink, SinkFault, put_all};
 use xom_script::Name;
@@ -91,6 +91,24 @@ fn fault_text(alloc: Global, fault: InputFault) -> Result<String, AllocError>
         InputFault::NotBuilt => String::from_str(alloc, ": not built\n"),
         InputFault::BadByte(offset) => format!(in alloc; " byte {offset}: bad\n"),
         InputFault::BadLine(line) => format!(in alloc; " line {line}: bad\n"),
+        InputFault::BadSource(line, fault) => {
+            let word = source_word(fault);
+            format!(in alloc; " line {line}: {word}\n")
+        }
+    }
+}
+
+/// The word for what is wrong with a source.
+fn source_word(fault: SourceFault) -> &'static str
+    ensures { result.now ≡ source_word_of fault }
+{
+    match fault {
+        SourceFault::Syntax => "Syntax",
+        SourceFault::Duplicate => "Duplicate",
+        SourceFault::TooLong => "TooLong",
+        SourceFault::Overlap => "Overlap",
+        SourceFault::UnknownName => "UnknownName",
+        SourceFault::Range => "Range",
     }
 }
 

@@ -1,6 +1,6 @@
 ghost use Rattle.std.specs.Prelude.{◌≡◌, IfOk, string_bytes};
 ghost use Rattle.xom_cli.specs.declared.refusal.Refusal.TheVariants.{Unread, Bad};
-ghost use Rattle.xom_cli.specs.Inputs.{Answers, fetched, image_at, image_of, received_of, run_file_of, script_of};
+ghost use Rattle.xom_cli.specs.Inputs.{Answers, fetched, image_at, image_of, received_of, run_file_of, script_of, source_limit};
 ghost use Rattle.xom_cli.specs.Readings.{Gives, IsBuilt, IsLined, IsNamed, IsRefusal};
 ghost use Rattle.xom_cli.specs.Trace.{IsRunnable};
 
@@ -17,6 +17,9 @@ const RUN_LIMIT: u64 = 65_536;
 
 /// The most bytes of a plain image file.
 const IMAGE_LIMIT: u64 = 1_048_592;
+
+/// The most bytes of an assembler source.
+const SOURCE_LIMIT: u64 = 1_048_576;
 
 /// The most bytes of a received file.
 const RECEIVED_LIMIT: u64 = 1_048_576;
@@ -47,6 +50,16 @@ pub fn image<F: Files>(alloc: Global, files: &mut F, name: &String) -> Result<Pl
 {
     let bytes = fetch(files, name, IMAGE_LIMIT)?;
     of_file(name, image_in(alloc, &bytes))
+}
+
+/// The text of the assembler source of this name.
+pub fn source<F: Files>(files: &mut F, name: &String) -> Result<ByteList, Stop>
+    ensures gives { Gives (F.held files.old) (λ held. fetched held (string_bytes name.now) source_limit)
+        (F.reads files.old) (F.reads files.new) result }
+    ensures names { F.held files.new ≡ F.held files.old }
+    ensures writes { F.writes files.new ≡ F.writes files.old }
+{
+    fetch(files, name, SOURCE_LIMIT)
 }
 
 /// The values of the received file of this name.
@@ -143,7 +156,8 @@ fn unread(name: &String) -> Stop
     }
 }
 
-fn bad(name: &String, fault: InputFault) -> Stop
+/// The refusal of a file that has this fault.
+pub fn bad(name: &String, fault: InputFault) -> Stop
     ensures { IsRefusal result (Bad (string_bytes name.now) fault) }
 {
     match name.clone() {

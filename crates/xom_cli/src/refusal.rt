@@ -16,6 +16,25 @@ pub enum InputFault {
     BadByte(u64),
     /// This line, counted from 1, is the first that is off the grammar.
     BadLine(u64),
+    /// This line of a source, counted from 1, is the first that has this fault.
+    BadSource(u64, SourceFault),
+}
+
+/// What is wrong with an assembler source. Kinds are looked for in this order.
+#[derive(Clone, Copy)]
+pub enum SourceFault {
+    /// A line is off the grammar.
+    Syntax,
+    /// A label was named before.
+    Duplicate,
+    /// A byte lies past the limit of an image.
+    TooLong,
+    /// A place was written before.
+    Overlap,
+    /// A name is that of no label.
+    UnknownName,
+    /// A value is out of its range.
+    Range,
 }
 
 /// Why the bytes of a file gave no input.

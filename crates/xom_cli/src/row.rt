@@ -10,6 +10,11 @@ const MOST_STEPS: u64 = 1_048_576;
 /// A row of the table of commands, with what its words say.
 #[derive(Clone, Copy)]
 pub enum Row<'a> {
+    /// `asm SOURCE IMAGE`
+    Asm {
+        source: &'a String,
+        image: &'a String,
+    },
     /// `disasm IMAGE`
     Disasm {
         image: &'a String,
@@ -59,10 +64,14 @@ fn row_of_one<'a>(command: &String, a: &'a String) -> Option<Row<'a>>
 }
 
 /// The row of a command with two words.
-fn row_of_two<'a>(command: &String, a: &'a String, b: &String) -> Option<Row<'a>>
+fn row_of_two<'a>(command: &String, a: &'a String, b: &'a String) -> Option<Row<'a>>
     ensures { option_map shown result ≡ row_of_two_words (string_bytes command.now) (string_bytes a.now) (string_bytes b.now) }
 {
     match command.as_str() {
+        "asm" => Some(Row::Asm {
+            source: a,
+            image: b,
+        }),
         "plain" => plain_row(a, b, None),
         _ => None,
     }

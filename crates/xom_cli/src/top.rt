@@ -6,6 +6,7 @@ ghost use Rattle.xom_cli.specs.Readings.{Meets};
 ghost use Rattle.xom_cli.specs.Words.{shown};
 
 use crate::answer::Answer;
+use crate::asm::asm;
 use crate::delivery::{finish, print};
 use crate::disasm::disasm;
 use crate::ending::Ending;
@@ -20,6 +21,7 @@ use xom_io::{Files, Sink};
 /// Carries out the command of these words, which come after the program's name, and answers the
 /// status.
 ///
+/// - `asm SOURCE IMAGE` assembles a source and writes its image as the plain image file IMAGE.
 /// - `disasm IMAGE` prints each word of a plain image as its address, itself and its instruction.
 /// - `plain IMAGE STEPS` and `plain IMAGE STEPS RECEIVED` run an image's program alone, for at most
 ///   STEPS steps, and print each; the values that it receives come from a received file.
@@ -71,6 +73,7 @@ fn answer<F: Files>(alloc: Global, row: Row<'_>, files: &mut F) -> Result<Answer
     ensures writes { F.writes files.new ≡ F.writes files.old }
 {
     match row {
+        Row::Asm { source, image } => asm(alloc, files, source, image),
         Row::Disasm { image } => disasm(alloc, files, image),
         Row::Plain {
             image,

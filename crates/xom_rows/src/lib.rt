@@ -3,6 +3,8 @@
 #![tactic(auto)]
 
 #[cfg(test)]
+mod assembly_tests;
+#[cfg(test)]
 mod program_tests;
 #[cfg(test)]
 mod row;

@@ -45,9 +45,9 @@ loop-part-preserved c =
     let more = length_push c.loop-part.yielded part in
     record {
       placed = c.in_ok-push.ensures.items
-      ∙ layout_step c.args.parts n (length (c.loop-part.yielded ++ part ∷ [])) part c.loop-part.placed.items c.loop-part.place c.size-size.result more within is c.loop-part.invariant.placed c.loop-part.invariant.place size;
+          ∙ layout_step c.args.parts n (length (c.loop-part.yielded ++ part ∷ [])) part c.loop-part.placed.items c.loop-part.place c.size-size.result more within is c.loop-part.invariant.placed c.loop-part.invariant.place size;
       place = c.after-next.ensures
-      ∙ place_step c.args.parts n (length (c.loop-part.yielded ++ part ∷ [])) part c.loop-part.place more within is c.loop-part.invariant.place;
+          ∙ place_step c.args.parts n (length (c.loop-part.yielded ++ part ∷ [])) part c.loop-part.place more within is c.loop-part.invariant.place;
       inside = subst (All IsInside) (sym c.in_ok-push.ensures.items) (All-push IsInside c.loop-part.placed.items item c.loop-part.invariant.inside (short_inside c.loop-part.place c.size-size.result short));
       sized = subst (All IsSized) (sym c.in_ok-push.ensures.items) (All-push IsSized c.loop-part.placed.items item c.loop-part.invariant.sized size);
     }
