@@ -32,9 +32,11 @@ pub fn arguments(alloc: Global, lexemes: &[Lexeme]) -> Result<Items<Argument>, L
 fn between_commas(alloc: Global, lexemes: &[Lexeme]) -> Result<Vec<&[Lexeme]>, NoMemory>
     ensures { IfOk result (λ parts. map (λ part. part.now) parts.items ≡ slice_split is_comma lexemes.now) }
 {
-    Ok(lexemes
-        .split(|lexeme| matches!(lexeme, Lexeme::Comma))
-        .collect(alloc)?)
+    Ok(
+        lexemes
+            .split(|lexeme| matches!(lexeme, Lexeme::Comma))
+            .collect(alloc)?,
+    )
 }
 
 /// The operand of each part.

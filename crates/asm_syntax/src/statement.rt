@@ -12,7 +12,11 @@ use xom_base::{ByteList, LineFault, NoMemory};
 
 /// The statement with this name and these operands. Bad where there is none of that form.
 #[tactic(auto, unfolding(crate::specs::Lines::statement_of))]
-pub fn statement(alloc: Global, name: &[u8], arguments: Items<Argument>) -> Result<Content, LineFault>
+pub fn statement(
+    alloc: Global,
+    name: &[u8],
+    arguments: Items<Argument>,
+) -> Result<Content, LineFault>
     ensures { Answers (statement_of name.now arguments) result }
 {
     if name == b".word".as_slice() {
@@ -197,7 +201,13 @@ fn move_register(alloc: Global, arguments: &[Argument]) -> Result<Content, LineF
             let rd = register_in(rd).ok_or(LineFault::Bad)?;
             let rs = register_in(rs).ok_or(LineFault::Bad)?;
             let zero = Argument::Register(0);
-            Ok(three(alloc, b"addu", Argument::Register(rd), Argument::Register(rs), zero)?)
+            Ok(three(
+                alloc,
+                b"addu",
+                Argument::Register(rd),
+                Argument::Register(rs),
+                zero,
+            )?)
         }
         _ => Err(LineFault::Bad),
     }
@@ -212,7 +222,13 @@ fn nop(alloc: Global, arguments: &[Argument]) -> Result<Content, LineFault>
         return Err(LineFault::Bad);
     }
     let zero = Argument::Value(Value::Number(ZERO));
-    Ok(three(alloc, b"sll", Argument::Register(0), Argument::Register(0), zero)?)
+    Ok(three(
+        alloc,
+        b"sll",
+        Argument::Register(0),
+        Argument::Register(0),
+        zero,
+    )?)
 }
 
 /// `b target`
@@ -223,7 +239,13 @@ fn branch(alloc: Global, arguments: &[Argument]) -> Result<Content, LineFault>
     match arguments {
         [target] => {
             let target = Argument::Value(value_in(alloc, target)?);
-            Ok(three(alloc, b"beq", Argument::Register(0), Argument::Register(0), target)?)
+            Ok(three(
+                alloc,
+                b"beq",
+                Argument::Register(0),
+                Argument::Register(0),
+                target,
+            )?)
         }
         _ => Err(LineFault::Bad),
     }
@@ -300,7 +322,13 @@ fn may_be(kind: OperandKind, argument: &Argument) -> bool
 }
 
 /// An instruction of three operands.
-fn three(alloc: Global, name: &[u8], first: Argument, second: Argument, third: Argument) -> Result<Content, NoMemory>
+fn three(
+    alloc: Global,
+    name: &[u8],
+    first: Argument,
+    second: Argument,
+    third: Argument,
+) -> Result<Content, NoMemory>
     ensures { IfOk result (λ made. made ≡ content.Instruction name.now (first ∷ second ∷ third ∷ [])) }
 {
     let mut arguments = Items::new(alloc);

@@ -1,5 +1,5 @@
 -- Places, one statement after another.
-use Rattle.std.proofs.Common.{◌≡◌, ℕ, suc, ◌+◌, ◌<◌, ◌≤◌, ◌^◌, ◌&&◌, Bool, true, false, ltb, List, [], ◌∷◌, ◌++◌, length, get_or, take, drop, max, min, inl, inr, Option, Some, None, refl, sym, ap, subst, ◌∙◌, option_map, arith}
+use Rattle.std.proofs.Common.{◌≡◌, ℕ, ◌+◌, ◌<◌, ◌≤◌, ◌&&◌, Bool, true, false, ltb, List, [], ◌∷◌, ◌++◌, length, get_or, take, drop, max, min, inl, inr, Option, Some, None, refl, sym, ap, subst, ◌∙◌, option_map, arith}
 use Rattle.std.specs.Prelude.{find}
 use Rattle.std.specs.List.{All}
 use Rattle.std.specs.Option.{option_or}
@@ -62,10 +62,10 @@ pub too_long_next : (place : ℕ) (xs : List Part) (x : Part) (ys : List Part) �
 too_long_next place xs x ys inside long =
     let at = place_behind place xs in
     let whole : layout place (xs ++ (x ∷ ys)) ≡ layout place xs ++ (placed_at at x ∷ layout (after at x.content) ys) =
-      layout-append place xs (x ∷ ys) ∙ ap (λ (more : List Placed). layout place xs ++ more) (layout-cons at x ys) in
+    layout-append place xs (x ∷ ys) ∙ ap (λ (more : List Placed). layout place xs ++ more) (layout-cons at x ys) in
     let here : find is_too_long (placed_at at x ∷ layout (after at x.content) ys) ≡ Some (placed_at at x) = rw long refl in
     let first : find is_too_long (layout place (xs ++ (x ∷ ys))) ≡ option_or (find is_too_long (layout place xs)) (find is_too_long (placed_at at x ∷ layout (after at x.content) ys)) =
-      ap (find is_too_long) whole ∙ find-append is_too_long (layout place xs) (placed_at at x ∷ layout (after at x.content) ys) in
+    ap (find is_too_long) whole ∙ find-append is_too_long (layout place xs) (placed_at at x ∷ layout (after at x.content) ys) in
     ap (λ (found : Option Placed). option_map line_of found)
     (first ∙ ap (λ (found : Option Placed). option_or found (find is_too_long (placed_at at x ∷ layout (after at x.content) ys))) (none_too_long (layout place xs) inside) ∙ here)
 
@@ -159,8 +159,8 @@ pub layout_step : (xs : List Part) (n m : ℕ) (x : Part) (placed : List Placed)
     → placed ++ record { place = place; size = size; part = x } ∷ [] ≡ layout 0 (take m xs)
 layout_step xs n m x placed place size em within is a b s =
     let one : ◌≡◌ {A = Placed} record { place = place; size = size; part = x } (placed_at (place_behind 0 (take n xs)) (get_or xs n x)) =
-      ap (λ (k : ℕ). let p : Placed = record { place = place; size = k; part = x } in p) s
-      ∙ ap (λ (p : ℕ). placed_at p x) b ∙ ap (placed_at (place_behind 0 (take n xs))) is in
+    ap (λ (k : ℕ). let p : Placed = record { place = place; size = k; part = x } in p) s
+    ∙ ap (λ (p : ℕ). placed_at p x) b ∙ ap (placed_at (place_behind 0 (take n xs))) is in
     ap (λ (front : List Placed). front ++ record { place = place; size = size; part = x } ∷ []) a
     ∙ ap (λ (p : Placed). layout 0 (take n xs) ++ p ∷ []) one
     ∙ sym (layout_more xs n x within) ∙ ap (λ (k : ℕ). layout 0 (take k xs)) (sym em)
@@ -177,5 +177,5 @@ pub too_long_step : (xs : List Part) (n : ℕ) (x : Part) (place : ℕ) → n < 
     → past place (size_of place x.content) ≡ true → too_long_line (layout 0 xs) ≡ Some x.line
 too_long_step xs n x place within is b inside long =
     let there : is_too_long (placed_at (place_behind 0 (take n xs)) (get_or xs n x)) ≡ true =
-      sym (ap (λ (p : ℕ). is_too_long (placed_at p x)) b ∙ ap (λ (y : Part). is_too_long (placed_at (place_behind 0 (take n xs)) y)) is) ∙ long in
+    sym (ap (λ (p : ℕ). is_too_long (placed_at p x)) b ∙ ap (λ (y : Part). is_too_long (placed_at (place_behind 0 (take n xs)) y)) is) ∙ long in
     too_long_at xs n x within inside there ∙ ap (λ (y : Part). Some y.line) (sym is)

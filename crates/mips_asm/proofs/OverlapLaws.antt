@@ -1,7 +1,7 @@
 -- Statements that write one place.
-use Rattle.std.proofs.Common.{◌≡◌, ℕ, suc, ◌+◌, ◌<◌, ◌≤◌, ◌&&◌, ◌||◌, ltb, leb, max, Bool, true, false, List, [], ◌∷◌, ◌++◌, length, get_or, take, refl, sym, ap, ◌∙◌, inl, inr, ⊎_elim, arith}
+use Rattle.std.proofs.Common.{◌≡◌, ℕ, ◌+◌, ◌<◌, ◌≤◌, ◌||◌, max, Bool, true, false, List, [], ◌∷◌, length, get_or, take, refl, sym, ap, ◌∙◌, inl, inr, arith}
 use Rattle.std.specs.List.{list_any}
-use Rattle.std.proofs.lemmas.Bool.{and_parts, cases_Bool, leb-true, le-leb, ltb-true, lt-ltb, true≢false, false_from_ne_true}
+use Rattle.std.proofs.lemmas.Bool.{cases_Bool, true≢false, false_from_ne_true}
 use Rattle.std.proofs.lemmas.Bool.Decides.{nat_tests}
 use Rattle.std.proofs.lemmas.List.Folds.{list_any_more}
 use Rattle.mips_asm.specs.declared.placed.Placed.{Placed}
@@ -32,8 +32,8 @@ pub overlaps_false : (before : List Placed) (p : Placed) → ((k : ℕ) → p.pl
 overlaps_false [] p none = refl
 overlaps_false (e ∷ before) p none =
     let apart : meets p e ≡ false = false_from_ne_true (meets p e) (λ meet.
-        let some = meets_some p e meet in
-        true≢false (sym (or_left (covers e (max p.place e.place)) _ some.2) ∙ none (max p.place e.place) some.0 some.1)) in
+    let some = meets_some p e meet in
+    true≢false (sym (or_left (covers e (max p.place e.place)) _ some.2) ∙ none (max p.place e.place) some.0 some.1)) in
     rw apart (overlaps_false before p (λ k from below. or_none (covers e k) _ (none k from below)))
   where
     or_left : (a b : Bool) → a ≡ true → (a || b) ≡ true

@@ -47,7 +47,12 @@ pub fn bytes_of(
 }
 
 /// The bytes of the values of `.word`, at a multiple of 4.
-fn word_list(alloc: Global, labels: &Labels, place: u64, values: &[Value]) -> Result<Option<ByteList>, NoMemory>
+fn word_list(
+    alloc: Global,
+    labels: &Labels,
+    place: u64,
+    values: &[Value],
+) -> Result<Option<ByteList>, NoMemory>
     ensures { IfOk result (λ found. MatchOption found ((bytes : List ℕ) → ¬ ((place % 4 ≡ 0) × (join_some (word_value (place_in labels.now)) values.now ≡ Some bytes))) (λ bytes. (place % 4 ≡ 0) × (join_some (word_value (place_in labels.now)) values.now ≡ Some bytes))) }
 {
     if place % 4 != 0 {
@@ -57,7 +62,11 @@ fn word_list(alloc: Global, labels: &Labels, place: u64, values: &[Value]) -> Re
 }
 
 #[tactic(auto, using(crate::proofs::JoinLaws::join_some_more, crate::proofs::JoinLaws::join_some_stops))]
-fn joined_words(alloc: Global, labels: &Labels, values: &[Value]) -> Result<Option<ByteList>, NoMemory>
+fn joined_words(
+    alloc: Global,
+    labels: &Labels,
+    values: &[Value],
+) -> Result<Option<ByteList>, NoMemory>
     ensures { IfOk result (λ found. found ≡ join_some (word_value (place_in labels.now)) values.now) }
 {
     let mut bytes = Vec::new(alloc);
@@ -135,7 +144,11 @@ fn aligned(alloc: Global, power: u64, place: u64) -> Result<Option<ByteList>, No
 }
 
 /// The bytes of instructions, if there are any, at a multiple of 4.
-fn code(alloc: Global, place: u64, instructions: Option<Items<Ins>>) -> Result<Option<ByteList>, NoMemory>
+fn code(
+    alloc: Global,
+    place: u64,
+    instructions: Option<Items<Ins>>,
+) -> Result<Option<ByteList>, NoMemory>
     ensures { IfOk result (λ found. MatchOption found ((bytes : List ℕ) → ¬ IsCode place instructions bytes) (IsCode place instructions)) }
 {
     if place % 4 != 0 {

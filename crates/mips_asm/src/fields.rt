@@ -124,7 +124,12 @@ fn offset_field(base: u8, number: Integer) -> Option<Operand>
 
 /// The operand of this kind that is written so, in the instruction at `pc`.
 #[tactic(auto, unfolding(crate::specs::Encoding::operand_of))]
-pub fn operand_of(labels: &Labels, pc: u32, kind: OperandKind, argument: &Argument) -> Option<Operand>
+pub fn operand_of(
+    labels: &Labels,
+    pc: u32,
+    kind: OperandKind,
+    argument: &Argument,
+) -> Option<Operand>
     requires { pc < 2 ^ 20 }
     ensures { result ≡ operand_of (place_in labels.now) pc kind argument.now }
 {

@@ -75,16 +75,34 @@ fn add_operands(
 
 /// `li`: one instruction or two, or none where the number is out of its range.
 #[tactic(auto, unfolding(crate::specs::Encoding::load_number))]
-pub fn load_number(alloc: Global, register: u8, number: Integer) -> Result<Option<Items<Ins>>, NoMemory>
+pub fn load_number(
+    alloc: Global,
+    register: u8,
+    number: Integer,
+) -> Result<Option<Items<Ins>>, NoMemory>
     ensures { IfOk result (λ found. found ≡ load_number register number) }
 {
     if in_range(0x8000, 0x7fff, number) {
         let imm = wrapped(16, number) as u16;
-        return Ok(Some(one(alloc, Ins::Addiu { rt: register, rs: 0, imm })?));
+        return Ok(Some(one(
+            alloc,
+            Ins::Addiu {
+                rt: register,
+                rs: 0,
+                imm,
+            },
+        )?));
     }
     if in_range(0, 0xffff, number) {
         let imm = number.magnitude as u16;
-        return Ok(Some(one(alloc, Ins::Ori { rt: register, rs: 0, imm })?));
+        return Ok(Some(one(
+            alloc,
+            Ins::Ori {
+                rt: register,
+                rs: 0,
+                imm,
+            },
+        )?));
     }
     if in_range(0x8000_0000, 0xffff_ffff, number) {
         let word = wrapped(32, number) as u32;
@@ -95,7 +113,12 @@ pub fn load_number(alloc: Global, register: u8, number: Integer) -> Result<Optio
 
 /// `la`: the two halves of a label's place, or none where it is not below 2^32.
 #[tactic(auto, unfolding(crate::specs::Encoding::load_address))]
-pub fn load_address(alloc: Global, labels: &Labels, register: u8, name: &[u8]) -> Result<Option<Items<Ins>>, NoMemory>
+pub fn load_address(
+    alloc: Global,
+    labels: &Labels,
+    register: u8,
+    name: &[u8],
+) -> Result<Option<Items<Ins>>, NoMemory>
     ensures { IfOk result (λ found. found ≡ load_address (place_in labels.now) register name.now) }
 {
     match labels.place(name) {
@@ -120,7 +143,14 @@ fn halves(alloc: Global, register: u8, number: u32) -> Result<Items<Ins>, NoMemo
     let upper = (number / 0x1_0000) as u16;
     let lower = (number % 0x1_0000) as u16;
     let mut list = Items::new(alloc);
-    list.push(Ins::Lui { rt: register, imm: upper })?;
-    list.push(Ins::Ori { rt: register, rs: register, imm: lower })?;
+    list.push(Ins::Lui {
+        rt: register,
+        imm: upper,
+    })?;
+    list.push(Ins::Ori {
+        rt: register,
+        rs: register,
+        imm: lower,
+    })?;
     Ok(list)
 }

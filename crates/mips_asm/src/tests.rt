@@ -86,7 +86,10 @@ fn branches_and_jumps_reach_labels_and_addresses(rt: HostRuntime) -> Result<(), 
 fn statements_of_data(rt: HostRuntime) -> Result<(), Fail> {
     for (source, bytes) in [
         (".byte -128, 255, 0", [0x80, 0xff, 0].as_slice()),
-        (".word 1, -1", [0, 0, 0, 1, 0xff, 0xff, 0xff, 0xff].as_slice()),
+        (
+            ".word 1, -1",
+            [0, 0, 0, 1, 0xff, 0xff, 0xff, 0xff].as_slice(),
+        ),
         ("nop\nat: .word at", [0, 0, 0, 0, 0, 0, 0, 4].as_slice()),
         (".ascii \"a\\n\\0\\\\\\\"#\" # b", b"a\n\0\\\"#".as_slice()),
         (".byte 1\n.align 2\n.byte 2", [1, 0, 0, 0, 2].as_slice()),
@@ -113,7 +116,10 @@ fn short_forms(rt: HostRuntime) -> Result<(), Fail> {
         ("syscall", [0x0000_000c].as_slice()),
         ("break 7", [0x0000_01cd].as_slice()),
         ("lw $9, ($8)", [0x8d09_0000].as_slice()),
-        ("nop\nnop\na: la $8, a", [0, 0, 0x3c08_0000, 0x3508_0008].as_slice()),
+        (
+            "nop\nnop\na: la $8, a",
+            [0, 0, 0x3c08_0000, 0x3508_0008].as_slice(),
+        ),
         ("addiu$8,$0,7", [0x2408_0007].as_slice()),
         ("a : nop", [0].as_slice()),
         ("nop: .word: nop # two labels", [0].as_slice()),
@@ -214,7 +220,11 @@ fn lines_off_the_grammar(rt: HostRuntime) -> Result<(), Fail> {
         "@",
     ] {
         let source = format!(in rt.alloc(); "nop\n{line}\nb far")?;
-        assert_eq!(rt; fault_of(rt.alloc(), source.as_str()), Some(AsmFault::Syntax(2)), "{line}");
+        assert_eq!(rt;
+            fault_of(rt.alloc(), source.as_str()),
+            Some(AsmFault::Syntax(2)),
+            "{line}"
+        );
     }
     Ok(())
 }
@@ -228,18 +238,85 @@ fn a_place_past_the_limit_is_no_fault(rt: HostRuntime) -> Result<(), Fail> {
 
 /// A word of each instruction.
 const WORDS: [u32; 79] = [
-        0x0009_5140, 0x0009_5142, 0x0009_5143, 0x0109_5004, 0x0109_5006, 0x0109_5007, 0x0100_0008,
-        0x0100_5009, 0x0000_00cc, 0x0000_01cd, 0x0000_5010, 0x0100_0011, 0x0000_5012, 0x0100_0013,
-        0x0109_0018, 0x0109_0019, 0x0109_001a, 0x0109_001b, 0x0109_5020, 0x0109_5021, 0x0109_5022,
-        0x0109_5023, 0x0109_5024, 0x0109_5025, 0x0109_5026, 0x0109_5027, 0x0109_502a, 0x0109_502b,
-        0x0500_0002, 0x0501_0002, 0x0510_0002, 0x0511_0002, 0x0800_0100, 0x0c00_0100, 0x1109_0002,
-        0x1509_0002, 0x1900_0002, 0x1d00_0002, 0x2109_0005, 0x2509_8000, 0x2909_0005, 0x2d09_ffff,
-        0x3109_ffff, 0x3509_ffff, 0x3909_8000, 0x3c09_0001, 0x8109_0004, 0x8509_0004, 0x8909_0004,
-        0x8d09_fffc, 0x9109_0004, 0x9509_0004, 0x9909_0004, 0xa109_0004, 0xa509_0004, 0xa909_0004,
-        0xad09_0000, 0xb909_0004, 0xc909_0004, 0xe909_0004, 0x4900_0001, 0x4900_5002, 0x4800_0003,
-        0x4900_0004, 0x4800_0005, 0x4909_5010, 0x4900_0011, 0x4909_0012, 0x4909_5013, 0x4909_5014,
-        0x4909_5015, 0x4909_0016, 0x4900_0018, 0x4900_0019, 0x4800_001a, 0x4800_501b, 0x4800_501c,
-        0x4800_501d, 0x4800_501e,
+    0x0009_5140,
+    0x0009_5142,
+    0x0009_5143,
+    0x0109_5004,
+    0x0109_5006,
+    0x0109_5007,
+    0x0100_0008,
+    0x0100_5009,
+    0x0000_00cc,
+    0x0000_01cd,
+    0x0000_5010,
+    0x0100_0011,
+    0x0000_5012,
+    0x0100_0013,
+    0x0109_0018,
+    0x0109_0019,
+    0x0109_001a,
+    0x0109_001b,
+    0x0109_5020,
+    0x0109_5021,
+    0x0109_5022,
+    0x0109_5023,
+    0x0109_5024,
+    0x0109_5025,
+    0x0109_5026,
+    0x0109_5027,
+    0x0109_502a,
+    0x0109_502b,
+    0x0500_0002,
+    0x0501_0002,
+    0x0510_0002,
+    0x0511_0002,
+    0x0800_0100,
+    0x0c00_0100,
+    0x1109_0002,
+    0x1509_0002,
+    0x1900_0002,
+    0x1d00_0002,
+    0x2109_0005,
+    0x2509_8000,
+    0x2909_0005,
+    0x2d09_ffff,
+    0x3109_ffff,
+    0x3509_ffff,
+    0x3909_8000,
+    0x3c09_0001,
+    0x8109_0004,
+    0x8509_0004,
+    0x8909_0004,
+    0x8d09_fffc,
+    0x9109_0004,
+    0x9509_0004,
+    0x9909_0004,
+    0xa109_0004,
+    0xa509_0004,
+    0xa909_0004,
+    0xad09_0000,
+    0xb909_0004,
+    0xc909_0004,
+    0xe909_0004,
+    0x4900_0001,
+    0x4900_5002,
+    0x4800_0003,
+    0x4900_0004,
+    0x4800_0005,
+    0x4909_5010,
+    0x4900_0011,
+    0x4909_0012,
+    0x4909_5013,
+    0x4909_5014,
+    0x4909_5015,
+    0x4909_0016,
+    0x4900_0018,
+    0x4900_0019,
+    0x4800_001a,
+    0x4800_501b,
+    0x4800_501c,
+    0x4800_501d,
+    0x4800_501e,
 ];
 
 #[test]
@@ -249,7 +326,11 @@ fn a_printed_instruction_assembles_to_its_word(rt: HostRuntime) -> Result<(), Fa
             Some(ins) if fits(&ins) => {
                 let text = print(rt.alloc(), ins, 0)?;
                 let image = assemble(rt.alloc(), text.as_slice())?;
-                assert_eq!(rt; image.bytes.as_slice(), word.to_be_bytes().as_slice(), "{word:08x}");
+                assert_eq!(rt;
+                    image.bytes.as_slice(),
+                    word.to_be_bytes().as_slice(),
+                    "{word:08x}"
+                );
             }
             _ => assert!(rt; false, "{word:08x} is reserved"),
         }

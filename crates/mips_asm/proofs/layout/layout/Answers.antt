@@ -1,11 +1,10 @@
 -- Each part stands behind those before it.
-use Rattle.std.proofs.Common.{◌≡◌, ◌<◌, ◌≤◌, ◌+◌, ℕ, List, [], ◌∷◌, ◌++◌, length, get_or, take, inr, refl, sym, ap, subst, ◌∙◌, arith, rules}
+use Rattle.std.proofs.Common.{◌≡◌, ◌<◌, [], ◌∷◌, ◌++◌, length, get_or, inr, refl, sym, ap, subst, ◌∙◌, arith, rules}
 use Rattle.std.proofs.lemmas.List.{length_push, take_all}
 use Rattle.std.specs.List.{All}
 use Rattle.std.proofs.lemmas.List.Elements.{All-nil, All-push}
 use Rattle.std.proofs.lemmas.Iterator.Consumers.{YieldsList-turn, YieldsList-end}
 use Rattle.std.proofs.lemmas.Iterator.Adapters.{YieldsList-from_vec}
-use Rattle.asm_source.specs.declared.content.Part.{Part}
 use Rattle.mips_asm.specs.declared.placed.Placed.{Placed}
 use Rattle.mips_asm.specs.Layout.{IsInside, IsSized, layout, size_of}
 use Rattle.mips_asm.specs.Passes.{too_long_line}
@@ -45,9 +44,9 @@ loop-part-preserved c =
     let more = length_push c.loop-part.yielded part in
     record {
       placed = c.in_ok-push.ensures.items
-      ∙ layout_step c.args.parts n (length (c.loop-part.yielded ++ part ∷ [])) part c.loop-part.placed.items c.loop-part.place c.size-size.result more within is c.loop-part.invariant.placed c.loop-part.invariant.place size;
+          ∙ layout_step c.args.parts n (length (c.loop-part.yielded ++ part ∷ [])) part c.loop-part.placed.items c.loop-part.place c.size-size.result more within is c.loop-part.invariant.placed c.loop-part.invariant.place size;
       place = c.after-next.ensures
-      ∙ place_step c.args.parts n (length (c.loop-part.yielded ++ part ∷ [])) part c.loop-part.place more within is c.loop-part.invariant.place;
+          ∙ place_step c.args.parts n (length (c.loop-part.yielded ++ part ∷ [])) part c.loop-part.place more within is c.loop-part.invariant.place;
       inside = subst (All IsInside) (sym c.in_ok-push.ensures.items) (All-push IsInside c.loop-part.placed.items item c.loop-part.invariant.inside (short_inside c.loop-part.place c.size-size.result short));
       sized = subst (All IsSized) (sym c.in_ok-push.ensures.items) (All-push IsSized c.loop-part.placed.items item c.loop-part.invariant.sized size);
     }

@@ -1,5 +1,5 @@
 -- Each label is added.
-use Rattle.std.proofs.Common.{◌≡◌, ℕ, List, Some, cond, sym, ap, ◌∙◌}
+use Rattle.std.proofs.Common.{List, Some, cond, sym, ap, ◌∙◌}
 use Rattle.std.specs.Str.{bytes_eq}
 use Rattle.std.proofs.lemmas.List.{take_all}
 use Rattle.mips_asm.specs.declared.placed.Placed.{Placed}
@@ -20,14 +20,14 @@ loop-placed-preserved c =
     let here = ap (λ (p : Placed). label_in p.part.content) (sym c.placed-item.is) in
     elim c.match-label_of.branch [
       | in-Some+in_ok-_known w ↦
-        let labelled = sym (rw w.in-Some.is at c.label_of.ensures) in
-        λ q. rw w.labels-is (place_label placed i item q w.in-Some.name.now (place_in c.loop-placed.labels q) (place_in w.insert.new.self q) c.loop-placed-test.true
+          let labelled = sym (rw w.in-Some.is at c.label_of.ensures) in
+          λ q. rw w.labels-is (place_label placed i item q w.in-Some.name.now (place_in c.loop-placed.labels q) (place_in w.insert.new.self q) c.loop-placed-test.true
           (here ∙ labelled)
           (w.in_ok-_known.ensures.places q ∙ ap (λ (p : Placed). cond (bytes_eq w.in-Some.name.now q) (Some p.place) (place_in c.loop-placed.labels q)) c.placed-item.is)
           (c.loop-placed.invariant q))
       | in_default w ↦
-        let none = sym (rw w.in_default.is at c.label_of.ensures) in
-        λ q. rw w.labels-is (c.loop-placed.invariant q ∙ place_none placed i item q c.loop-placed-test.true (here ∙ none))
+          let none = sym (rw w.in_default.is at c.label_of.ensures) in
+          λ q. rw w.labels-is (c.loop-placed.invariant q ∙ place_none placed i item q c.loop-placed-test.true (here ∙ none))
     ]
 
 pub returns : goal.returns

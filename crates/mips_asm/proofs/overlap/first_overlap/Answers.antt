@@ -1,5 +1,5 @@
 -- Whether a statement meets one before it is whether one of its places is marked.
-use Rattle.std.proofs.Common.{◌≡◌, ℕ, ◌≤◌, ◌<◌, ◌||◌, false, Some, sym, ap, ◌∙◌, take, get_or, arith}
+use Rattle.std.proofs.Common.{◌≡◌, ◌||◌, false, Some, sym, ap, ◌∙◌, take, get_or, arith}
 use Rattle.mips_asm.specs.declared.placed.Placed.{Placed}
 use Rattle.mips_asm.specs.Layout.{covers}
 use Rattle.mips_asm.specs.Passes.{line_of, overlaps}
@@ -38,19 +38,19 @@ loop-placed-preserved c =
     elim c.if-placed-gt0.branch [
       | then-placed-gt0+else-any_written w ↦ record {
         marked = λ k. rw w.written-is (marked_more placed i item k (get_or c.loop-placed.written k false) (get_or w.mark.new.written k false) c.loop-placed-test.true
-          (w.mark.ensures k ∙ ap (λ (p : Placed). covers p k || get_or c.loop-placed.written k false) c.placed-item.is) (c.loop-placed.invariant.marked k));
+            (w.mark.ensures k ∙ ap (λ (p : Placed). covers p k || get_or c.loop-placed.written k false) c.placed-item.is) (c.loop-placed.invariant.marked k));
         rest = c.loop-placed.invariant.rest ∙ next_at line_of overlaps placed i item c.loop-placed-test.true
-          (ap (overlaps (take i placed)) (sym c.placed-item.is)
-          ∙ overlaps_false (take i placed) item (λ k a b. sym (c.loop-placed.invariant.marked k) ∙ w.if-any_written.ensures.none k a b));
+            (ap (overlaps (take i placed)) (sym c.placed-item.is)
+            ∙ overlaps_false (take i placed) item (λ k a b. sym (c.loop-placed.invariant.marked k) ∙ w.if-any_written.ensures.none k a b));
       }
       | else-placed-gt0 w ↦
-        let empty : c.placed-item.result.size ≡ 0 = omega (arith, w.if-placed-gt0.false) in
-        record {
-          marked = λ k. rw w.written-is (marked_same placed i item k (get_or c.loop-placed.written k false) c.loop-placed-test.true
-            (ap (λ (p : Placed). p.size) (sym c.placed-item.is) ∙ empty) (c.loop-placed.invariant.marked k));
-          rest = c.loop-placed.invariant.rest ∙ next_at line_of overlaps placed i item c.loop-placed-test.true
-            (ap (overlaps (take i placed)) (sym c.placed-item.is) ∙ overlaps_empty (take i placed) item empty);
-        }
+          let empty : c.placed-item.result.size ≡ 0 = omega (arith, w.if-placed-gt0.false) in
+          record {
+            marked = λ k. rw w.written-is (marked_same placed i item k (get_or c.loop-placed.written k false) c.loop-placed-test.true
+                (ap (λ (p : Placed). p.size) (sym c.placed-item.is) ∙ empty) (c.loop-placed.invariant.marked k));
+            rest = c.loop-placed.invariant.rest ∙ next_at line_of overlaps placed i item c.loop-placed-test.true
+                (ap (overlaps (take i placed)) (sym c.placed-item.is) ∙ overlaps_empty (take i placed) item empty);
+          }
     ]
 
 pub returns : goal.returns
