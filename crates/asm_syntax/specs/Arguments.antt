@@ -7,7 +7,7 @@ use Rattle.asm_source.specs.declared.argument.Argument.TheVariants as argument
 use Rattle.asm_source.specs.declared.argument.Value.{Value}
 use Rattle.asm_source.specs.declared.argument.Value.TheVariants as «value»
 use Rattle.asm_syntax.specs.declared.lexeme.Lexeme.{Lexeme}
-use Rattle.asm_syntax.specs.declared.lexeme.Lexeme.TheVariants.{Name, Number, Register, Text, Comma, Colon, Left, Right}
+use Rattle.asm_syntax.specs.declared.lexeme.Lexeme.TheVariants.{Name, Number, Register, Text, Comma, Left, Right}
 use Rattle.asm_syntax.specs.Forms.{map_some, ◌>>=◌}
 
 -- the number 0

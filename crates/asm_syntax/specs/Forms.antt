@@ -1,5 +1,5 @@
 -- How a form of one line is written and answered.
-use Rattle.std.specs.Prelude.{◌≡◌, List, [], ◌∷◌, ◌++◌, Bool, if◌then◌else◌, Option, Some, None, Result, Ok, Err, option_and_then}
+use Rattle.std.specs.Prelude.{◌≡◌, List, [], ◌∷◌, ◌++◌, Option, Some, None, Result, Ok, Err, option_and_then}
 use Rattle.xom_base.specs.declared.lines.LineFault.{LineFault}
 use Rattle.xom_base.specs.declared.lines.LineFault.TheVariants.{Bad, NoMemory}
 

@@ -1,10 +1,10 @@
 -- From the answers of the passes to that of the whole.
-use Rattle.std.proofs.Common.{◌≡◌, ℕ, ◌⊎◌, inl, inr, Bool, true, false, cond, List, [], ◌∷◌, ◌++◌, Option, Some, None, Result, Ok, Err, refl, sym, ap, subst, ◌∙◌, reverse}
+use Rattle.std.proofs.Common.{◌≡◌, ℕ, ◌⊎◌, inl, inr, Bool, true, false, cond, List, [], ◌∷◌, Option, Some, None, Result, Ok, Err, refl, sym, ap, subst, ◌∙◌, reverse}
 use Rattle.std.specs.Prelude.{MatchResult, find, is_none}
 use Rattle.std.specs.Result.{IsErrAnd, is_ok, result_err}
 use Rattle.std.specs.List.{All}
 use Rattle.std.proofs.lemmas.List.{reverse-append}
-use Rattle.std.proofs.lemmas.List.Elements.{All-cons, All-head, All-nil, All-push, All-tail}
+use Rattle.std.proofs.lemmas.List.Elements.{All-head, All-nil, All-push, All-tail}
 use Rattle.std.proofs.lemmas.Option.{none-some, same_Some}
 use Rattle.asm_source.specs.declared.content.Part.{Part}
 use Rattle.asm_syntax.specs.Lines.{source_of}
@@ -13,7 +13,7 @@ use Rattle.mips_asm.specs.declared.fault.AsmFault.TheVariants.{Syntax, Duplicate
 use Rattle.mips_asm.specs.declared.placed.Placed.{Placed}
 use Rattle.mips_asm.specs.Layout.{layout}
 use Rattle.mips_asm.specs.Passes.{Labels, duplicate_line, line_of, overlap_line, too_long_line, unknown_line}
-use Rattle.mips_asm.specs.Sources.{IsFaultOf, IsFirst, IsOutOfRange, IsPartsFault, IsPlacedFault, bad_entry, bad_entry_of, entry_in, is_entry, labels_of, last_entry}
+use Rattle.mips_asm.specs.Sources.{IsFaultOf, IsFirst, IsOutOfRange, IsPlacedFault, bad_entry, bad_entry_of, entry_in, is_entry, labels_of, last_entry}
 
 -- what a pass says of its fault
 abbrev pub Said : (ℕ → AsmFault) → Option ℕ → AsmFault → Type 0

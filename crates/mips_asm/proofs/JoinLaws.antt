@@ -1,10 +1,10 @@
 -- What the elements give, one behind another, in a loop.
-use Rattle.std.proofs.Common.{◌≡◌, ℕ, suc, ◌+◌, ◌<◌, List, [], ◌∷◌, ◌++◌, length, get_or, take, drop, Option, Some, None, refl, sym, ap, ◌∙◌, append_assoc, arith}
+use Rattle.std.proofs.Common.{◌≡◌, ℕ, suc, ◌+◌, ◌<◌, List, [], ◌∷◌, ◌++◌, length, get_or, take, drop, Option, Some, None, refl, sym, ap, ◌∙◌, append_assoc}
 use Rattle.std.specs.Prelude.{option_and_then}
 use Rattle.std.specs.Int.{w32, to_be_bytes}
-use Rattle.std.proofs.lemmas.List.{take_more, take-append-drop, drop_more, append-nil}
+use Rattle.std.proofs.lemmas.List.{take_more, take-append-drop, append-nil}
 use Rattle.std.proofs.Math.Seq.{drop-cons}
-use Rattle.std.proofs.lemmas.Option.{none-some, option_and_then_some as steps, same_Some}
+use Rattle.std.proofs.lemmas.Option.{option_and_then_some as steps, same_Some}
 use Rattle.mips_isa.specs.Words.{Fits, word_of}
 use Rattle.mips_isa.specs.declared.instruction.Ins.{Ins}
 use Rattle.mips_asm.specs.Encoding.{AreWords, join_some}

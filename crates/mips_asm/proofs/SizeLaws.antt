@@ -1,5 +1,5 @@
 -- What a statement writes is as long as its size says.
-use Rattle.std.proofs.Common.{◌≡◌, ℕ, suc, ◌+◌, ◌*◌, ◌<◌, ◌≤◌, ◌^◌, Bool, true, false, cond, leb, inl, inr, List, [], ◌∷◌, ◌++◌, length, replicate, Option, Some, None, refl, sym, ap, subst, ◌∙◌, option_map, arith, length-append}
+use Rattle.std.proofs.Common.{◌≡◌, ℕ, suc, ◌+◌, ◌*◌, Bool, true, false, cond, leb, inl, inr, List, [], ◌∷◌, ◌++◌, length, Option, Some, None, refl, sym, ap, ◌∙◌, option_map, arith, length-append}
 use Rattle.std.specs.Int.{w32, to_be_bytes}
 use Rattle.std.proofs.lemmas.List.{length-replicate}
 use Rattle.std.proofs.lemmas.Option.{none-some, option_and_then_some as steps, same_Some}
@@ -13,8 +13,8 @@ use Rattle.asm_source.specs.declared.argument.Value.{Value}
 use Rattle.asm_source.specs.declared.content.Content.{Content}
 use Rattle.asm_source.specs.declared.content.Content.TheVariants.{Label, Words, Bytes, Ascii, Space, Align, Org, Entry, LoadNumber, LoadAddress, Instruction}
 use Rattle.asm_syntax.specs.Forms.{map_some}
-use Rattle.mips_asm.specs.Encoding.{AreWords, Gives, IsCode, alone, byte_value, halves, instruction_at, join_some, load_address, load_number, number_of, where_holds, word_bytes, word_value, wrapped}
-use Rattle.mips_asm.specs.Layout.{in_range, padding, size_of, takes_one_word}
+use Rattle.mips_asm.specs.Encoding.{AreWords, Gives, IsCode, alone, byte_value, halves, instruction_at, join_some, load_address, load_number, number_of, word_value, wrapped}
+use Rattle.mips_asm.specs.Layout.{in_range, padding, size_of}
 use Rattle.mips_asm.specs.Passes.{Labels}
 
 -- a word has four bytes

@@ -1,5 +1,5 @@
 -- The bytes of an image, from the bytes that the statements write.
-use Rattle.std.specs.Prelude.{◌≡◌, ℕ, ◌+◌, ◌-◌, ◌<◌, ◌≤◌, ◌&&◌, nat_le, nat_lt, Bool, if◌then◌else◌, List, [], ◌∷◌, length, max, slice_get, slice_index, Option, Some, IsTrue}
+use Rattle.std.specs.Prelude.{◌≡◌, ℕ, ◌+◌, ◌-◌, ◌<◌, ◌≤◌, ◌&&◌, nat_le, nat_lt, Bool, if◌then◌else◌, List, [], ◌∷◌, length, max, slice_get, slice_index, Some, IsTrue}
 use Rattle.mips_asm.specs.Layout.{limit}
 use Rattle.mips_asm.specs.declared.chunk.Chunk.{Chunk}
 

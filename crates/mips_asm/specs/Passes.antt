@@ -1,5 +1,5 @@
 -- The faults of a source that are looked for over the whole text, kind by kind.
-use Rattle.std.specs.Prelude.{◌≡◌, ℕ, ◌+◌, Bool, true, false, ◌&&◌, ◌⊎◌, nat_lt, if◌then◌else◌, List, [], ◌∷◌, ◌++◌, Option, Some, None, is_none, option_map, find, Result, Ok, Err}
+use Rattle.std.specs.Prelude.{◌≡◌, ℕ, ◌+◌, Bool, false, ◌&&◌, ◌⊎◌, nat_lt, if◌then◌else◌, List, [], ◌∷◌, ◌++◌, Option, Some, None, is_none, option_map, find, Result, Ok, Err}
 use Rattle.std.specs.Option.{option_map_or, option_or}
 use Rattle.std.specs.List.{list_any}
 use Rattle.std.specs.Str.{bytes_eq}
@@ -8,7 +8,7 @@ use Rattle.asm_source.specs.declared.argument.Argument.TheVariants as argument
 use Rattle.asm_source.specs.declared.argument.Value.{Value}
 use Rattle.asm_source.specs.declared.argument.Value.TheVariants as values
 use Rattle.asm_source.specs.declared.content.Content.{Content}
-use Rattle.asm_source.specs.declared.content.Content.TheVariants.{Label, Words, Bytes, Ascii, Space, Align, Org, Entry, LoadNumber, LoadAddress, Instruction}
+use Rattle.asm_source.specs.declared.content.Content.TheVariants.{Label, Words, Entry, LoadAddress, Instruction}
 use Rattle.asm_source.specs.declared.content.Part.{Part}
 use Rattle.mips_asm.specs.declared.fault.AsmFault.{AsmFault}
 use Rattle.mips_asm.specs.declared.fault.AsmFault.TheVariants.{NoMemory}

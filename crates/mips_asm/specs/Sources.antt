@@ -1,7 +1,6 @@
 -- What an assembler source stands for: an image, or a fault with its line.
-use Rattle.std.specs.Prelude.{◌≡◌, ℕ, ◌+◌, ◌%◌, ◌^◌, ◌<◌, ◌==◌, ◌&&◌, ◌⊎◌, Bool, true, false, if◌then◌else◌, List, [], ◌∷◌, ◌++◌, All, Option, Some, None, is_none, find, reverse, Result, Ok, Err}
+use Rattle.std.specs.Prelude.{◌≡◌, ℕ, ◌%◌, ◌==◌, ◌⊎◌, Bool, true, false, if◌then◌else◌, List, [], ◌∷◌, ◌++◌, All, Option, Some, None, is_none, find, reverse, Ok, Err}
 use Rattle.xom_base.specs.declared.image.PlainImage.{PlainImage}
-use Rattle.mips_text.specs.declared.integers.Integer.{Integer}
 use Rattle.asm_source.specs.declared.content.Content.{Content}
 use Rattle.asm_source.specs.declared.content.Content.TheVariants.{Entry}
 use Rattle.asm_source.specs.declared.content.Part.{Part}

@@ -1,5 +1,5 @@
 -- What was added so far, and what the rest of the line adds, are what the line adds.
-use Rattle.std.proofs.Common.{◌≡◌, ◌++◌, List, length, Option, option_map}
+use Rattle.std.proofs.Common.{◌≡◌, ◌++◌, List, length, option_map}
 use Rattle.asm_source.specs.declared.content.Part.{Part}
 use Rattle.asm_syntax.specs.Lines.{parts_of}
 use Rattle.asm_syntax.proofs.read.add_line.Given as goal

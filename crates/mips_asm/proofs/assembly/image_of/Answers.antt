@@ -1,12 +1,10 @@
 -- The answers of the passes.
-use Rattle.std.proofs.Common.{◌≡◌, false, sym, ap, subst, ◌∙◌, Option, Result, Some, None, option_map}
-use Rattle.std.specs.Prelude.{MatchResult}
+use Rattle.std.proofs.Common.{◌≡◌, false, sym, ap, ◌∙◌, option_map}
 use Rattle.std.specs.Result.{IsErrAnd, is_ok}
 use Rattle.std.proofs.lemmas.Bool.{true≢false}
-use Rattle.mips_asm.specs.declared.placed.Placed.{Placed}
 use Rattle.mips_asm.specs.LabelMaps.{place_in}
 use Rattle.mips_asm.specs.Passes.{Labels}
-use Rattle.mips_asm.specs.Sources.{IsPlacedFault, IsPlacedImage, bad_entry, bad_entry_of, labels_of, last_entry}
+use Rattle.mips_asm.specs.Sources.{IsPlacedFault, IsPlacedImage, bad_entry, bad_entry_of, last_entry}
 use Rattle.mips_asm.proofs.AssemblyLaws.{bad_is, entry_is_ok, err_is, range_here}
 use Rattle.mips_asm.proofs.assembly.image_of.Goals as goal
 

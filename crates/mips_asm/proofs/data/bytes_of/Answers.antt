@@ -1,5 +1,5 @@
 -- What a statement writes, by what it is.
-use Rattle.std.proofs.Common.{◌≡◌, sym, ap, ◌∙◌, arith}
+use Rattle.std.proofs.Common.{arith}
 use Rattle.mips_asm.specs.Layout.{size_of}
 use Rattle.mips_asm.proofs.data.bytes_of.Goals as goal
 

@@ -1,5 +1,5 @@
 -- A label repeats one before it where its name is known.
-use Rattle.std.proofs.Common.{◌≡◌, ℕ, Some, inr, refl, sym, ap, ◌∙◌, take, false, true}
+use Rattle.std.proofs.Common.{Some, inr, refl, sym, ap, ◌∙◌, take}
 use Rattle.asm_source.specs.declared.content.Part.{Part}
 use Rattle.mips_asm.specs.LabelMaps.{place_in}
 use Rattle.mips_asm.specs.Passes.{label_in, repeats}

@@ -1,5 +1,5 @@
 -- The names so far are known, and the labels so far repeat none.
-use Rattle.std.proofs.Common.{◌≡◌, ℕ, List, [], take, drop}
+use Rattle.std.proofs.Common.{◌≡◌, ℕ, List, take, drop}
 use Rattle.std.specs.Prelude.{is_some}
 use Rattle.std.specs.List.{list_any}
 use Rattle.asm_source.specs.declared.content.Part.{Part}

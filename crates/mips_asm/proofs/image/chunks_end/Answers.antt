@@ -1,5 +1,5 @@
 -- The end so far, with one more.
-use Rattle.std.proofs.Common.{◌≡◌, ◌≤◌, subst, sym, arith}
+use Rattle.std.proofs.Common.{subst, sym, arith}
 use Rattle.std.proofs.lemmas.List.Elements.{All-get_or}
 use Rattle.std.proofs.lemmas.Bool.Decides.{nat_tests}
 use Rattle.mips_asm.specs.Images.{FitsImage}

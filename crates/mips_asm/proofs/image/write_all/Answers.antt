@@ -1,6 +1,5 @@
 -- Each chunk is written over what stands there.
-use Rattle.std.proofs.Common.{◌≡◌, ℕ, ◌-◌, ◌≤◌, cond, get_or, sym, ap, ◌∙◌, arith}
-use Rattle.mips_asm.specs.declared.chunk.Chunk.{Chunk}
+use Rattle.std.proofs.Common.{◌-◌, ◌≤◌, cond, get_or, sym, ap, ◌∙◌, arith}
 use Rattle.mips_asm.specs.Images.{chunk_end, chunks_end, holds}
 use Rattle.mips_asm.proofs.ImageLaws.{byte_over_more, byte_over_nil, chunk_end-le}
 use Rattle.mips_asm.proofs.image.write_all.Goals as goal

@@ -1,5 +1,5 @@
 -- Each label is added.
-use Rattle.std.proofs.Common.{◌≡◌, ℕ, List, Some, cond, sym, ap, ◌∙◌}
+use Rattle.std.proofs.Common.{List, Some, cond, sym, ap, ◌∙◌}
 use Rattle.std.specs.Str.{bytes_eq}
 use Rattle.std.proofs.lemmas.List.{take_all}
 use Rattle.mips_asm.specs.declared.placed.Placed.{Placed}

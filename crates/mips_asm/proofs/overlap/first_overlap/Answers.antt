@@ -1,5 +1,5 @@
 -- Whether a statement meets one before it is whether one of its places is marked.
-use Rattle.std.proofs.Common.{◌≡◌, ℕ, ◌≤◌, ◌<◌, ◌||◌, false, Some, sym, ap, ◌∙◌, take, get_or, arith}
+use Rattle.std.proofs.Common.{◌≡◌, ◌||◌, false, Some, sym, ap, ◌∙◌, take, get_or, arith}
 use Rattle.mips_asm.specs.declared.placed.Placed.{Placed}
 use Rattle.mips_asm.specs.Layout.{covers}
 use Rattle.mips_asm.specs.Passes.{line_of, overlaps}

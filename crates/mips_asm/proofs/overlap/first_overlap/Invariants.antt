@@ -1,5 +1,5 @@
 -- The places written so far are marked, and the statements so far overlap nowhere.
-use Rattle.std.proofs.Common.{◌≡◌, ℕ, false, length, get_or, take, drop}
+use Rattle.std.proofs.Common.{◌≡◌, ℕ, false, get_or, take, drop}
 use Rattle.std.specs.List.{list_any}
 use Rattle.mips_asm.specs.declared.placed.Placed.{Placed}
 use Rattle.mips_asm.specs.Layout.{covers}

@@ -1,5 +1,5 @@
 -- Those so far are written.
-use Rattle.std.proofs.Common.{◌≡◌, ℕ, ◌≤◌, ◌<◌, ◌&&◌, ◌||◌, leb, ltb, false, get_or}
+use Rattle.std.proofs.Common.{◌≡◌, ℕ, ◌&&◌, ◌||◌, leb, ltb, false, get_or}
 use Rattle.mips_asm.proofs.overlap.mark.Given as goal
 
 abbrev pub invariant-loop-k : goal.invariant-loop-k

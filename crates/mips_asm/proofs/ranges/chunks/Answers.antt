@@ -1,5 +1,5 @@
 -- The first statement that writes no bytes, or the chunks of all.
-use Rattle.std.proofs.Common.{◌≡◌, ℕ, ◌<◌, ◌≤◌, ◌+◌, Some, inl, inr, refl, sym, ap, subst, ◌∙◌, take, length, get_or, arith}
+use Rattle.std.proofs.Common.{◌≡◌, ◌+◌, Some, inl, inr, refl, sym, subst, ◌∙◌, take}
 use Rattle.std.specs.List.{All}
 use Rattle.std.proofs.lemmas.List.Elements.{All-get_or, All-more, All-push}
 use Rattle.mips_asm.specs.declared.chunk.Chunk.{Chunk}
@@ -9,7 +9,7 @@ use Rattle.mips_asm.specs.Images.{FitsImage}
 use Rattle.mips_asm.specs.LabelMaps.{place_in}
 use Rattle.mips_asm.specs.Layout.{IsInside, IsSized}
 use Rattle.mips_asm.specs.Passes.{line_of}
-use Rattle.mips_asm.specs.Sources.{IsFirst, IsOutOfRange, Writes}
+use Rattle.mips_asm.specs.Sources.{Writes}
 use Rattle.mips_asm.proofs.RangeLaws.{Writes_here, chunk_fits, first_here, other_line, same_line}
 use Rattle.mips_asm.proofs.ranges.chunks.Goals as goal
 

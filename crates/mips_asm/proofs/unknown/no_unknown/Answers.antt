@@ -1,12 +1,10 @@
 -- What is found is the first statement with a name that no label has.
-use Rattle.std.proofs.Common.{◌≡◌, Option, option_map, inr, refl, sym, ap, ◌∙◌, rules}
+use Rattle.std.proofs.Common.{option_map, inr, refl, sym, ap, ◌∙◌, rules}
 use borrow.Author.Tests.{tests}
-use Rattle.std.specs.Prelude.{find}
 use Rattle.std.proofs.lemmas.Iterator.Search.{find_from_yields_List}
 use Rattle.std.proofs.lemmas.Iterator.{YieldsList-from_slice}
-use Rattle.mips_asm.specs.declared.placed.Placed.{Placed}
 use Rattle.mips_asm.specs.LabelMaps.{place_in}
-use Rattle.mips_asm.specs.Passes.{is_unknown, line_of, unknown_line}
+use Rattle.mips_asm.specs.Passes.{is_unknown, line_of}
 use Rattle.mips_asm.proofs.unknown.no_unknown.Goals as goal
 
 pub returns-in-Some : goal.returns-in-Some
