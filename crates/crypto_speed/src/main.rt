@@ -56,13 +56,11 @@ fn last_block(count: u64) -> [u8; 16] {
     block
 }
 
-/// The last of so many tags, each of a text of 64 bytes that begins with the one before.
+/// The last of so many tags, each of the one before, 32 bytes.
 fn last_tag(count: u64) -> [u8; 32] {
-    let mut text = [0; 64];
     let mut last = [0; 32];
     for _ in 0..count {
-        let next = tag(&KEY, &text);
-        text[..32].copy_from_slice(&next);
+        let next = tag(&KEY, &last);
         last = next;
     }
     last

@@ -29,18 +29,21 @@ const SEALED: [u8; 160] = [
     0x7c, 0x95, 0x59, 0x8c, 0xb4, 0xea, 0x7c, 0xc4, 0x55, 0x36, 0x1c, 0x3c, 0x8c, 0xd2, 0x9c, 0xf9,
 ];
 
-/// The call that seals the first program as `one.sealed`, over a name that holds other bytes.
-const SEALS: Row<'_> = Row {
-    words: &["seal", "one.img", KEY, ID, MACHINE, "one.sealed"],
-    files: &[("one.img", FIRST.as_slice()), ("one.sealed", b"before")],
-    text: "sealed 1 lines 160 bytes\n",
-    status: 0,
-};
+/// The words that seal the first program as `one.sealed`.
+const SEALS: [&str; 6] = ["seal", "one.img", KEY, ID, MACHINE, "one.sealed"];
+
+const SAYS: &str = "sealed 1 lines 160 bytes\n";
 
 #[test]
 fn a_program_is_sealed(rt: HostRuntime) -> Result<(), Fail> {
-    let left = made(rt.alloc(), &SEALS, 0)?;
-    assert_eq!(rt; left.out.bytes(), SEALS.text.as_bytes());
+    let row = Row {
+        words: SEALS.as_slice(),
+        files: &[("one.img", FIRST.as_slice()), ("one.sealed", b"before")],
+        text: SAYS,
+        status: 0,
+    };
+    let left = made(rt.alloc(), &row, 0)?;
+    assert_eq!(rt; left.out.bytes(), SAYS.as_bytes());
     assert_eq!(rt; left.status, 0);
     let sealed = held(rt.alloc(), &left, "one.sealed")?;
     assert_eq!(rt; sealed.as_deref(), Some(SEALED.as_slice()));
@@ -51,7 +54,13 @@ fn a_program_is_sealed(rt: HostRuntime) -> Result<(), Fail> {
 
 #[test]
 fn where_the_file_cannot_be_put_nothing_is_printed(rt: HostRuntime) -> Result<(), Fail> {
-    let left = made(rt.alloc(), &SEALS, 2)?;
+    let row = Row {
+        words: SEALS.as_slice(),
+        files: &[("one.img", FIRST.as_slice()), ("one.sealed", b"before")],
+        text: SAYS,
+        status: 0,
+    };
+    let left = made(rt.alloc(), &row, 2)?;
     assert_eq!(rt; left.out.bytes().len(), 0);
     assert_eq!(rt; left.status, 3);
     Ok(())
@@ -59,7 +68,13 @@ fn where_the_file_cannot_be_put_nothing_is_printed(rt: HostRuntime) -> Result<()
 
 #[test]
 fn where_the_image_cannot_be_read_no_file_is_touched(rt: HostRuntime) -> Result<(), Fail> {
-    let left = made(rt.alloc(), &SEALS, 1)?;
+    let row = Row {
+        words: SEALS.as_slice(),
+        files: &[("one.img", FIRST.as_slice()), ("one.sealed", b"before")],
+        text: SAYS,
+        status: 0,
+    };
+    let left = made(rt.alloc(), &row, 1)?;
     assert_eq!(rt; left.out.bytes(), b"xom: cannot read one.img\n".as_slice());
     assert_eq!(rt; left.status, 2);
     let sealed = held(rt.alloc(), &left, "one.sealed")?;
@@ -73,7 +88,7 @@ fn a_sink_that_fails_comes_after_the_file(rt: HostRuntime) -> Result<(), Fail> {
     hold(rt.alloc(), &mut files, "one.img", FIRST.as_slice())?;
     let mut out = MemSink::new(rt.alloc());
     out.fail(1)?;
-    let status = call(rt.alloc(), SEALS.words, &mut files, &mut out)?;
+    let status = call(rt.alloc(), SEALS.as_slice(), &mut files, &mut out)?;
     assert_eq!(rt; (out.bytes().len(), status), (0, 3));
     let name = String::from_str(rt.alloc(), "one.sealed")?;
     assert_eq!(rt; files.held(&name), Some(SEALED.as_slice()));
@@ -83,10 +98,10 @@ fn a_sink_that_fails_comes_after_the_file(rt: HostRuntime) -> Result<(), Fail> {
 #[test]
 fn a_bad_image_is_not_sealed(rt: HostRuntime) -> Result<(), Fail> {
     let row = Row {
+        words: SEALS.as_slice(),
         files: &[("one.img", &FIRST[..20]), ("one.sealed", b"before")],
         text: "xom: one.img byte 20: bad\n",
         status: 4,
-        ..SEALS
     };
     let left = made(rt.alloc(), &row, 0)?;
     assert_eq!(rt; left.out.bytes(), row.text.as_bytes());
@@ -101,9 +116,9 @@ fn keys_and_ids_off_their_digits_match_no_row(rt: HostRuntime) -> Result<(), Fai
     for (key, id) in [(KEY, "00"), (ID, ID), (KEY, KEY), ("", ID)] {
         let row = Row {
             words: &["seal", "one.img", key, id, MACHINE, "one.sealed"],
+            files: &[("one.img", FIRST.as_slice())],
             text: "xom: words\n",
             status: 1,
-            ..SEALS
         };
         assert_eq!(rt; holds(rt.alloc(), &row)?, true, "{key} {id}");
     }
