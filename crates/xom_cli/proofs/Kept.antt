@@ -49,6 +49,7 @@ module _ (words : List (List ℕ)) (before after : Outside) where
     answers = inr (inr (inr (inr (inr refl))));
     words_cause = record { only = λ e. absurd (omega arith); sure = λ _. inr refl };
     read_cause = λ e. absurd (omega arith);
+    unread = λ rises. inr refl;
     write_cause = λ e. absurd (omega arith);
     done_cause = λ d. absurd (done_not_5 d);
     defined = λ held told a b c. absurd (c refl);
@@ -70,11 +71,15 @@ module _ (words : List (List ℕ)) (before after : Outside) where
   -- ---- a text that is defined
 
   -- some first bytes of it were written
-  part_prefix : (said : List ℕ) → ((held : Held) → before.disk.held ≡ Some held → (p : Printed) × IsPrinted words held p × (p.text ≡ said)) → (put : Result (Unit {0}) SinkFault) → Took before.output after.output said put → WritesPrefix words before after
+  part_prefix : (said : List ℕ) → ((held : Held) → before.disk.held ≡ Some held → (p : Printed) × IsPrinted words held p × WritesFile before.disk after.disk p.file × (p.text ≡ said)) → (put : Result (Unit {0}) SinkFault) → Took before.output after.output said put → WritesPrefix words before after
   part_prefix said is put takes held told =
       let p = is held told in
       let part = takes-prefix _ _ said _ _ put takes in
-      inr (inl (p.0, p.1, (part.0, subst (λ text. Appends before.output.written after.output.written (take part.0 text)) (sym p.2) part.1)))
+      inr (inl (p.0, p.1, p.2, (part.0, subst (λ text. Appends before.output.written after.output.written (take part.0 text)) (sym p.3) part.1)))
+
+  -- no file was written
+  no_file : after.disk ≡ before.disk → after.disk.held ≡ before.disk.held
+  no_file same = ap (λ (d : Disk). d.held) same
 
   -- where no count rose it was put whole
   whole_put : (said : List ℕ) (put : Result (Unit {0}) SinkFault) → Took before.output after.output said put → put ≢ Err sink_fault.NoMemory → ¬ FailsWriting before after → Appends before.output.written after.output.written said
@@ -88,30 +93,31 @@ module _ (words : List (List ℕ)) (before after : Outside) where
     unfolding IsPrinted
     words_printed held = subst (λ o. IsPrintedBy o held printed_words) (sym none) refl
 
-    words_prefix : (put : Result (Unit {0}) SinkFault) → Took before.output after.output words_line put → WritesPrefix words before after
-    words_prefix put takes = part_prefix words_line (λ held told. (printed_words, words_printed held, refl)) put takes
+    words_prefix : after.disk ≡ before.disk → (put : Result (Unit {0}) SinkFault) → Took before.output after.output words_line put → WritesPrefix words before after
+    words_prefix same put takes = part_prefix words_line (λ held told. (printed_words, words_printed held, no_file same, refl)) put takes
 
-    words_said : after.disk ≡ before.disk → (put : Result (Unit {0}) SinkFault) → put ≢ Err sink_fault.NoMemory → Took before.output after.output words_line put → Promises words before after 1
-    words_said same put found takes = record {
+    words_said : after.disk ≡ before.disk → after.reads ≡ before.reads → (put : Result (Unit {0}) SinkFault) → put ≢ Err sink_fault.NoMemory → Took before.output after.output words_line put → Promises words before after 1
+    words_said same stays put found takes = record {
       answers = inr (inl refl);
       words_cause = record { only = λ _. none; sure = λ _. inl refl };
       read_cause = λ e. absurd (omega arith);
+      unread = λ rises. absurd (omega arith);
       write_cause = λ e. absurd (omega arith);
       done_cause = λ d. absurd (done_not_1 d);
       defined = λ held told a b c. (printed_words, words_printed held, refl);
       sure = λ held told stays. inr (printed_words, words_printed held, inl refl);
       all = λ held told stays calm _. (printed_words, words_printed held, whole_put words_line put takes found calm, ap (λ (d : Disk). d.held) same);
-      prefix = words_prefix put takes;
+      prefix = words_prefix same put takes;
       changes = same_changes same;
       keeps = λ _. same;
       unprinted = same_printing same;
       headline = λ held told run row d. absurd (done_not_1 d);
     }
 
-    words_end : after.disk ≡ before.disk → (put : Result (Unit {0}) SinkFault) → Took before.output after.output words_line put → Promises words before after (status_of (ended ending.NoRow ending.NoRow put))
-    words_end same (Ok done) takes = words_said same (Ok done) (λ e. absurd (cc)) takes
-    words_end same (Err sink_fault.Failed) takes = words_said same (Err sink_fault.Failed) (λ e. absurd (cc)) takes
-    words_end same (Err sink_fault.NoMemory) takes = no_memory (words_prefix (Err sink_fault.NoMemory) takes) (same_changes same) (same_printing same)
+    words_end : after.disk ≡ before.disk → after.reads ≡ before.reads → (put : Result (Unit {0}) SinkFault) → Took before.output after.output words_line put → Promises words before after (status_of (ended ending.NoRow ending.NoRow put))
+    words_end same stays (Ok done) takes = words_said same stays (Ok done) (λ e. absurd (cc)) takes
+    words_end same stays (Err sink_fault.Failed) takes = words_said same stays (Err sink_fault.Failed) (λ e. absurd (cc)) takes
+    words_end same stays (Err sink_fault.NoMemory) takes = no_memory (words_prefix same (Err sink_fault.NoMemory) takes) (same_changes same) (same_printing same)
 
   -- ---- words of a row
   module _ (row : Row) (is_row : row_of words ≡ Some row) where
@@ -130,8 +136,8 @@ module _ (words : List (List ℕ)) (before after : Outside) where
       answer_printed : (held : Held) → before.disk.held ≡ Some held → IsPrinted words held (printed (Ok answer))
       answer_printed held told = row_printed held (Ok answer) (wanted held told)
 
-      answer_prefix : (put : Result (Unit {0}) SinkFault) → Took before.output after.output answer.text put → WritesPrefix words before after
-      answer_prefix put takes = part_prefix answer.text (λ held told. (printed (Ok answer), answer_printed held told, refl)) put takes
+      answer_prefix : (u : Unit {0}) → PutsFile before.disk after.disk answer.file (Ok u) → (put : Result (Unit {0}) SinkFault) → Took before.output after.output answer.text put → WritesPrefix words before after
+      answer_prefix u puts put takes = part_prefix answer.text (λ held told. (printed (Ok answer), answer_printed held told, puts-file before.disk after.disk answer.file u puts, refl)) put takes
 
       answer_changes : (put : Result (Unit {0}) FileFault) → PutsFile before.disk after.disk answer.file put → ChangesOnly words before after
       answer_changes put puts =
@@ -152,12 +158,13 @@ module _ (words : List (List ℕ)) (before after : Outside) where
         answers = inl done;
         words_cause = record { only = λ e. absurd (done_not_1 (subst IsDone e done)); sure = λ none. absurd (has_row none) };
         read_cause = λ e. absurd (done_not_2 (subst IsDone e done));
+        unread = λ rises. absurd (omega arith);
         write_cause = λ e. absurd (done_not_3 (subst IsDone e done));
         done_cause = λ _. (stays, puts-count before.disk after.disk answer.file u puts, takes.0);
         defined = λ held told a b c. (printed (Ok answer), answer_printed held told, refl);
         sure = λ held told _. inr (printed (Ok answer), answer_printed held told, inl refl);
         all = λ held told _ calm found. (printed (Ok answer), answer_printed held told, takes.1, puts-file before.disk after.disk answer.file u puts);
-        prefix = answer_prefix (Ok v) takes;
+        prefix = answer_prefix u puts (Ok v) takes;
         changes = answer_changes (Ok u) puts;
         keeps = λ one. absurd (elim one [ inl e ↦ done_not_1 (subst IsDone e done) | inr other ↦ elim other [ inl e ↦ done_not_2 (subst IsDone e done) | inr e ↦ done_not_4 (subst IsDone e done) ] ]);
         unprinted = λ rises. absurd (let is : after.disk.writes ≡ before.disk.writes = puts-count before.disk after.disk answer.file u puts in omega arith);
@@ -170,6 +177,7 @@ module _ (words : List (List ℕ)) (before after : Outside) where
         answers = inr (inr (inr (inl refl)));
         words_cause = record { only = λ e. absurd (omega arith); sure = λ none. absurd (has_row none) };
         read_cause = λ e. absurd (omega arith);
+        unread = λ rises. absurd (omega arith);
         write_cause = λ _. fails;
         done_cause = λ d. absurd (done_not_3 d);
         defined = λ held told a b c. absurd (b refl);
@@ -187,8 +195,8 @@ module _ (words : List (List ℕ)) (before after : Outside) where
 
       text_end : (u : Unit {0}) → PutsFile before.disk after.disk answer.file (Ok u) → (put : Result (Unit {0}) SinkFault) → Took before.output after.output answer.text put → Promises words before after (status_of (ended (ending.Done answer.status) ending.WriteFault put))
       text_end u puts (Ok v) takes = delivered u puts v takes
-      text_end u puts (Err sink_fault.Failed) takes = broken (inl takes.2) (answer_prefix (Err sink_fault.Failed) takes) (answer_changes (Ok u) puts) (uncounted (puts-count before.disk after.disk answer.file u puts))
-      text_end u puts (Err sink_fault.NoMemory) takes = no_memory (answer_prefix (Err sink_fault.NoMemory) takes) (answer_changes (Ok u) puts) (uncounted (puts-count before.disk after.disk answer.file u puts))
+      text_end u puts (Err sink_fault.Failed) takes = broken (inl takes.2) (answer_prefix u puts (Err sink_fault.Failed) takes) (answer_changes (Ok u) puts) (uncounted (puts-count before.disk after.disk answer.file u puts))
+      text_end u puts (Err sink_fault.NoMemory) takes = no_memory (answer_prefix u puts (Err sink_fault.NoMemory) takes) (answer_changes (Ok u) puts) (uncounted (puts-count before.disk after.disk answer.file u puts))
 
       answer_end : (put : Result (Unit {0}) FileFault) (result : Ending) → PutsFile before.disk after.disk answer.file put → PrintsBehind before.output after.output answer put result → Promises words before after (status_of result)
       answer_end (Ok u) result puts prints = subst (λ e. Promises words before after (status_of e)) (sym prints.2) (text_end u puts prints.0 prints.1)
@@ -206,13 +214,14 @@ module _ (words : List (List ℕ)) (before after : Outside) where
       bad_printed held told = row_printed held (Err refusal) (wanted held told)
 
       bad_prefix : (put : Result (Unit {0}) SinkFault) → Took before.output after.output (line_of refusal) put → WritesPrefix words before after
-      bad_prefix put takes = part_prefix (line_of refusal) (λ held told. (printed (Err refusal), bad_printed held told, refl)) put takes
+      bad_prefix put takes = part_prefix (line_of refusal) (λ held told. (printed (Err refusal), bad_printed held told, no_file same, refl)) put takes
 
       bad_said : (put : Result (Unit {0}) SinkFault) → put ≢ Err sink_fault.NoMemory → Took before.output after.output (line_of refusal) put → Promises words before after 4
       bad_said put found takes = record {
         answers = inr (inr (inr (inr (inl refl))));
         words_cause = record { only = λ e. absurd (omega arith); sure = λ none. absurd (has_row none) };
         read_cause = λ e. absurd (omega arith);
+        unread = λ rises. absurd (omega arith);
         write_cause = λ e. absurd (omega arith);
         done_cause = λ d. absurd (done_not_4 d);
         defined = λ held told a b c. (printed (Err refusal), bad_printed held told, bad);
@@ -252,7 +261,7 @@ module _ (words : List (List ℕ)) (before after : Outside) where
           let part = takes-prefix _ _ (line_of (Unread name)) _ _ put takes in
           elim cause [
             | inl rises ↦ inr (inr (rises, (name, (part.0, part.1))))
-            | inr lacks ↦ inr (inl (printed (Err (Unread name)), row_printed held (Err (Unread name)) (told-lacks before.disk.held held told lacks), (part.0, part.1)))
+            | inr lacks ↦ inr (inl (printed (Err (Unread name)), row_printed held (Err (Unread name)) (told-lacks before.disk.held held told lacks), no_file same, (part.0, part.1)))
           ]
 
       unread_said : (put : Result (Unit {0}) SinkFault) → put ≢ Err sink_fault.NoMemory → Took before.output after.output (line_of (Unread name)) put → Promises words before after 2
@@ -260,6 +269,7 @@ module _ (words : List (List ℕ)) (before after : Outside) where
         answers = inr (inr (inl refl));
         words_cause = record { only = λ e. absurd (omega arith); sure = λ none. absurd (has_row none) };
         read_cause = λ _. elim cause [ inl rises ↦ inl rises | inr lacks ↦ inr (lacks-file before.disk.held lacks) ];
+        unread = λ rises. inl refl;
         write_cause = λ e. absurd (omega arith);
         done_cause = λ d. absurd (done_not_2 d);
         defined = λ held told a b c. absurd (a refl);
@@ -292,7 +302,7 @@ module _ (words : List (List ℕ)) (before after : Outside) where
 
   -- ---- every call
   any_end : (at : Option Row) → row_of words ≡ at → (result : Ending) → MatchOption at (EndsWords before after result) (λ row. EndsRow before after row result) → Promises words before after (status_of result)
-  any_end None is result ends = subst (λ e. Promises words before after (status_of e)) (sym ends.2.2) (words_end is ends.0 ends.2.0 ends.2.1)
+  any_end None is result ends = subst (λ e. Promises words before after (status_of e)) (sym ends.2.2) (words_end is ends.0 ends.1 ends.2.0 ends.2.1)
   any_end (Some row) is result ends = row_end row is ends.0 ends.1 result ends.2
 
   pub promises_kept : (result : Ending) → Ends words before after result → Promises words before after (status_of result)

@@ -4,6 +4,7 @@ pub mod Told
 pub mod Traced
 pub mod Headline
 pub mod Statuses
+pub mod Assembled
 pub mod Unread
 pub mod Targets
 pub mod Delivered

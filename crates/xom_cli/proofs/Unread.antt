@@ -8,9 +8,8 @@ use Rattle.xom_cli.specs.declared.refusal.InputFault.{InputFault}
 use Rattle.xom_cli.specs.declared.refusal.InputFault.TheVariants.{TooLong}
 use Rattle.xom_cli.specs.declared.refusal.Refusal.{Refusal}
 use Rattle.xom_cli.specs.declared.refusal.Refusal.TheVariants.{Unread, Bad}
-use Rattle.mips_asm.specs.declared.fault.AsmFault.{AsmFault}
-use Rattle.mips_asm.specs.declared.fault.AsmFault.TheVariants as asm_fault
-use Rattle.xom_cli.specs.Assembly.{Assembles, AssemblesRead, said_of}
+use Rattle.xom_cli.specs.Assembly.{Assembles, AssemblesRead}
+use Rattle.xom_cli.proofs.Assembled.{said-unread}
 use Rattle.xom_cli.specs.Inputs.{◌>>=◌, Held, fetched, fetched_bytes, image_of, in_file, input_of, received_of, run_file_of, script_of, source_limit}
 use Rattle.xom_cli.specs.Outcome.{IsOutcome}
 use Rattle.xom_cli.specs.Programs.{disasm_of, plain_of, seal_of, values_of}
@@ -60,15 +59,6 @@ received-unread held n name is = input-unread _ _ held n name is
 values-unread : (held : Held) (received : Option (List ℕ)) (name : List ℕ) → values_of held received ≡ Err (Unread name) → held name ≡ None
 values-unread held None name is = absurd (cc)
 values-unread held (Some n) name is = received-unread held n name is
-
-said-unread : (source name : List ℕ) (fault : AsmFault) → said_of source fault ≡ Some (Unread name) → ⊥
-said-unread source name (asm_fault.Syntax line) is = cc
-said-unread source name (asm_fault.Duplicate line) is = cc
-said-unread source name (asm_fault.TooLong line) is = cc
-said-unread source name (asm_fault.Overlap line) is = cc
-said-unread source name (asm_fault.UnknownName line) is = cc
-said-unread source name (asm_fault.Range line) is = cc
-said-unread source name asm_fault.NoMemory is = cc
 
 asm_read-unread : (source target : List ℕ) (read : Result (List ℕ) Refusal) (name : List ℕ) → AssemblesRead source target read (Err (Unread name)) → read ≡ Err (Unread name)
 asm_read-unread source target (Ok text) name is = absurd (said-unread source name is.0 is.2)

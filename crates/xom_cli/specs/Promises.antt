@@ -26,6 +26,10 @@ abbrev pub ReadCause : List (List ℕ) → Outside → Outside → ℕ → Type 
 ReadCause words before after status =
     status ≡ 2 → Rises before.reads after.reads ⊎ IsSomeAnd before.disk.held (λ held. (name : List ℕ) × (held name ≡ None) × IsPrinted words held (printed (Err (Unread name))))
 
+-- where the count of reads rose, that is answered, unless memory ran out
+abbrev pub IsUnread : Outside → Outside → ℕ → Type 0
+IsUnread before after status = before.reads < after.reads → (status ≡ 2) ⊎ (status ≡ 5)
+
 -- the sink's count rose, or that of writes
 abbrev pub FailsWriting : Outside → Outside → Type 0
 FailsWriting before after = Rises before.output.faults after.output.faults ⊎ Rises before.disk.writes after.disk.writes
@@ -62,11 +66,12 @@ WritesAll words before after status = (held : Held) → before.disk.held ≡ Som
 abbrev pub WritesFirst : Outside → Outside → ℕ → List ℕ → Type 0
 WritesFirst before after n text = Appends before.output.written after.output.written (take n text)
 
--- always some first bytes of the defined text were written, or none; where a read failed, of the line that says so
+-- Always some first bytes of the defined text were written, or none; where a read failed, of the line that says so.
+-- Where any were, the file is there.
 abbrev pub WritesPrefix : List (List ℕ) → Outside → Outside → Type 0
 WritesPrefix words before after = (held : Held) → before.disk.held ≡ Some held
     → (after.output.written ≡ before.output.written)
-    ⊎ ((p : Printed) × IsPrinted words held p × ((n : ℕ) × WritesFirst before after n p.text))
+    ⊎ ((p : Printed) × IsPrinted words held p × WritesFile before.disk after.disk p.file × ((n : ℕ) × WritesFirst before after n p.text))
     ⊎ (Rises before.reads after.reads × ((name : List ℕ) × ((n : ℕ) × WritesFirst before after n (line_of (Unread name)))))
 
 -- the file that the words name to be written
@@ -95,6 +100,7 @@ pub record Promises (words : List (List ℕ)) (before after : Outside) (status :
   pub answers : IsStatus status
   pub words_cause : WordsCause words status
   pub read_cause : ReadCause words before after status
+  pub unread : IsUnread before after status
   pub write_cause : WriteCause before after status
   pub done_cause : DoneCause before after status
   pub defined : IsDefined words before status

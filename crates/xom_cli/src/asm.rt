@@ -10,7 +10,7 @@ use crate::reading::{bad, source as read_source};
 use crate::refusal::{InputFault, SourceFault, Stop};
 use mips_asm::{AsmFault, assemble};
 use std::alloc::Global;
-use text_pieces::{push_bytes, push_hex8};
+use text_pieces::{push_bytes, push_decimal, push_hex8};
 use xom_base::{ByteList, NoMemory, PlainImage};
 use xom_image::write_plain;
 use xom_io::Files;
@@ -61,16 +61,18 @@ fn image_answer(alloc: Global, image: &PlainImage, name: &String) -> Result<Answ
     ensures { IfOk result (λ answer. answer ≡ image_answer_of image.now (string_bytes name.now)) }
 {
     let bytes = write_plain(alloc, image)?;
-    let text = image_text(alloc, image.bytes.len(), image.entry)?;
+    let text = image_text(alloc, image.bytes.len() as u32, image.entry)?;
     Ok(Answer::of_file(text, Name::new(name.clone()?), bytes))
 }
 
 /// How many bytes an image has, and its entry.
-fn image_text(alloc: Global, size: usize, entry: u32) -> Result<ByteList, NoMemory>
+fn image_text(alloc: Global, size: u32, entry: u32) -> Result<ByteList, NoMemory>
     ensures { IfOk result (λ text. text ≡ image_text_of size entry) }
 {
-    let front = format!(in alloc; "image {size} bytes entry ")?;
-    let mut text = front.into_bytes();
+    let mut text = Vec::new(alloc);
+    push_bytes(&mut text, b"image ")?;
+    push_decimal(&mut text, size)?;
+    push_bytes(&mut text, b" bytes entry ")?;
     push_hex8(&mut text, entry)?;
     push_bytes(&mut text, b"\n")?;
     Ok(ByteList::from_vec(text))
