@@ -7,3 +7,4 @@ pub mod LabelLaws
 pub mod OverlapLaws
 pub mod RangeLaws
 pub mod AssemblyLaws
+pub mod OnlyLaws

@@ -1,5 +1,5 @@
 -- The bytes of an image, from the bytes that the statements write.
-use Rattle.std.specs.Prelude.{◌≡◌, ℕ, ◌+◌, ◌-◌, ◌<◌, ◌≤◌, ◌&&◌, nat_le, nat_lt, Bool, if◌then◌else◌, List, [], ◌∷◌, length, max, slice_get, slice_index, Some, IsTrue}
+use Rattle.std.specs.Prelude.{◌≡◌, ℕ, ◌+◌, ◌-◌, ◌<◌, ◌≤◌, ◌&&◌, nat_le, nat_lt, Bool, if◌then◌else◌, List, [], ◌∷◌, length, max, slice_index}
 use Rattle.mips_asm.specs.Layout.{limit}
 use Rattle.mips_asm.specs.declared.chunk.Chunk.{Chunk}
 
@@ -19,15 +19,6 @@ chunks_end (chunk ∷ more) = max (chunk_end chunk) (chunks_end more)
 -- all its bytes are within the limit
 abbrev pub FitsImage : Chunk → Type 0
 FitsImage chunk = 0 < length chunk.bytes → chunk.place + length chunk.bytes ≤ limit
-
--- These are the bytes from 0 to the last written place: each chunk's bytes stand at its place, and where
--- no chunk's do stand zeros.
-pub record IsImage (chunks : List Chunk) (bytes : List ℕ) : Type 0 where
-  pub whole : length bytes ≡ chunks_end chunks
-  pub written : (i : ℕ) (chunk : Chunk) → slice_get chunks i ≡ Some chunk → (k : ℕ) → k < length chunk.bytes → slice_index bytes (chunk.place + k) ≡ slice_index chunk.bytes k
-  pub gaps : (k : ℕ) → ((i : ℕ) (chunk : Chunk) → slice_get chunks i ≡ Some chunk → ¬ IsTrue (holds chunk k)) → slice_index bytes k ≡ 0
-
--- ---- the same byte by byte, as the chunks are written one after another
 
 -- what stands at a place where this byte stood, once the chunks are written
 unfoldable pub byte_over : ℕ → List Chunk → ℕ → ℕ

@@ -1,4 +1,5 @@
-ghost use Rattle.std.specs.Prelude.{◌≡◌, All, MatchResult};
+ghost use Rattle.xom_base.specs.declared.image.PlainImage.{PlainImage};
+ghost use Rattle.std.specs.Prelude.{◌⊎◌, Err, IfErr, IfOk, Ok, ◌≡◌, All, MatchResult};
 ghost use Rattle.mips_asm.specs.Layout.{IsInside, IsSized};
 ghost use Rattle.mips_asm.specs.Sources.{IsFaultOf, IsImageOf, IsPlacedFault, IsPlacedImage};
 
@@ -19,6 +20,17 @@ use xom_base::{PlainImage, TextFault};
 /// Assembles a source: the image that it stands for, or the fault of the first kind that occurs in it.
 /// It costs time linear in the text and the image, beside the ordered map of the labels.
 pub fn assemble(alloc: Global, text: &[u8]) -> Result<PlainImage, AsmFault>
+    // What is answered is the image of the source.
+    ensures found { IfOk result (IsImageOf text.now) }
+    // A source that has an image is answered by it, unless memory runs out.
+    ensures only { (image : PlainImage) → IsImageOf text.now image → (result ≡ Ok image) ⊎ (result ≡ Err AsmFault.NoMemory) }
+    // A fault is the least line of its kind, and no kind before it occurs.
+    ensures fault { IfErr result (IsFaultOf text.now) }
+{
+    assembled(alloc, text)
+}
+
+fn assembled(alloc: Global, text: &[u8]) -> Result<PlainImage, AsmFault>
     ensures { MatchResult result (IsImageOf text.now) (IsFaultOf text.now) }
 {
     let parts = match read_source(alloc, text) {
