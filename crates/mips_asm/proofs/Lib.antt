@@ -8,3 +8,7 @@ pub mod OverlapLaws
 pub mod RangeLaws
 pub mod AssemblyLaws
 pub mod OnlyLaws
+pub mod SameImages
+pub mod SameFaults
+pub mod ImageOrFaultLaws
+pub mod OneOutcome

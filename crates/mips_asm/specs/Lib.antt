@@ -4,3 +4,4 @@ pub mod Encoding
 pub mod Images
 pub mod Sources
 pub mod LabelMaps
+pub mod Laws

@@ -15,6 +15,7 @@ mod fields;
 mod image;
 mod instructions;
 mod labels;
+mod law;
 mod layout;
 mod naming;
 mod overlap;
@@ -26,3 +27,4 @@ mod unknown;
 
 pub use assembly::assemble;
 pub use fault::AsmFault;
+pub use law::sources_have_one_outcome;

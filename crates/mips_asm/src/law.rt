@@ -1,0 +1,10 @@
+ghost use Rattle.mips_asm.specs.Laws.{ImageOrFault, OneFault, OneImage};
+
+/// A law and no code: a source has one outcome. Two images of it are the same, entry and bytes; where it
+/// has an image, it has no fault but want of memory; and two faults of it are the same, kind and line,
+/// but for want of memory.
+pub fn sources_have_one_outcome()
+    ensures image { OneImage }
+    ensures image_or_fault { ImageOrFault }
+    ensures fault { OneFault }
+{}
