@@ -113,8 +113,8 @@ placed_no_fault placed image (Range n) is bad =
     let first = bad.2 in
     elim first.bad [
       | inl nothing ↦
-        let some = writes_at (labels_of placed) first.before first.first first.after is.chunks (subst (λ (p : List Placed). Writes (labels_of placed) p is.chunks) first.whole is.writes) in
-        absurd (nothing some.0 some.1)
+          let some = writes_at (labels_of placed) first.before first.first first.after is.chunks (subst (λ (p : List Placed). Writes (labels_of placed) p is.chunks) first.whole is.writes) in
+          absurd (nothing some.0 some.1)
       | inr entry ↦ absurd (none-some (line_of first.first) (sym (good_entry (labels_of placed) (last_entry placed) image.entry is.entry) ∙ entry))
     ]
 placed_no_fault placed image NoMemory is bad = refl
