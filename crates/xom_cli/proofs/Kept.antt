@@ -49,7 +49,7 @@ module _ (words : List (List ℕ)) (before after : Outside) where
     answers = inr (inr (inr (inr (inr refl))));
     words_cause = record { only = λ e. absurd (omega arith); sure = λ _. inr refl };
     read_cause = λ e. absurd (omega arith);
-    unread = λ rises. inr refl;
+    unread = λ rises. inl refl;
     write_cause = λ e. absurd (omega arith);
     done_cause = λ d. absurd (done_not_5 d);
     defined = λ held told a b c. absurd (c refl);
@@ -82,9 +82,9 @@ module _ (words : List (List ℕ)) (before after : Outside) where
   no_file same = ap (λ (d : Disk). d.held) same
 
   -- where no count rose it was put whole
-  whole_put : (said : List ℕ) (put : Result (Unit {0}) SinkFault) → Took before.output after.output said put → put ≢ Err sink_fault.NoMemory → ¬ FailsWriting before after → Appends before.output.written after.output.written said
+  whole_put : (said : List ℕ) (put : Result (Unit {0}) SinkFault) → Took before.output after.output said put → put ≢ Err sink_fault.NoMemory → ¬ Rises before.output.faults after.output.faults → Appends before.output.written after.output.written said
   whole_put said (Ok done) takes found calm = takes.1
-  whole_put said (Err sink_fault.Failed) takes found calm = absurd (calm (inl takes.2))
+  whole_put said (Err sink_fault.Failed) takes found calm = absurd (calm takes.2)
   whole_put said (Err sink_fault.NoMemory) takes found calm = absurd (found refl)
 
   -- ---- words that match no row
@@ -106,7 +106,7 @@ module _ (words : List (List ℕ)) (before after : Outside) where
       done_cause = λ d. absurd (done_not_1 d);
       defined = λ held told a b c. (printed_words, words_printed held, refl);
       sure = λ held told stays. inr (printed_words, words_printed held, inl refl);
-      all = λ held told stays calm _. (printed_words, words_printed held, whole_put words_line put takes found calm, ap (λ (d : Disk). d.held) same);
+      all = λ held told stays calm _. (printed_words, words_printed held, whole_put words_line put takes found (λ rises. calm (inl rises)), ap (λ (d : Disk). d.held) same);
       prefix = words_prefix same put takes;
       changes = same_changes same;
       keeps = λ _. same;
@@ -226,7 +226,7 @@ module _ (words : List (List ℕ)) (before after : Outside) where
         done_cause = λ d. absurd (done_not_4 d);
         defined = λ held told a b c. (printed (Err refusal), bad_printed held told, bad);
         sure = λ held told _. inr (printed (Err refusal), bad_printed held told, inl (sym bad));
-        all = λ held told _ calm _. (printed (Err refusal), bad_printed held told, whole_put (line_of refusal) put takes found calm, ap (λ (d : Disk). d.held) same);
+        all = λ held told _ calm _. (printed (Err refusal), bad_printed held told, whole_put (line_of refusal) put takes found (λ rises. calm (inl rises)), ap (λ (d : Disk). d.held) same);
         prefix = bad_prefix put takes;
         changes = same_changes same;
         keeps = λ _. same;
@@ -269,12 +269,12 @@ module _ (words : List (List ℕ)) (before after : Outside) where
         answers = inr (inr (inl refl));
         words_cause = record { only = λ e. absurd (omega arith); sure = λ none. absurd (has_row none) };
         read_cause = λ _. elim cause [ inl rises ↦ inl rises | inr lacks ↦ inr (lacks-file before.disk.held lacks) ];
-        unread = λ rises. inl refl;
+        unread = λ rises. inr (refl, λ calm. (name, whole_put (line_of (Unread name)) put takes found calm));
         write_cause = λ e. absurd (omega arith);
         done_cause = λ d. absurd (done_not_2 d);
         defined = λ held told a b c. absurd (a refl);
         sure = λ held told stays. inr (printed (Err (Unread name)), unread_printed held told stays, inl refl);
-        all = λ held told stays calm _. (printed (Err (Unread name)), unread_printed held told stays, whole_put (line_of (Unread name)) put takes found calm, ap (λ (d : Disk). d.held) same);
+        all = λ held told stays calm _. (printed (Err (Unread name)), unread_printed held told stays, whole_put (line_of (Unread name)) put takes found (λ rises. calm (inl rises)), ap (λ (d : Disk). d.held) same);
         prefix = unread_prefix put takes;
         changes = same_changes same;
         keeps = λ _. same;

@@ -9,3 +9,4 @@ pub mod Outcome
 pub mod Endings
 pub mod Readings
 pub mod Promises
+pub mod Laws

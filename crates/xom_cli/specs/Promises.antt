@@ -26,9 +26,14 @@ abbrev pub ReadCause : List (List ℕ) → Outside → Outside → ℕ → Type 
 ReadCause words before after status =
     status ≡ 2 → Rises before.reads after.reads ⊎ IsSomeAnd before.disk.held (λ held. (name : List ℕ) × (held name ≡ None) × IsPrinted words held (printed (Err (Unread name))))
 
--- where the count of reads rose, that is answered, unless memory ran out
+-- the line that says of a file of some name that it can't be read was written
+abbrev pub SaysUnread : Outside → Outside → Type 0
+SaysUnread before after = (name : List ℕ) × Appends before.output.written after.output.written (line_of (Unread name))
+
+-- where the count of reads rose, that is answered and said, unless memory ran out; the sink may fail in the line
 abbrev pub IsUnread : Outside → Outside → ℕ → Type 0
-IsUnread before after status = before.reads < after.reads → (status ≡ 2) ⊎ (status ≡ 5)
+IsUnread before after status = before.reads < after.reads
+    → (status ≡ 5) ⊎ ((status ≡ 2) × (¬ Rises before.output.faults after.output.faults → SaysUnread before after))
 
 -- the sink's count rose, or that of writes
 abbrev pub FailsWriting : Outside → Outside → Type 0

@@ -11,6 +11,7 @@ mod asm;
 mod delivery;
 mod disasm;
 mod ending;
+mod law;
 mod plain;
 mod reading;
 mod refusal;
@@ -20,4 +21,5 @@ mod top;
 mod trace;
 
 pub use answer::{Answer, OutputFile};
+pub use law::words_have_one_outcome;
 pub use top::xom_main;
