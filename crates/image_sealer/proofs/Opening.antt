@@ -1,5 +1,5 @@
 -- What an owner sealed for a machine opens there.
-use Rattle.std.proofs.Common.{◌≡◌, ℕ, ◌+◌, ◌*◌, ◌/◌, ◌-◌, ◌^◌, ◌<◌, ◌≤◌, true, false, inl, inr, List, [], ◌∷◌, ◌++◌, Option, Some, None, if◌then◌else◌, drop, length, map, min, refl, replicate, sym, take, ◌∙◌, ap, arith, length-append}
+use Rattle.std.proofs.Common.{◌≡◌, ℕ, ◌+◌, ◌*◌, ◌-◌, ◌^◌, ◌<◌, ◌≤◌, inl, inr, List, [], ◌∷◌, ◌++◌, Some, None, if◌then◌else◌, drop, length, map, min, refl, replicate, sym, take, ◌∙◌, ap, arith, length-append}
 use Rattle.std.specs.Prelude.{slice_get}
 use Rattle.std.specs.List.{range_with_len}
 use Rattle.std.specs.Str.{bytes_eq}
@@ -11,21 +11,19 @@ use Rattle.std.proofs.lemmas.List.FromFn.{length-map-range_with_len, map-range_w
 use Rattle.keyed_mac.specs.Hmac.{hmac_sha256}
 use Rattle.xom_base.specs.Padded.{filled}
 use Rattle.xom_base.specs.declared.key.Key256.{Key256}
-use Rattle.xom_seal.specs.declared.envelope.Unwrapped.{Unwrapped}
 use Rattle.xom_seal.specs.declared.line.SealedLine.{SealedLine}
 use Rattle.xom_seal.specs.declared.names.LineName.TheVariants.{Image}
-use Rattle.xom_seal.specs.Envelopes.{contents_of as contents_in, entry_in, envelope_tag, lines_in, tag_in, unwrapped, wrapped}
+use Rattle.xom_seal.specs.Envelopes.{contents_of as contents_in, envelope_tag, tag_in, unwrapped}
 use Rattle.xom_seal.specs.Keys.{image_keys}
-use Rattle.xom_seal.specs.Laws.{IsUnwrapped, Shows}
+use Rattle.xom_seal.specs.Laws.{IsUnwrapped}
 use Rattle.xom_seal.specs.Messages.{envelope_message}
 use Rattle.xom_seal.specs.Sealing.{line_tag, sealed_line, unsealed_line}
 use Rattle.xom_seal.proofs.EnvelopeLaws.{envelopes_open as wrapped_open}
 use Rattle.xom_seal.proofs.SealLaws.{lines_open as sealed_lines_open, sealed_lines_have_their_length}
-use Rattle.xom_image.specs.declared.sealed_image.SealedImage.{SealedImage}
 use Rattle.xom_image.proofs.LineBytes.{AreWhole, get-made}
 use Rattle.image_sealer.specs.declared.owner.Owner.{Owner}
 use Rattle.image_sealer.specs.Laws.{EnvelopesOpen, IsOwner, LinesOpen, TagsAreOfTheSealing}
-use Rattle.image_sealer.specs.Sealing.{IsSealedFor, contents_of, envelope_of, line_count, line_of, line_sealing_of, lines_of, sealed_line_of, sealed_lines_of, sealing_of}
+use Rattle.image_sealer.specs.Sealing.{contents_of, envelope_of, line_count, line_of, line_sealing_of, sealed_line_of, sealed_lines_of, sealing_of}
 
 -- ---- Lines
 

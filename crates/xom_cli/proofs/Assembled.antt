@@ -1,10 +1,9 @@
 -- What is answered of the text of a source is what its name comes to.
-use Rattle.std.proofs.Common.{◌≡◌, ℕ, ◌≤◌, List, Option, Some, None, Result, Ok, Err, refl, sym, subst, arith}
+use Rattle.std.proofs.Common.{◌≡◌, ℕ, List, Some, Result, Ok, Err, sym, subst, arith}
 use Rattle.xom_io.specs.Answers.{Told}
 use Rattle.mips_asm.specs.declared.fault.AsmFault.{AsmFault}
 use Rattle.mips_asm.specs.declared.fault.AsmFault.TheVariants as asm_fault
 use Rattle.xom_cli.specs.declared.answer.Answer.{Answer}
-use Rattle.xom_cli.specs.declared.refusal.InputFault.{InputFault}
 use Rattle.xom_cli.specs.declared.refusal.Refusal.{Refusal}
 use Rattle.xom_cli.specs.declared.refusal.Refusal.TheVariants.{Unread, Bad}
 use Rattle.xom_cli.specs.declared.refusal.Stop.{Stop}

@@ -1,15 +1,15 @@
 -- What a call left in the files and in the sink.
-use Rattle.std.proofs.Common.{◌≡◌, ◌≢◌, ◌⊎◌, inl, inr, ℕ, ◌<◌, List, [], ◌++◌, Option, Some, None, Result, Ok, Err, length, take, refl, sym, ◌∙◌, ap, subst, arith, append-nil, option_map}
-use Rattle.std.specs.Prelude.{MatchOption, option_and_then}
+use Rattle.std.proofs.Common.{◌≡◌, ◌≢◌, inl, inr, ℕ, ◌<◌, List, Option, Some, None, Result, Ok, Err, length, take, refl, sym, ap, subst, arith}
+use Rattle.std.specs.Prelude.{MatchOption}
 use Rattle.std.proofs.Math.Seq.{take-length}
 use Rattle.xom_io.specs.declared.files.FileFault.{FileFault}
 use Rattle.xom_io.specs.declared.files.FileFault.TheVariants as file_fault
 use Rattle.xom_io.specs.declared.sink.SinkFault.{SinkFault}
 use Rattle.xom_io.specs.declared.sink.SinkFault.TheVariants as sink_fault
-use Rattle.xom_io.specs.Answers.{Appends, KeepsOthers, Puts, Rises, TakesAll, Told}
+use Rattle.xom_io.specs.Answers.{Appends, KeepsOthers, Rises, TakesAll, Told}
 use Rattle.xom_cli.specs.declared.answer.Answer.{Answer}
 use Rattle.xom_cli.specs.declared.answer.OutputFile.{OutputFile}
-use Rattle.xom_cli.specs.Endings.{Disk, IsDone, Output, PutsFile}
+use Rattle.xom_cli.specs.Endings.{Disk, IsDone, PutsFile}
 use Rattle.xom_cli.specs.Inputs.{Held}
 use Rattle.xom_cli.specs.Outcome.{IsOutcome}
 use Rattle.xom_cli.specs.Promises.{WritesFile}

@@ -1,6 +1,6 @@
 -- The headline: in the report of each run every guest follows.
-use Rattle.std.proofs.Common.{◌≡◌, ◌⊎◌, inl, inr, ℕ, zero, suc, ◌+◌, ◌<◌, List, [], ◌∷◌, Option, Some, None, Bool, true, false, cond, not, ◌&&◌, length, refl, sym, ◌∙◌, ap, subst}
-use Rattle.std.specs.Prelude.{All, IfSome, IsSome, is_some, is_none, slice_get, unwrap_or}
+use Rattle.std.proofs.Common.{◌≡◌, inl, inr, ℕ, zero, suc, ◌+◌, List, [], ◌∷◌, Option, Some, None, true, false, cond, length, refl, sym, subst}
+use Rattle.std.specs.Prelude.{IfSome, slice_get, unwrap_or}
 use Rattle.std.proofs.lemmas.Slice.Eq.{bytes_eq-Decides}
 use Rattle.xom_base.specs.Entries.{steps_of}
 use Rattle.xom_base.specs.declared.entry.Entry.{Entry}
@@ -10,13 +10,11 @@ use Rattle.xom_base.specs.declared.event.Op.{Op}
 use Rattle.xom_base.specs.declared.key.ImageId.{ImageId}
 use Rattle.xom_base.specs.declared.schedule.Interrupts.{Interrupts}
 use Rattle.image_sealer.specs.declared.owner.Owner.{Owner}
-use Rattle.image_sealer.specs.Owners.{owner_of, same_id}
-use Rattle.trace_judge.specs.declared.report.GuestLine.{GuestLine}
-use Rattle.trace_judge.specs.Laws.{DoesFollow, IsRun}
-use Rattle.trace_judge.specs.Judgement.{guest_lines}
+use Rattle.image_sealer.specs.Owners.{owner_of}
+use Rattle.trace_judge.specs.Laws.{IsRun}
 use Rattle.trace_judge.proofs.Lines.{All-of_gets, Follows-lines}
 use Rattle.xom_model.specs.State.{Record}
-use Rattle.xom_model.specs.Event.{fits, on, running}
+use Rattle.xom_model.specs.Event.{running}
 use Rattle.xom_model.specs.Run.{is_flagged, one_event, run_from}
 use Rattle.xom_model.specs.Holds.{Holds, Installs, IsAlone, IsInstalled}
 use Rattle.xom_model.proofs.StartKept.{installed_holds}

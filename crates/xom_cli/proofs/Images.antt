@@ -1,11 +1,10 @@
 -- The image of a valid entry and bytes is the one that has them.
-use Rattle.std.proofs.Common.{◌≡◌, ℕ, ◌%◌, ◌^◌, ◌<◌, ◌≤◌, Bool, true, false, Option, Some, None, length, refl, sym, ◌∙◌, ap, eqb}
+use Rattle.std.proofs.Common.{◌≡◌, ◌%◌, ◌^◌, ◌<◌, ◌≤◌, Bool, true, false, Option, Some, None, length, refl, ap}
 use Rattle.std.specs.Prelude.{◌==◌}
 use Rattle.std.proofs.Math.Decide.{dec_le, dec_lt}
 use Rattle.std.proofs.lemmas.Bool.{eq-eqb, eqb-true}
 use Rattle.xom_base.specs.declared.image.PlainImage.{PlainImage}
 use Rattle.xom_image.proofs.Images.{PlainImage-equal}
-use Rattle.xom_image.specs.PlainFiles.{plain_image_at}
 use Rattle.xom_cli.specs.Inputs.{valid_image}
 
 module _ (image : PlainImage) where

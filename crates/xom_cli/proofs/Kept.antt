@@ -1,5 +1,5 @@
 -- Every call keeps its promises, however it ends.
-use Rattle.std.proofs.Common.{◌≡◌, ◌≢◌, ◌⊎◌, inl, inr, ℕ, ◌<◌, List, [], ◌∷◌, ◌++◌, Option, Some, None, Result, Ok, Err, length, take, refl, sym, ◌∙◌, ap, subst, arith, option_map}
+use Rattle.std.proofs.Common.{◌≡◌, ◌≢◌, ◌⊎◌, inl, inr, ℕ, List, ◌++◌, Option, Some, None, Result, Ok, Err, take, refl, sym, ap, subst, arith}
 use Rattle.std.specs.Prelude.{IsSomeAnd, MatchOption, option_and_then}
 use Rattle.xom_io.specs.declared.files.FileFault.{FileFault}
 use Rattle.xom_io.specs.declared.files.FileFault.TheVariants as file_fault
@@ -10,20 +10,19 @@ use Rattle.trace_judge.specs.ReportText.{report_text}
 use Rattle.xom_cli.specs.declared.answer.Answer.{Answer}
 use Rattle.xom_cli.specs.declared.ending.Ending.{Ending}
 use Rattle.xom_cli.specs.declared.ending.Ending.TheVariants as ending
-use Rattle.xom_cli.specs.declared.refusal.InputFault.{InputFault}
 use Rattle.xom_cli.specs.declared.refusal.Refusal.{Refusal}
 use Rattle.xom_cli.specs.declared.refusal.Refusal.TheVariants.{Unread, Bad}
 use Rattle.xom_cli.specs.declared.refusal.Stop.{Stop}
 use Rattle.xom_cli.specs.declared.refusal.Stop.TheVariants as stop
 use Rattle.xom_cli.specs.declared.trace.Parts.{Parts}
-use Rattle.xom_cli.specs.Endings.{Delivers, Disk, Ends, EndsRow, EndsWords, Finishes, IsDone, IsSilent, Outside, Output, Prints, PrintsBehind, PrintsRefusal, PutsFile, ended, refused, status_of}
+use Rattle.xom_cli.specs.Endings.{Disk, Ends, EndsRow, EndsWords, Finishes, IsDone, IsSilent, Outside, Output, PrintsBehind, PutsFile, ended, refused, status_of}
 use Rattle.xom_cli.specs.Inputs.{Held}
 use Rattle.xom_cli.specs.Outcome.{IsOutcome, IsPrinted, IsPrintedBy, Printed, printed, printed_words}
-use Rattle.xom_cli.specs.Promises.{ChangesOnly, FailsWriting, IsUnprinted, KeepsFiles, Promises, WritesFile, WritesPrefix, target_in}
+use Rattle.xom_cli.specs.Promises.{ChangesOnly, FailsWriting, IsUnprinted, Promises, WritesFile, WritesPrefix, target_in}
 use Rattle.xom_cli.specs.Readings.{Meets, Refuses}
 use Rattle.xom_cli.specs.Refusals.{line_of, refusal_status, words_line}
 use Rattle.xom_cli.specs.Rows.{Row, Trace, row_of, target_of}
-use Rattle.xom_cli.specs.Trace.{AllFollow, events_line, last_record, parts_of, report_of, trace_of, traced}
+use Rattle.xom_cli.specs.Trace.{AllFollow, events_line, last_record, parts_of, report_of, traced}
 use Rattle.xom_cli.proofs.Delivered.{done_not_1, done_not_2, done_not_3, done_not_4, done_not_5, fails-rising, lacks-count, never-long, puts-changes, puts-count, puts-file, same-changes, same-count, takes-prefix}
 use Rattle.xom_cli.proofs.Headline.{all_follow}
 use Rattle.xom_cli.proofs.Targets.{trace-answer}

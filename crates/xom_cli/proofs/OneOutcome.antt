@@ -1,9 +1,9 @@
 -- What words come to is one thing.
-use Rattle.std.proofs.Common.{◌≡◌, ◌⊎◌, inl, inr, ℕ, List, Option, Some, None, Result, Ok, Err, refl, sym, ◌∙◌, ap, subst}
+use Rattle.std.proofs.Common.{◌≡◌, inl, inr, ℕ, List, Option, Some, None, Result, Ok, Err, sym, ◌∙◌, ap, subst}
 use Rattle.xom_base.specs.declared.image.PlainImage.{PlainImage}
 use Rattle.mips_asm.specs.declared.fault.AsmFault.{AsmFault}
 use Rattle.mips_asm.specs.declared.fault.AsmFault.TheVariants as asm_fault
-use Rattle.mips_asm.specs.Sources.{IsFaultOf, IsImageOf}
+use Rattle.mips_asm.specs.Sources.{IsFaultOf}
 use Rattle.mips_asm.proofs.OneOutcome.{image_or_fault, one_fault, one_image}
 use Rattle.xom_cli.specs.declared.answer.Answer.{Answer}
 use Rattle.xom_cli.specs.declared.refusal.Refusal.{Refusal}

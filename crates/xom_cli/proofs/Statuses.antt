@@ -1,9 +1,8 @@
 -- The status of a trace is one of four.
-use Rattle.std.proofs.Common.{◌≡◌, ◌⊎◌, inl, inr, ℕ, Bool, true, false, cond, refl}
+use Rattle.std.proofs.Common.{inl, inr, Bool, true, false, cond, refl}
 use Rattle.trace_judge.specs.declared.report.Report.{Report}
 use Rattle.xom_model.specs.State.{Record}
 use Rattle.std.specs.List.{list_any}
-use Rattle.xom_cli.specs.declared.answer.Answer.{Answer}
 use Rattle.xom_cli.specs.declared.trace.Parts.{Parts}
 use Rattle.xom_cli.specs.Endings.{IsDone}
 use Rattle.xom_cli.specs.Trace.{is_stop, is_suspect, last_record, report_of, trace_status, traced}

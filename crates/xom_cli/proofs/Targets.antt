@@ -1,15 +1,15 @@
 -- The file that a command answers is the one that its words name.
-use Rattle.std.proofs.Common.{◌≡◌, ◌⊎◌, inl, inr, List, ℕ, Option, Some, None, Result, Ok, Err, refl, sym, ◌∙◌, ap, subst}
+use Rattle.std.proofs.Common.{◌≡◌, List, ℕ, Option, Some, None, Result, Ok, Err, refl, sym, ◌∙◌, ap}
 use Rattle.xom_base.specs.declared.key.ImageId.{ImageId}
 use Rattle.xom_base.specs.declared.key.Key256.{Key256}
 use Rattle.xom_cli.specs.declared.answer.Answer.{Answer}
 use Rattle.xom_cli.specs.declared.answer.OutputFile.{OutputFile}
 use Rattle.xom_cli.specs.declared.refusal.Refusal.{Refusal}
 use Rattle.xom_cli.specs.declared.trace.Parts.{Parts}
-use Rattle.xom_cli.specs.Assembly.{Assembles, AssemblesRead}
+use Rattle.xom_cli.specs.Assembly.{AssemblesRead}
 use Rattle.xom_cli.specs.Inputs.{◌>>=◌, Held, fetched, image_of, source_limit}
 use Rattle.xom_cli.specs.Outcome.{IsOutcome}
-use Rattle.xom_cli.specs.Programs.{disasm_of, plain_of, prints, seal_of, values_of}
+use Rattle.xom_cli.specs.Programs.{disasm_of, plain_of, seal_of, values_of}
 use Rattle.xom_cli.specs.Rows.{Row, Asm, Disasm, Plain, Seal, Trace, target_of}
 use Rattle.xom_cli.specs.Trace.{parts_of, trace_of, traced}
 

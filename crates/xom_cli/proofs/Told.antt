@@ -1,13 +1,11 @@
 -- A script tells each turn, so its run is told whole.
-use Rattle.std.proofs.Common.{◌≡◌, ℕ, zero, suc, ◌+◌, List, [], ◌∷◌, Option, Some, None, Bool, true, false, cond, refl, sym, ◌∙◌, ap, subst}
+use Rattle.std.proofs.Common.{◌≡◌, ℕ, zero, suc, ◌+◌, List, [], ◌∷◌, Option, Some, None, true, false, cond, refl}
 use Rattle.std.specs.Prelude.{IfSome, IsSome, unwrap_or}
-use Rattle.xom_base.specs.declared.event.Event.TheVariants as event
 use Rattle.xom_base.specs.declared.event.Op.{Op}
 use Rattle.xom_base.specs.declared.schedule.Interrupts.{Interrupts}
 use Rattle.xom_model.specs.State.{Record}
-use Rattle.xom_model.specs.Event.{on, running}
-use Rattle.xom_model.specs.Run.{is_flagged, one_event, run_from}
-use Rattle.xom_model.specs.Seen.{seen_of}
+use Rattle.xom_model.specs.Event.{running}
+use Rattle.xom_model.specs.Run.{one_event, run_from}
 use Rattle.xom_script.specs.Turns.{script_told}
 
 one_event-some : (line : Interrupts) (next : ℕ → Record → List Op → Option Record) → ((g : ℕ) (r : Record) (ops : List Op) → IsSome (next g r ops))

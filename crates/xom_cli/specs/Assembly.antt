@@ -11,7 +11,6 @@ use Rattle.xom_cli.specs.declared.answer.Answer.{Answer}
 use Rattle.xom_cli.specs.declared.refusal.InputFault.TheVariants.{BadSource}
 use Rattle.xom_cli.specs.declared.refusal.Refusal.{Refusal}
 use Rattle.xom_cli.specs.declared.refusal.Refusal.TheVariants.{Bad}
-use Rattle.xom_cli.specs.declared.refusal.SourceFault.{SourceFault}
 use Rattle.xom_cli.specs.declared.refusal.SourceFault.TheVariants as source_fault
 use Rattle.xom_cli.specs.declared.refusal.Stop.{Stop}
 use Rattle.xom_cli.specs.declared.refusal.Stop.TheVariants as stop

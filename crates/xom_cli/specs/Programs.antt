@@ -1,5 +1,5 @@
 -- The commands on programs alone: their listing, their run on the plain machine, and their sealing.
-use Rattle.std.specs.Prelude.{ℕ, List, [], ◌++◌, Option, Some, None, Result, Ok, Err, codes, length}
+use Rattle.std.specs.Prelude.{ℕ, List, [], ◌++◌, Option, Some, None, Result, Ok, codes, length}
 use Rattle.std.specs.Fmt.{decimal}
 use Rattle.xom_base.specs.declared.image.PlainImage.{PlainImage}
 use Rattle.xom_base.specs.declared.key.ImageId.{ImageId}

@@ -1,5 +1,5 @@
 -- What may be said of every call: its status with its cause, what it wrote, and what the owner of a guest may believe.
-use Rattle.std.specs.Prelude.{◌≡◌, ◌≢◌, ◌⊎◌, ℕ, ◌<◌, List, ◌++◌, Option, Some, None, Result, Ok, Err, IsSomeAnd, MatchOption, option_and_then, take}
+use Rattle.std.specs.Prelude.{◌≡◌, ◌≢◌, ◌⊎◌, ℕ, ◌<◌, List, ◌++◌, Option, Some, None, Ok, Err, IsSomeAnd, MatchOption, option_and_then, take}
 use Rattle.xom_io.specs.Answers.{Appends, Holds, KeepsOthers, Rises}
 use Rattle.trace_judge.specs.ReportText.{report_text}
 use Rattle.xom_cli.specs.declared.answer.OutputFile.{OutputFile}
@@ -9,7 +9,7 @@ use Rattle.xom_cli.specs.Endings.{Disk, IsDone, Outside}
 use Rattle.xom_cli.specs.Inputs.{Held}
 use Rattle.xom_cli.specs.Outcome.{IsPrinted, Printed, printed}
 use Rattle.xom_cli.specs.Refusals.{line_of}
-use Rattle.xom_cli.specs.Rows.{Row, Trace, row_of, target_of}
+use Rattle.xom_cli.specs.Rows.{Trace, row_of, target_of}
 use Rattle.xom_cli.specs.Trace.{AllFollow, events_line, last_record, parts_of, report_of}
 
 -- the statuses that there are

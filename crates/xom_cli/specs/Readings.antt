@@ -1,9 +1,8 @@
 -- What reading the files of a command gives, where `Wanted` says what it is to give of what files hold.
-use Rattle.std.specs.Prelude.{◌≡◌, ◌⊎◌, ℕ, ◌≤◌, List, Option, Some, None, Result, Ok, Err, IsSomeAnd}
+use Rattle.std.specs.Prelude.{◌≡◌, ◌⊎◌, ℕ, ◌≤◌, List, Some, Result, Ok, Err, IsSomeAnd}
 use Rattle.xom_io.specs.Answers.{Rises, Told}
 use Rattle.xom_script.specs.declared.fault.FormFault.{FormFault}
 use Rattle.xom_script.specs.declared.fault.FormFault.TheVariants as form_fault
-use Rattle.xom_cli.specs.declared.refusal.InputFault.{InputFault}
 use Rattle.xom_base.specs.declared.lines.TextFault.{TextFault}
 use Rattle.xom_base.specs.declared.lines.TextFault.TheVariants as text_fault
 use Rattle.xom_cli.specs.declared.refusal.InputFault.TheVariants.{BadLine, NotBuilt}

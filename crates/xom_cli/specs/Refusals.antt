@@ -1,5 +1,5 @@
 -- Why a command wasn't carried out, and the line that says so.
-use Rattle.std.specs.Prelude.{ℕ, List, [], ◌∷◌, ◌++◌, codes}
+use Rattle.std.specs.Prelude.{ℕ, List, ◌++◌, codes}
 use Rattle.std.specs.Fmt.{decimal}
 use Rattle.xom_cli.specs.declared.refusal.InputFault.{InputFault}
 use Rattle.xom_cli.specs.declared.refusal.InputFault.TheVariants.{TooLong, NotBuilt, BadByte, BadLine, BadSource}

@@ -1,9 +1,9 @@
 -- What was sealed keeps the rules of a sealed image.
-use Rattle.std.proofs.Common.{◌≡◌, ◌∙◌, ap, arith, length, sym}
+use Rattle.std.proofs.Common.{◌≡◌, ◌∙◌, ap, length, sym}
 use Rattle.xom_seal.specs.Envelopes.{entry_in, lines_in}
 use Rattle.xom_seal.specs.Laws.{Shows}
 use Rattle.xom_seal.proofs.EnvelopeLaws.{envelopes_show}
-use Rattle.image_sealer.specs.Sealing.{contents_of, line_count, sealed_lines_of}
+use Rattle.image_sealer.specs.Sealing.{line_count, sealed_lines_of}
 use Rattle.image_sealer.proofs.Opening.{length-sealed_lines, line_count-fits, sealed_lines-whole}
 use Rattle.image_sealer.proofs.sealing.seal.Goals as goal
 
