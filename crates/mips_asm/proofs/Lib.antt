@@ -7,7 +7,6 @@ pub mod LabelLaws
 pub mod OverlapLaws
 pub mod RangeLaws
 pub mod AssemblyLaws
-pub mod OnlyLaws
 pub mod SameImages
 pub mod SameFaults
 pub mod ImageOrFaultLaws
