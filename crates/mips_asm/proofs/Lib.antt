@@ -11,3 +11,4 @@ pub mod SameImages
 pub mod SameFaults
 pub mod ImageOrFaultLaws
 pub mod OneOutcome
+pub mod BytesLaws
