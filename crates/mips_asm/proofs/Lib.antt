@@ -7,8 +7,8 @@ pub mod LabelLaws
 pub mod OverlapLaws
 pub mod RangeLaws
 pub mod AssemblyLaws
-pub mod OnlyLaws
 pub mod SameImages
 pub mod SameFaults
 pub mod ImageOrFaultLaws
 pub mod OneOutcome
+pub mod BytesLaws

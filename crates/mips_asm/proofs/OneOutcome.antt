@@ -13,7 +13,7 @@ use Rattle.mips_asm.proofs.SameFaults.{IsPartsFault-same, Same}
 use Rattle.mips_asm.proofs.SameImages.{IsPlacedImage-same}
 
 -- what was read is one alone
-same_Ok : {A E : Type 0} (r : Result A E) (a b : A) → r ≡ Ok a → r ≡ Ok b → a ≡ b
+pub same_Ok : {A E : Type 0} (r : Result A E) (a b : A) → r ≡ Ok a → r ≡ Ok b → a ≡ b
 same_Ok r a b p q = cc
 
 same_Err : {A E : Type 0} (r : Result A E) (a b : E) → r ≡ Err a → r ≡ Err b → a ≡ b

@@ -1,9 +1,17 @@
--- A source has one outcome: one image, or one fault beside want of memory.
-use Rattle.std.specs.Prelude.{◌≡◌, ◌⊎◌, ℕ, List}
+-- What is true of all sources: one outcome, and the bytes of an image statement by statement.
+use Rattle.std.specs.Prelude.{◌≡◌, ◌⊎◌, ◌+◌, ◌<◌, ℕ, false, All, List, Ok, length, slice_index}
 use Rattle.xom_base.specs.declared.image.PlainImage.{PlainImage}
+use Rattle.asm_source.specs.declared.content.Part.{Part}
+use Rattle.asm_syntax.specs.Lines.{source_of}
 use Rattle.mips_asm.specs.declared.fault.AsmFault.{AsmFault}
 use Rattle.mips_asm.specs.declared.fault.AsmFault.TheVariants.{NoMemory}
-use Rattle.mips_asm.specs.Sources.{IsFaultOf, IsImageOf}
+use Rattle.mips_asm.specs.declared.placed.Placed.{Placed}
+use Rattle.mips_asm.specs.Encoding.{Gives}
+use Rattle.mips_asm.specs.Layout.{covers, last_end, layout}
+use Rattle.mips_asm.specs.Passes.{Labels}
+use Rattle.mips_asm.specs.Sources.{IsFaultOf, IsImageOf, labels_of}
+
+-- ---- one outcome
 
 -- two images of a source are the same
 abbrev pub OneImage : Type 0
@@ -16,3 +24,23 @@ ImageOrFault = (text : List ℕ) (image : PlainImage) (fault : AsmFault) → IsI
 -- two faults of a source are the same, line and kind, but for want of memory
 abbrev pub OneFault : Type 0
 OneFault = (text : List ℕ) (a b : AsmFault) → IsFaultOf text a → IsFaultOf text b → (a ≡ b) ⊎ (a ≡ NoMemory) ⊎ (b ≡ NoMemory)
+
+-- ---- the bytes of an image
+
+-- the statement writes bytes of its own, and they stand at its place
+abbrev pub StandsAtItsPlace : Labels → List ℕ → Placed → Type 0
+StandsAtItsPlace labels bytes statement =
+    (own : List ℕ) × Gives labels statement.place statement.part.content own
+    × ((k : ℕ) → k < length own → slice_index bytes (statement.place + k) ≡ slice_index own k)
+
+-- The bytes are those of these statements: what each writes stands at its place, zeros stand where none
+-- writes, and the last byte is the last that is written.
+pub record AreBytesOf (statements : List Placed) (bytes : List ℕ) : Type 0 where
+  pub whole : length bytes ≡ last_end statements
+  pub written : All (StandsAtItsPlace (labels_of statements) bytes) statements
+  pub gaps : (k : ℕ) → All (λ statement. covers statement k ≡ false) statements → slice_index bytes k ≡ 0
+
+-- the bytes of a source's image are those of its statements, which follow one another from place 0 on
+abbrev pub BytesOfStatements : Type 0
+BytesOfStatements =
+    (text : List ℕ) (parts : List Part) (image : PlainImage) → source_of text ≡ Ok parts → IsImageOf text image → AreBytesOf (layout 0 parts) image.bytes

@@ -1,7 +1,27 @@
 -- What the answer says, both ways.
+use Rattle.std.proofs.Common.{◌≡◌, ◌⊎◌, inl, inr, List, ℕ, Result, Ok, Err, ap}
+use Rattle.std.specs.Prelude.{IfErr, IfOk, MatchResult}
+use Rattle.xom_base.specs.declared.image.PlainImage.{PlainImage}
+use Rattle.mips_asm.specs.declared.fault.AsmFault.{AsmFault}
+use Rattle.mips_asm.specs.declared.fault.AsmFault.TheVariants.{NoMemory}
 use Rattle.mips_asm.specs.Sources.{IsFaultOf, IsImageOf}
-use Rattle.mips_asm.proofs.OnlyLaws.{err_of, ok_of, only_image}
+use Rattle.mips_asm.proofs.OneOutcome.{image_or_fault, one_image}
 use Rattle.mips_asm.proofs.assembly.assemble.Goals as goal
+
+-- what has an image is answered by it, unless memory runs out
+only_image : (text : List ℕ) (r : Result PlainImage AsmFault) (image : PlainImage) → MatchResult r (IsImageOf text) (IsFaultOf text) → IsImageOf text image
+    → (r ≡ Ok image) ⊎ (r ≡ Err NoMemory)
+only_image text (Ok x) image h is = inl (ap (λ (i : PlainImage). Ok i) (one_image text x image h is))
+only_image text (Err fault) image h is = inr (ap (λ (f : AsmFault). Err f) (image_or_fault text image fault is h))
+
+-- of both halves of an answer, one
+ok_of : {A E : Type 0} (r : Result A E) (P : A → Type 0) (Q : E → Type 0) → MatchResult r P Q → IfOk r P
+ok_of (Ok x) P Q h = h
+ok_of (Err e) P Q h = tt
+
+err_of : {A E : Type 0} (r : Result A E) (P : A → Type 0) (Q : E → Type 0) → MatchResult r P Q → IfErr r Q
+err_of (Ok x) P Q h = tt
+err_of (Err e) P Q h = h
 
 pub returns-clause-found : goal.returns-clause-found
 returns-clause-found c = ok_of c.assembled.result (IsImageOf c.args.text.now) (IsFaultOf c.args.text.now) c.assembled.ensures
