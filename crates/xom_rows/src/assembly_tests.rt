@@ -6,7 +6,9 @@ use std::alloc::Global;
 use std::test::Fail;
 use xom_io::MemSink;
 
-const FIRST: &str = "addiu $8, $0, 7\naddiu $9, $8, 5\nxmvtn $9\nxexit\n";
+/// The source `examples/first.s`.
+const FIRST: &str =
+    "        addiu $8, $0, 7\n        addiu $9, $8, 5\n        xmvtn $9\n        xexit\n";
 
 /// The image file of these words, with entry 0.
 fn image_of(alloc: Global, words: &[u32]) -> Result<Vec<u8>, Fail> {

@@ -1,4 +1,4 @@
--- Equal counter blocks have the same fields, so no pad serves two names under one key.
+-- Equal counter blocks have the same fields, so no pad serves two names of one image or one install.
 use Rattle.std.proofs.Common.{◌≢◌, ℕ, ◌^◌, ◌<◌, ap, arith, drop, get_or}
 use Rattle.std.specs.Int.{w64, to_be_bytes}
 use Rattle.xom_base.specs.declared.key.ImageId.{ImageId}

@@ -1,4 +1,4 @@
--- What whoever rests on seals may know of them: each message tells its kind, its name and its ciphertext, no pad serves two names under one key, and what was sealed opens.
+-- What whoever rests on seals may know of them: each message tells its kind, its name and its ciphertext, no pad serves two names of one image or one install, and what was sealed opens.
 use Rattle.std.specs.Prelude.{ℕ, ◌≡◌, ◌≢◌, ◌^◌, ◌<◌, ◌==◌, ◌&&◌, false, List, length, Some, take}
 use Rattle.xom_base.specs.declared.key.ImageId.{ImageId}
 use Rattle.xom_base.specs.declared.key.Key256.{Key256}

@@ -12,8 +12,8 @@ pub fn messages_tell_their_names()
     ensures lengths { MessageLengths }
 {}
 
-/// Laws and no code: under one key no counter block, so no pad, serves two names or both halves of
-/// one line.
+/// Laws and no code: a counter block tells its kind, its line or register, its version or epoch, and the
+/// half of the line that it masks. So under the keys of one image or one install no pad serves two.
 #[tactic(auto, using(crate::proofs::CounterLaws::counter_blocks_tell, crate::proofs::CounterLaws::line_counters_tell, crate::proofs::CounterLaws::register_counters_tell, crate::proofs::CounterLaws::counter_kinds_differ))]
 pub fn counter_blocks_tell_their_names()
     ensures blocks { CounterBlocksTell }
