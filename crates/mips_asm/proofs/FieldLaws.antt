@@ -1,6 +1,6 @@
 -- The number that stands for an operand gives the operand's field again.
 use Rattle.std.proofs.Common.{◌≡◌, ◌⊎◌, ℕ, ◌+◌, ◌-◌, ◌*◌, ◌/◌, ◌%◌, ◌^◌, ◌<◌, ◌≤◌, ◌||◌, ◌==◌, Bool, true, false, cond, leb, ltb, ℤ, pos, ◌+ℤ◌, ◌-ℤ◌, ◌*ℤ◌, Some, None, inl, inr, refl, ap, ◌∙◌, mul_comm, lit<, arith}
-use Rattle.std.proofs.lemmas.Bool.{cases_Bool, eq-eqb, le-leb, lt-ltb, ltb-true, ltb-false}
+use Rattle.std.proofs.lemmas.Bool.{cases_Bool, eq-eqb, le-leb, lt-ltb, or_left, or_right, ltb-true, ltb-false}
 use Rattle.std.proofs.lemmas.Int.{ints, int_rem_euclid_is}
 use Rattle.std.specs.Int.{int_rem_euclid}
 use Rattle.std.specs.Prelude.{unsigned_abs}
@@ -130,16 +130,12 @@ reached : (far imm : ℕ) → ((ltb far (2 ^ 17) || leb (2 ^ 32 - 2 ^ 17) far) �
     → cond (ltb far (2 ^ 17) || leb (2 ^ 32 - 2 ^ 17) far) (Some (far / 4 % 2 ^ 16)) None ≡ Some imm
 reached far imm within is = rw within (ap (λ (k : ℕ). Some k) is)
 
-or_true : (a b : Bool) → b ≡ true → (a || b) ≡ true
-or_true true b is = refl
-or_true false b is = is
-
 reached-forward : (far imm : ℕ) → far ≡ 4 * imm → imm < 2 ^ 15 → cond (ltb far (2 ^ 17) || leb (2 ^ 32 - 2 ^ 17) far) (Some (far / 4 % 2 ^ 16)) None ≡ Some imm
-reached-forward far imm is fits = reached far imm (rw (lt-ltb far (2 ^ 17) (omega arith)) refl) (omega arith)
+reached-forward far imm is fits = reached far imm (or_left (ltb far (2 ^ 17)) (leb (2 ^ 32 - 2 ^ 17) far) (lt-ltb far (2 ^ 17) (omega arith))) (omega arith)
 
 reached-back : (far imm : ℕ) → far ≡ 4 * imm + (2 ^ 32 - 2 ^ 18) → 2 ^ 15 ≤ imm → imm < 2 ^ 16
     → cond (ltb far (2 ^ 17) || leb (2 ^ 32 - 2 ^ 17) far) (Some (far / 4 % 2 ^ 16)) None ≡ Some imm
-reached-back far imm is large fits = reached far imm (or_true (ltb far (2 ^ 17)) (leb (2 ^ 32 - 2 ^ 17) far) (le-leb (2 ^ 32 - 2 ^ 17) far (omega arith))) (omega arith)
+reached-back far imm is large fits = reached far imm (or_right (ltb far (2 ^ 17)) (leb (2 ^ 32 - 2 ^ 17) far) (le-leb (2 ^ 32 - 2 ^ 17) far (omega arith))) (omega arith)
 
 -- an address on a multiple of 4 and below 2^32 that gives the field
 abbrev Lands : (pc imm address : ℕ) → Type 0
