@@ -1,7 +1,7 @@
 -- Statements that write one place.
 use Rattle.std.proofs.Common.{◌≡◌, ℕ, ◌+◌, ◌<◌, ◌≤◌, ◌||◌, max, Bool, true, false, List, [], ◌∷◌, length, get_or, take, refl, sym, ap, ◌∙◌, inl, inr, arith}
 use Rattle.std.specs.List.{list_any}
-use Rattle.std.proofs.lemmas.Bool.{cases_Bool, true≢false, false_from_ne_true}
+use Rattle.std.proofs.lemmas.Bool.{cases_Bool, or_left, or_parts, or_right, true≢false, false_from_ne_true}
 use Rattle.std.proofs.lemmas.Bool.Decides.{nat_tests}
 use Rattle.std.proofs.lemmas.List.Folds.{list_any_more}
 use Rattle.mips_asm.specs.declared.placed.Placed.{Placed}
@@ -23,10 +23,6 @@ overlaps_true (e ∷ before) p k from below here =
       | inl here_too ↦ rw (meets_at p e k from below here_too) refl
       | inr elsewhere ↦ or_right (meets p e) (overlaps before p) (overlaps_true before p k from below (rw elsewhere at here))
     ]
-  where
-    or_right : (a b : Bool) → b ≡ true → (a || b) ≡ true
-    or_right true b is = refl
-    or_right false b is = is
 
 pub overlaps_false : (before : List Placed) (p : Placed) → ((k : ℕ) → p.place ≤ k → k < p.place + p.size → list_any (λ (e : Placed). covers e k) before ≡ false) → overlaps before p ≡ false
 overlaps_false [] p none = refl
@@ -34,15 +30,7 @@ overlaps_false (e ∷ before) p none =
     let apart : meets p e ≡ false = false_from_ne_true (meets p e) (λ meet.
     let some = meets_some p e meet in
     true≢false (sym (or_left (covers e (max p.place e.place)) _ some.2) ∙ none (max p.place e.place) some.0 some.1)) in
-    rw apart (overlaps_false before p (λ k from below. or_none (covers e k) _ (none k from below)))
-  where
-    or_left : (a b : Bool) → a ≡ true → (a || b) ≡ true
-    or_left true b is = refl
-    or_left false b is = absurd (true≢false (sym is))
-
-    or_none : (a b : Bool) → (a || b) ≡ false → b ≡ false
-    or_none true b is = absurd (true≢false is)
-    or_none false b is = is
+    rw apart (overlaps_false before p (λ k from below. (or_parts (covers e k) _ (none k from below)).1))
 
 pub overlaps_empty : (before : List Placed) (p : Placed) → p.size ≡ 0 → overlaps before p ≡ false
 overlaps_empty [] p empty = refl

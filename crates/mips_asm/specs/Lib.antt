@@ -5,3 +5,4 @@ pub mod Images
 pub mod Sources
 pub mod LabelMaps
 pub mod Laws
+pub mod Printed

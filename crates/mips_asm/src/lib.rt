@@ -27,4 +27,6 @@ mod unknown;
 
 pub use assembly::assemble;
 pub use fault::AsmFault;
-pub use law::{bytes_are_those_of_their_statements, sources_have_one_outcome};
+pub use law::{
+    bytes_are_those_of_their_statements, sources_have_one_outcome, what_is_printed_is_assembled,
+};

@@ -435,9 +435,9 @@ const COUNTER: &str = "\
     ";
 
 /// The word at a place, counted in words.
-fn word_at(image: &PlainImage, i: usize) -> Option<u32> {
+fn word_at(image: &PlainImage, i: u8) -> Option<u32> {
     let bytes = image.bytes.as_slice();
-    let word = bytes.get(i.checked_mul(4)?..)?.first_chunk()?;
+    let word = bytes.get(4 * usize::from(i)..)?.first_chunk()?;
     Some(u32::from_be_bytes(*word))
 }
 
