@@ -1,6 +1,6 @@
 //! The assembler's command: images, faults with their lines, and what is left where files fail.
 
-use crate::row::{Row, held, holds, made};
+use crate::row::{Left, Row, has, holds, made};
 use crate::scene::call;
 use std::alloc::Global;
 use std::test::Fail;
@@ -76,6 +76,17 @@ fn a_branch_in_a_delay_slot_is_assembled_and_run(rt: HostRuntime) -> Result<(), 
     Ok(())
 }
 
+/// The call over a source that is bad, whose image's name holds other bytes.
+fn refused(alloc: Global, source: &str) -> Result<Left, Fail> {
+    let row = Row {
+        words: &["asm", "a.s", "a.img"],
+        files: &[("a.s", source.as_bytes()), ("a.img", b"before")],
+        text: "",
+        status: 4,
+    };
+    made(alloc, &row, 0)
+}
+
 #[test]
 fn each_fault_has_its_line(rt: HostRuntime) -> Result<(), Fail> {
     for (source, text) in [
@@ -88,17 +99,10 @@ fn each_fault_has_its_line(rt: HostRuntime) -> Result<(), Fail> {
         ("xmvtn $0\n", "xom: a.s line 1: Range\n"),
         ("\n\n.entry 2\n", "xom: a.s line 3: Range\n"),
     ] {
-        let row = Row {
-            words: &["asm", "a.s", "a.img"],
-            files: &[("a.s", source.as_bytes()), ("a.img", b"before")],
-            text,
-            status: 4,
-        };
-        let left = made(rt.alloc(), &row, 0)?;
+        let left = refused(rt.alloc(), source)?;
         assert_eq!(rt; left.out.bytes(), text.as_bytes(), "{source}");
         assert_eq!(rt; left.status, 4);
-        let image = held(rt.alloc(), &left, "a.img")?;
-        assert_eq!(rt; image.as_deref(), Some(b"before".as_slice()));
+        assert_eq!(rt; has(rt.alloc(), &left, "a.img", b"before")?, true);
     }
     Ok(())
 }

@@ -41,11 +41,11 @@ pub fn holds(alloc: Global, row: &Row) -> Result<bool, Fail> {
     Ok(left.out.bytes() == row.text.as_bytes() && left.status == row.status)
 }
 
-/// The bytes that a name holds after a call, or none.
-pub fn held(alloc: Global, left: &Left, name: &str) -> Result<Option<Vec<u8>>, Fail> {
+/// Whether a name holds these bytes after a call.
+pub fn has(alloc: Global, left: &Left, name: &str, bytes: &[u8]) -> Result<bool, Fail> {
     let name = String::from_str(alloc, name)?;
     match left.files.held(&name) {
-        Some(bytes) => Ok(Some(bytes.to_vec(alloc)?)),
-        None => Ok(None),
+        Some(held) => Ok(held == bytes),
+        None => Ok(false),
     }
 }

@@ -1,7 +1,8 @@
 //! The command that seals a program, and what failing files and sinks leave of it.
 
-use crate::row::{Row, held, holds, made};
+use crate::row::{Left, Row, has, holds, made};
 use crate::scene::{call, hold};
+use std::alloc::Global;
 use std::test::Fail;
 use xom_io::{MemFiles, MemSink};
 
@@ -34,33 +35,31 @@ const SEALS: [&str; 6] = ["seal", "one.img", KEY, ID, MACHINE, "one.sealed"];
 
 const SAYS: &str = "sealed 1 lines 160 bytes\n";
 
-#[test]
-fn a_program_is_sealed(rt: HostRuntime) -> Result<(), Fail> {
+/// The call of these words, over a name that holds other bytes. The files' call of this number fails,
+/// or none where it is 0.
+fn sealed(alloc: Global, failing: u64) -> Result<Left, Fail> {
     let row = Row {
         words: SEALS.as_slice(),
         files: &[("one.img", FIRST.as_slice()), ("one.sealed", b"before")],
         text: SAYS,
         status: 0,
     };
-    let left = made(rt.alloc(), &row, 0)?;
+    made(alloc, &row, failing)
+}
+
+#[test]
+fn a_program_is_sealed(rt: HostRuntime) -> Result<(), Fail> {
+    let left = sealed(rt.alloc(), 0)?;
     assert_eq!(rt; left.out.bytes(), SAYS.as_bytes());
     assert_eq!(rt; left.status, 0);
-    let sealed = held(rt.alloc(), &left, "one.sealed")?;
-    assert_eq!(rt; sealed.as_deref(), Some(SEALED.as_slice()));
-    let plain = held(rt.alloc(), &left, "one.img")?;
-    assert_eq!(rt; plain.as_deref(), Some(FIRST.as_slice()));
+    assert_eq!(rt; has(rt.alloc(), &left, "one.sealed", &SEALED)?, true);
+    assert_eq!(rt; has(rt.alloc(), &left, "one.img", &FIRST)?, true);
     Ok(())
 }
 
 #[test]
 fn where_the_file_cannot_be_put_nothing_is_printed(rt: HostRuntime) -> Result<(), Fail> {
-    let row = Row {
-        words: SEALS.as_slice(),
-        files: &[("one.img", FIRST.as_slice()), ("one.sealed", b"before")],
-        text: SAYS,
-        status: 0,
-    };
-    let left = made(rt.alloc(), &row, 2)?;
+    let left = sealed(rt.alloc(), 2)?;
     assert_eq!(rt; left.out.bytes().len(), 0);
     assert_eq!(rt; left.status, 3);
     Ok(())
@@ -68,17 +67,10 @@ fn where_the_file_cannot_be_put_nothing_is_printed(rt: HostRuntime) -> Result<()
 
 #[test]
 fn where_the_image_cannot_be_read_no_file_is_touched(rt: HostRuntime) -> Result<(), Fail> {
-    let row = Row {
-        words: SEALS.as_slice(),
-        files: &[("one.img", FIRST.as_slice()), ("one.sealed", b"before")],
-        text: SAYS,
-        status: 0,
-    };
-    let left = made(rt.alloc(), &row, 1)?;
+    let left = sealed(rt.alloc(), 1)?;
     assert_eq!(rt; left.out.bytes(), b"xom: cannot read one.img\n".as_slice());
     assert_eq!(rt; left.status, 2);
-    let sealed = held(rt.alloc(), &left, "one.sealed")?;
-    assert_eq!(rt; sealed.as_deref(), Some(b"before".as_slice()));
+    assert_eq!(rt; has(rt.alloc(), &left, "one.sealed", b"before")?, true);
     Ok(())
 }
 
@@ -106,8 +98,7 @@ fn a_bad_image_is_not_sealed(rt: HostRuntime) -> Result<(), Fail> {
     let left = made(rt.alloc(), &row, 0)?;
     assert_eq!(rt; left.out.bytes(), row.text.as_bytes());
     assert_eq!(rt; left.status, 4);
-    let sealed = held(rt.alloc(), &left, "one.sealed")?;
-    assert_eq!(rt; sealed.as_deref(), Some(b"before".as_slice()));
+    assert_eq!(rt; has(rt.alloc(), &left, "one.sealed", b"before")?, true);
     Ok(())
 }
 
