@@ -1,0 +1,9 @@
+pub mod Numerals
+pub mod Lexed
+pub mod Operands
+pub mod WordLaws
+pub mod LineEnds
+pub mod NoNames
+pub mod Growing
+pub mod Standing
+pub mod ListingLaws

@@ -1,0 +1,13 @@
+ghost use Rattle.asm_round_trip.specs.Listed.{ListingsAreAssembledAgain, WordsAreReadAgain};
+
+/// A law and no code: the text that a listing shows for a word is a line of a source, and that line
+/// writes the word again at its place.
+pub fn listed_words_are_read_again()
+    ensures { WordsAreReadAgain }
+{}
+
+/// A law and no code: the texts of a listing, in their order, are a source of the image that was listed,
+/// with its last word filled up by zeros and the entry 0.
+pub fn listings_are_assembled_again()
+    ensures { ListingsAreAssembledAgain }
+{}
