@@ -3,6 +3,7 @@ use Rattle.std.specs.Prelude.{◌≡◌, ℕ, ◌%◌, ◌^◌, ◌==◌, true, 
 use Rattle.std.proofs.Math.Decide.{dec_le, dec_lt}
 use Rattle.std.proofs.Common.{refl}
 use Rattle.std.proofs.lemmas.Bool.{eqb-true}
+use Rattle.std.specs.Str.{bytes_eq}
 use Rattle.xom_base.specs.declared.event.Op.{Op}
 use Rattle.xom_base.specs.declared.image.PlainImage.{PlainImage}
 use Rattle.plain_run.specs.Received.{received_at}
@@ -20,6 +21,10 @@ use Rattle.xom_cli.specs.declared.refusal.Refusal.TheVariants.{Unread, Bad}
 -- what names hold
 abbrev pub Held : Type 0
 Held = List ℕ → Option (List ℕ)
+
+-- the same, but for one name that isn't held
+abbrev pub without : List ℕ → Held → Held
+without name held other = if bytes_eq other name then None else held other
 
 -- one step and the next, where the first isn't refused
 infixl 10 ◌>>=◌

@@ -6,7 +6,7 @@ use Rattle.xom_cli.specs.declared.answer.OutputFile.{OutputFile}
 use Rattle.xom_cli.specs.declared.trace.Parts.{Parts}
 use Rattle.xom_cli.specs.declared.refusal.Refusal.TheVariants.{Unread}
 use Rattle.xom_cli.specs.Endings.{Disk, IsDone, Outside}
-use Rattle.xom_cli.specs.Inputs.{Held}
+use Rattle.xom_cli.specs.Inputs.{Held, without}
 use Rattle.xom_cli.specs.Outcome.{IsPrinted, Printed, printed}
 use Rattle.xom_cli.specs.Refusals.{line_of}
 use Rattle.xom_cli.specs.Rows.{Trace, row_of, target_of}
@@ -26,14 +26,20 @@ abbrev pub ReadCause : List (List ℕ) → Outside → Outside → ℕ → Type 
 ReadCause words before after status =
     status ≡ 2 → Rises before.reads after.reads ⊎ IsSomeAnd before.disk.held (λ held. (name : List ℕ) × (held name ≡ None) × IsPrinted words held (printed (Err (Unread name))))
 
--- the line that says of a file of some name that it can't be read was written
-abbrev pub SaysUnread : Outside → Outside → Type 0
-SaysUnread before after = (name : List ℕ) × Appends before.output.written after.output.written (line_of (Unread name))
+-- the command reads a file of this name: were it not held, that would be said
+abbrev pub IsReadBy : List (List ℕ) → Held → List ℕ → Type 0
+IsReadBy words held name = IsPrinted words (without name held) (printed (Err (Unread name)))
+
+-- the line that says of a file that it can't be read was written; where it is told what files hold, the command reads that file
+abbrev pub SaysUnread : List (List ℕ) → Outside → Outside → Type 0
+SaysUnread words before after =
+    (name : List ℕ) × Appends before.output.written after.output.written (line_of (Unread name))
+    × ((held : Held) → before.disk.held ≡ Some held → IsReadBy words held name)
 
 -- where the count of reads rose, that is answered and said, unless memory ran out; the sink may fail in the line
-abbrev pub IsUnread : Outside → Outside → ℕ → Type 0
-IsUnread before after status = before.reads < after.reads
-    → (status ≡ 5) ⊎ ((status ≡ 2) × (¬ Rises before.output.faults after.output.faults → SaysUnread before after))
+abbrev pub IsUnread : List (List ℕ) → Outside → Outside → ℕ → Type 0
+IsUnread words before after status = before.reads < after.reads
+    → (status ≡ 5) ⊎ ((status ≡ 2) × (¬ Rises before.output.faults after.output.faults → SaysUnread words before after))
 
 -- the sink's count rose, or that of writes
 abbrev pub FailsWriting : Outside → Outside → Type 0
@@ -71,21 +77,27 @@ WritesAll words before after status = (held : Held) → before.disk.held ≡ Som
 abbrev pub WritesFirst : Outside → Outside → ℕ → List ℕ → Type 0
 WritesFirst before after n text = Appends before.output.written after.output.written (take n text)
 
--- Always some first bytes of the defined text were written, or none; where a read failed, of the line that says so.
+-- Always some first bytes of the defined text were written, or none; where a read failed, of the line that says so of a file
+-- that the command reads.
 -- Where any were, the file is there.
 abbrev pub WritesPrefix : List (List ℕ) → Outside → Outside → Type 0
 WritesPrefix words before after = (held : Held) → before.disk.held ≡ Some held
     → (after.output.written ≡ before.output.written)
     ⊎ ((p : Printed) × IsPrinted words held p × WritesFile before.disk after.disk p.file × ((n : ℕ) × WritesFirst before after n p.text))
-    ⊎ (Rises before.reads after.reads × ((name : List ℕ) × ((n : ℕ) × WritesFirst before after n (line_of (Unread name)))))
+    ⊎ (Rises before.reads after.reads × ((name : List ℕ) × IsReadBy words held name × ((n : ℕ) × WritesFirst before after n (line_of (Unread name)))))
+
+-- Where no put failed, files hold what they held, or the command's file is there whole.
+abbrev pub WritesWhole : List (List ℕ) → Outside → Outside → Type 0
+WritesWhole words before after = (held : Held) → before.disk.held ≡ Some held → ¬ Rises before.disk.writes after.disk.writes
+    → (after.disk.held ≡ before.disk.held) ⊎ ((p : Printed) × IsPrinted words held p × WritesFile before.disk after.disk p.file)
 
 -- the file that the words name to be written
 abbrev pub target_in : List (List ℕ) → Option (List ℕ)
 target_in words = option_and_then target_of (row_of words)
 
--- no name changes but the one that the command writes
+-- no name changes but the one that the command writes, and where it writes none, nothing is put
 abbrev pub ChangesOnly : List (List ℕ) → Outside → Outside → Type 0
-ChangesOnly words before after = MatchOption (target_in words) (after.disk.held ≡ before.disk.held) (KeepsOthers before.disk.held after.disk.held)
+ChangesOnly words before after = MatchOption (target_in words) (after.disk ≡ before.disk) (KeepsOthers before.disk.held after.disk.held)
 
 -- and none where the words, a file that is read, or an input is refused
 abbrev pub KeepsFiles : Outside → Outside → ℕ → Type 0
@@ -105,13 +117,14 @@ pub record Promises (words : List (List ℕ)) (before after : Outside) (status :
   pub answers : IsStatus status
   pub words_cause : WordsCause words status
   pub read_cause : ReadCause words before after status
-  pub unread : IsUnread before after status
+  pub unread : IsUnread words before after status
   pub write_cause : WriteCause before after status
   pub done_cause : DoneCause before after status
   pub defined : IsDefined words before status
   pub sure : IsSure words before after status
   pub all : WritesAll words before after status
   pub prefix : WritesPrefix words before after
+  pub whole : WritesWhole words before after
   pub changes : ChangesOnly words before after
   pub keeps : KeepsFiles before after status
   pub unprinted : IsUnprinted before after

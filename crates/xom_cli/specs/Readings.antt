@@ -12,15 +12,20 @@ use Rattle.xom_cli.specs.declared.refusal.Refusal.{Refusal}
 use Rattle.xom_cli.specs.declared.refusal.Refusal.TheVariants.{Unread, Bad}
 use Rattle.xom_cli.specs.declared.refusal.Stop.{Stop}
 use Rattle.xom_cli.specs.declared.refusal.Stop.TheVariants as stop
-use Rattle.xom_cli.specs.Inputs.{Held}
+use Rattle.xom_cli.specs.Inputs.{Held, without}
 
 -- where it is told what files hold, this is what was wanted
 abbrev pub IsWanted : {Y : Type 0} → Told → (Held → Result Y Refusal → Type 0) → Result Y Refusal → Type 0
 IsWanted told Wanted result = (held : Held) → told ≡ Some held → Wanted held result
 
+-- a file of this name is read where it is told what files hold: were it not held, that would be refused
+abbrev pub IsRead : {Y : Type 0} → Told → (Held → Result Y Refusal → Type 0) → List ℕ → Type 0
+IsRead told Wanted name = (held : Held) → told ≡ Some held → Wanted (without name held) (Err (Unread name))
+
 -- why reading stopped. The counts are those of reads, before and after
 abbrev pub Refuses : {Y : Type 0} → Told → (Held → Result Y Refusal → Type 0) → ℕ → ℕ → Refusal → Type 0
-Refuses told Wanted before after (Unread name) = (before ≤ after) × (Rises before after ⊎ IsSomeAnd told (λ held. Wanted held (Err (Unread name))))
+Refuses told Wanted before after (Unread name) =
+    (before ≤ after) × (Rises before after ⊎ IsSomeAnd told (λ held. Wanted held (Err (Unread name)))) × IsRead told Wanted name
 Refuses told Wanted before after (Bad name fault) = (after ≡ before) × IsWanted told Wanted (Err (Bad name fault))
 
 -- want of memory comes freely
