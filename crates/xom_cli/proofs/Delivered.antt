@@ -79,6 +79,13 @@ pub puts-changes : (row : Row) (answer : Answer) (before after : Disk) (put : Re
 puts-changes row answer before after put wanted None is puts = same-changes (target_of row) before after puts.0
 puts-changes row answer before after put wanted (Some file) is puts = told-changes row answer file before.held after.held wanted is puts.1
 
+-- where the words name no file to be written, the answer has none, and none was put
+pub puts-nothing : (row : Row) (answer : Answer) (before after : Disk) (put : Result (Unit {0}) FileFault) → ((held : Held) → before.held ≡ Some held → IsOutcome row held (Ok answer)) → (o : Option OutputFile) → answer.file ≡ o → PutsFile before after o put
+    → (held : Held) → before.held ≡ Some held → target_of row ≡ None → after ≡ before
+puts-nothing row answer before after put wanted None is puts held told none = puts.0
+puts-nothing row answer before after put wanted (Some file) is puts held told none =
+    let named : target_of row ≡ Some file.name = target-written row held answer file (wanted held told) is in absurd (cc)
+
 module _ (before after : Disk) where
   pub puts-file : (file : Option OutputFile) (done : Unit {0}) → PutsFile before after file (Ok done) → WritesFile before after file
   puts-file None done puts = ap (λ (d : Disk). d.held) puts.0
@@ -99,3 +106,7 @@ module _ (before after : Disk) where
   pub lacks-count : (file : Option OutputFile) → PutsFile before after file (Err file_fault.NoMemory) → after.writes ≡ before.writes
   lacks-count None puts = absurd (let is = puts.1 in cc)
   lacks-count (Some file) puts = puts.0.0
+
+  pub lacks-held : (file : Option OutputFile) → PutsFile before after file (Err file_fault.NoMemory) → after.held ≡ before.held
+  lacks-held None puts = absurd (let is = puts.1 in cc)
+  lacks-held (Some file) puts = puts.0.1

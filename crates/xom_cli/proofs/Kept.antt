@@ -1,5 +1,5 @@
 -- Every call keeps its promises, however it ends.
-use Rattle.std.proofs.Common.{◌≡◌, ◌≢◌, ◌⊎◌, inl, inr, ℕ, List, ◌++◌, Option, Some, None, Result, Ok, Err, take, refl, sym, ap, subst, arith}
+use Rattle.std.proofs.Common.{◌≡◌, ◌≢◌, ◌⊎◌, inl, inr, ℕ, List, ◌++◌, Option, Some, None, Result, Ok, Err, take, refl, sym, ap, subst, ◌∙◌, arith}
 use Rattle.std.specs.Prelude.{IsSomeAnd, MatchOption, option_and_then}
 use Rattle.xom_io.specs.declared.files.FileFault.{FileFault}
 use Rattle.xom_io.specs.declared.files.FileFault.TheVariants as file_fault
@@ -16,14 +16,14 @@ use Rattle.xom_cli.specs.declared.refusal.Stop.{Stop}
 use Rattle.xom_cli.specs.declared.refusal.Stop.TheVariants as stop
 use Rattle.xom_cli.specs.declared.trace.Parts.{Parts}
 use Rattle.xom_cli.specs.Endings.{Disk, Ends, EndsRow, EndsWords, Finishes, IsDone, IsSilent, Outside, Output, PrintsBehind, PutsFile, ended, refused, status_of}
-use Rattle.xom_cli.specs.Inputs.{Held}
+use Rattle.xom_cli.specs.Inputs.{Held, without}
 use Rattle.xom_cli.specs.Outcome.{IsOutcome, IsPrinted, IsPrintedBy, Printed, printed, printed_words}
-use Rattle.xom_cli.specs.Promises.{ChangesOnly, FailsWriting, IsUnprinted, Promises, WritesFile, WritesPrefix, target_in}
-use Rattle.xom_cli.specs.Readings.{Meets, Refuses}
+use Rattle.xom_cli.specs.Promises.{ChangesOnly, FailsWriting, IsReadBy, IsUnprinted, IsUnput, Promises, WritesFile, WritesPrefix, WritesWhole, target_in}
+use Rattle.xom_cli.specs.Readings.{IsRead, Meets, Refuses}
 use Rattle.xom_cli.specs.Refusals.{line_of, refusal_status, words_line}
 use Rattle.xom_cli.specs.Rows.{Row, Trace, row_of, target_of}
 use Rattle.xom_cli.specs.Trace.{AllFollow, events_line, last_record, parts_of, report_of, traced}
-use Rattle.xom_cli.proofs.Delivered.{done_not_1, done_not_2, done_not_3, done_not_4, done_not_5, fails-rising, lacks-count, never-long, puts-changes, puts-count, puts-file, same-changes, same-count, takes-prefix}
+use Rattle.xom_cli.proofs.Delivered.{done_not_1, done_not_2, done_not_3, done_not_4, done_not_5, fails-rising, lacks-count, lacks-held, never-long, puts-changes, puts-count, puts-file, puts-nothing, same-changes, same-count, takes-prefix}
 use Rattle.xom_cli.proofs.Headline.{all_follow}
 use Rattle.xom_cli.proofs.Targets.{trace-answer}
 use Rattle.xom_cli.proofs.Unread.{row-unread}
@@ -38,13 +38,25 @@ module _ (words : List (List ℕ)) (before after : Outside) where
   same_changes : after.disk ≡ before.disk → ChangesOnly words before after
   same_changes same = same-changes (target_in words) before.disk after.disk same
 
-  same_printing : after.disk ≡ before.disk → IsUnprinted before after
-  same_printing same rises = absurd (same-count before.disk after.disk same rises)
+  -- what a call leaves of the files, and in the sink where one couldn't be put
+  record Leaves : Type 0 where
+    changes : ChangesOnly words before after
+    unput : IsUnput words before after
+    whole : WritesWhole words before after
+    unprinted : IsUnprinted before after
+
+  same_leaves : after.disk ≡ before.disk → Leaves
+  same_leaves same = record {
+    changes = same_changes same;
+    unput = λ held told none. same;
+    whole = λ held told calm. inl (ap (λ (d : Disk). d.held) same);
+    unprinted = λ rises. absurd (same-count before.disk after.disk same rises);
+  }
 
   -- ---- want of memory
 
-  no_memory : WritesPrefix words before after → ChangesOnly words before after → IsUnprinted before after → Promises words before after 5
-  no_memory prefix changes unprinted = record {
+  no_memory : WritesPrefix words before after → Leaves → Promises words before after 5
+  no_memory prefix leaves = record {
     answers = inr (inr (inr (inr (inr refl))));
     words_cause = record { only = λ e. absurd (omega arith); sure = λ _. inr refl };
     read_cause = λ e. absurd (omega arith);
@@ -55,9 +67,11 @@ module _ (words : List (List ℕ)) (before after : Outside) where
     sure = λ held told stays. inl refl;
     all = λ held told stays calm found. absurd (found refl);
     prefix = prefix;
-    changes = changes;
+    changes = leaves.changes;
+    unput = leaves.unput;
+    whole = leaves.whole;
     keeps = λ one. absurd (elim one [ inl e ↦ omega arith | inr other ↦ elim other [ inl e ↦ omega arith | inr e ↦ omega arith ] ]);
-    unprinted = unprinted;
+    unprinted = leaves.unprinted;
     headline = λ held told run row d. absurd (done_not_5 d);
   }
 
@@ -65,7 +79,7 @@ module _ (words : List (List ℕ)) (before after : Outside) where
   silent_prefix same held told = inl (ap (λ (o : Output). o.written) same)
 
   silent : after.disk ≡ before.disk → (result : Ending) → IsSilent before.output after.output ending.NoMemory result → Promises words before after (status_of result)
-  silent same result is = subst (λ e. Promises words before after (status_of e)) (sym is.0) (no_memory (silent_prefix is.1) (same_changes same) (same_printing same))
+  silent same result is = subst (λ e. Promises words before after (status_of e)) (sym is.0) (no_memory (silent_prefix is.1) (same_leaves same))
 
   -- ---- a text that is defined
 
@@ -107,16 +121,18 @@ module _ (words : List (List ℕ)) (before after : Outside) where
       sure = λ held told stays. inr (printed_words, words_printed held, inl refl);
       all = λ held told stays calm _. (printed_words, words_printed held, whole_put words_line put takes found (λ rises. calm (inl rises)), ap (λ (d : Disk). d.held) same);
       prefix = words_prefix same put takes;
-      changes = same_changes same;
+      changes = (same_leaves same).changes;
+      unput = (same_leaves same).unput;
+      whole = (same_leaves same).whole;
       keeps = λ _. same;
-      unprinted = same_printing same;
+      unprinted = (same_leaves same).unprinted;
       headline = λ held told run row d. absurd (done_not_1 d);
     }
 
     words_end : after.disk ≡ before.disk → after.reads ≡ before.reads → (put : Result (Unit {0}) SinkFault) → Took before.output after.output words_line put → Promises words before after (status_of (ended ending.NoRow ending.NoRow put))
     words_end same stays (Ok done) takes = words_said same stays (Ok done) (λ e. absurd (cc)) takes
     words_end same stays (Err sink_fault.Failed) takes = words_said same stays (Err sink_fault.Failed) (λ e. absurd (cc)) takes
-    words_end same stays (Err sink_fault.NoMemory) takes = no_memory (words_prefix same (Err sink_fault.NoMemory) takes) (same_changes same) (same_printing same)
+    words_end same stays (Err sink_fault.NoMemory) takes = no_memory (words_prefix same (Err sink_fault.NoMemory) takes) (same_leaves same)
 
   -- ---- words of a row
   module _ (row : Row) (is_row : row_of words ≡ Some row) where
@@ -143,6 +159,18 @@ module _ (words : List (List ℕ)) (before after : Outside) where
           subst (λ (o : Option (List ℕ)). MatchOption o (after.disk.held ≡ before.disk.held) (KeepsOthers before.disk.held after.disk.held)) (sym row_target)
           (puts-changes row answer before.disk after.disk put wanted answer.file refl puts)
 
+      answer_unput : (put : Result (Unit {0}) FileFault) → PutsFile before.disk after.disk answer.file put → IsUnput words before after
+      answer_unput put puts held told none = puts-nothing row answer before.disk after.disk put wanted answer.file refl puts held told (sym row_target ∙ none)
+
+      answer_whole : (put : Result (Unit {0}) FileFault) → PutsFile before.disk after.disk answer.file put → WritesWhole words before after
+      answer_whole (Ok u) puts held told calm = inr (printed (Ok answer), answer_printed held told, puts-file before.disk after.disk answer.file u puts)
+      answer_whole (Err file_fault.Failed) puts held told calm = absurd (calm (fails-rising before.disk after.disk answer.file puts))
+      answer_whole (Err file_fault.TooLong) puts held told calm = absurd (never-long before.disk after.disk answer.file puts)
+      answer_whole (Err file_fault.NoMemory) puts held told calm = inl (lacks-held before.disk after.disk answer.file puts)
+
+      answer_leaves : (put : Result (Unit {0}) FileFault) → PutsFile before.disk after.disk answer.file put → IsUnprinted before after → Leaves
+      answer_leaves put puts unprinted = record { changes = answer_changes put puts; unput = answer_unput put puts; whole = answer_whole put puts; unprinted = unprinted }
+
       headline_here : Appends before.output.written after.output.written answer.text → (held : Held) → before.disk.held ≡ Some held → (run : List ℕ) → row_of words ≡ Some (Trace run)
           → (parts : Parts) × (parts_of held run ≡ Ok parts) × Appends before.output.written after.output.written (report_text (report_of parts) ++ events_line (last_record parts)) × AllFollow (report_of parts)
       unfolding traced
@@ -165,14 +193,16 @@ module _ (words : List (List ℕ)) (before after : Outside) where
         all = λ held told _ calm found. (printed (Ok answer), answer_printed held told, takes.1, puts-file before.disk after.disk answer.file u puts);
         prefix = answer_prefix u puts (Ok v) takes;
         changes = answer_changes (Ok u) puts;
+        unput = answer_unput (Ok u) puts;
+        whole = answer_whole (Ok u) puts;
         keeps = λ one. absurd (elim one [ inl e ↦ done_not_1 (subst IsDone e done) | inr other ↦ elim other [ inl e ↦ done_not_2 (subst IsDone e done) | inr e ↦ done_not_4 (subst IsDone e done) ] ]);
         unprinted = λ rises. absurd (let is : after.disk.writes ≡ before.disk.writes = puts-count before.disk after.disk answer.file u puts in omega arith);
         headline = λ held told run named _. headline_here takes.1 held told run named;
       }
 
       -- the file or the text couldn't be written
-      broken : FailsWriting before after → WritesPrefix words before after → ChangesOnly words before after → IsUnprinted before after → Promises words before after 3
-      broken fails prefix changes unprinted = record {
+      broken : FailsWriting before after → WritesPrefix words before after → Leaves → Promises words before after 3
+      broken fails prefix leaves = record {
         answers = inr (inr (inr (inl refl)));
         words_cause = record { only = λ e. absurd (omega arith); sure = λ none. absurd (has_row none) };
         read_cause = λ e. absurd (omega arith);
@@ -183,9 +213,11 @@ module _ (words : List (List ℕ)) (before after : Outside) where
         sure = λ held told _. inr (printed (Ok answer), answer_printed held told, inr (refl, fails, done));
         all = λ held told _ calm found. absurd (calm fails);
         prefix = prefix;
-        changes = changes;
+        changes = leaves.changes;
+        unput = leaves.unput;
+        whole = leaves.whole;
         keeps = λ one. absurd (elim one [ inl e ↦ omega arith | inr other ↦ elim other [ inl e ↦ omega arith | inr e ↦ omega arith ] ]);
-        unprinted = unprinted;
+        unprinted = leaves.unprinted;
         headline = λ held told run named d. absurd (done_not_3 d);
       }
 
@@ -194,18 +226,18 @@ module _ (words : List (List ℕ)) (before after : Outside) where
 
       text_end : (u : Unit {0}) → PutsFile before.disk after.disk answer.file (Ok u) → (put : Result (Unit {0}) SinkFault) → Took before.output after.output answer.text put → Promises words before after (status_of (ended (ending.Done answer.status) ending.WriteFault put))
       text_end u puts (Ok v) takes = delivered u puts v takes
-      text_end u puts (Err sink_fault.Failed) takes = broken (inl takes.2) (answer_prefix u puts (Err sink_fault.Failed) takes) (answer_changes (Ok u) puts) (uncounted (puts-count before.disk after.disk answer.file u puts))
-      text_end u puts (Err sink_fault.NoMemory) takes = no_memory (answer_prefix u puts (Err sink_fault.NoMemory) takes) (answer_changes (Ok u) puts) (uncounted (puts-count before.disk after.disk answer.file u puts))
+      text_end u puts (Err sink_fault.Failed) takes = broken (inl takes.2) (answer_prefix u puts (Err sink_fault.Failed) takes) (answer_leaves (Ok u) puts (uncounted (puts-count before.disk after.disk answer.file u puts)))
+      text_end u puts (Err sink_fault.NoMemory) takes = no_memory (answer_prefix u puts (Err sink_fault.NoMemory) takes) (answer_leaves (Ok u) puts (uncounted (puts-count before.disk after.disk answer.file u puts)))
 
       answer_end : (put : Result (Unit {0}) FileFault) (result : Ending) → PutsFile before.disk after.disk answer.file put → PrintsBehind before.output after.output answer put result → Promises words before after (status_of result)
       answer_end (Ok u) result puts prints = subst (λ e. Promises words before after (status_of e)) (sym prints.2) (text_end u puts prints.0 prints.1)
       answer_end (Err file_fault.Failed) result puts quiet =
           subst (λ e. Promises words before after (status_of e)) (sym quiet.0)
-          (broken (inr (fails-rising before.disk after.disk answer.file puts)) (silent_prefix quiet.1) (answer_changes (Err file_fault.Failed) puts) (λ _. quiet.1))
+          (broken (inr (fails-rising before.disk after.disk answer.file puts)) (silent_prefix quiet.1) (answer_leaves (Err file_fault.Failed) puts (λ _. quiet.1)))
       answer_end (Err file_fault.TooLong) result puts quiet = absurd (never-long before.disk after.disk answer.file puts)
       answer_end (Err file_fault.NoMemory) result puts quiet =
           subst (λ e. Promises words before after (status_of e)) (sym quiet.0)
-          (no_memory (silent_prefix quiet.1) (answer_changes (Err file_fault.NoMemory) puts) (uncounted (lacks-count before.disk after.disk answer.file puts)))
+          (no_memory (silent_prefix quiet.1) (answer_leaves (Err file_fault.NoMemory) puts (uncounted (lacks-count before.disk after.disk answer.file puts))))
 
     -- ---- bad input
     module _ (refusal : Refusal) (bad : refusal_status refusal ≡ 4) (same : after.disk ≡ before.disk) (stays : after.reads ≡ before.reads) (wanted : (held : Held) → before.disk.held ≡ Some held → IsOutcome row held (Err refusal)) where
@@ -227,19 +259,25 @@ module _ (words : List (List ℕ)) (before after : Outside) where
         sure = λ held told _. inr (printed (Err refusal), bad_printed held told, inl (sym bad));
         all = λ held told _ calm _. (printed (Err refusal), bad_printed held told, whole_put (line_of refusal) put takes found (λ rises. calm (inl rises)), ap (λ (d : Disk). d.held) same);
         prefix = bad_prefix put takes;
-        changes = same_changes same;
+        changes = (same_leaves same).changes;
+        unput = (same_leaves same).unput;
+        whole = (same_leaves same).whole;
         keeps = λ _. same;
-        unprinted = same_printing same;
+        unprinted = (same_leaves same).unprinted;
         headline = λ held told run named d. absurd (done_not_4 d);
       }
 
       bad_end : (put : Result (Unit {0}) SinkFault) → Took before.output after.output (line_of refusal) put → Promises words before after (status_of (ended ending.BadInput ending.BadInput put))
       bad_end (Ok done) takes = bad_said (Ok done) (λ e. absurd (cc)) takes
       bad_end (Err sink_fault.Failed) takes = bad_said (Err sink_fault.Failed) (λ e. absurd (cc)) takes
-      bad_end (Err sink_fault.NoMemory) takes = no_memory (bad_prefix (Err sink_fault.NoMemory) takes) (same_changes same) (same_printing same)
+      bad_end (Err sink_fault.NoMemory) takes = no_memory (bad_prefix (Err sink_fault.NoMemory) takes) (same_leaves same)
 
     -- ---- a file that can't be read
-    module _ (name : List ℕ) (same : after.disk ≡ before.disk) (cause : Rises before.reads after.reads ⊎ IsSomeAnd before.disk.held (λ held. IsOutcome row held (Err (Unread name)))) where
+    module _ (name : List ℕ) (same : after.disk ≡ before.disk) (cause : Rises before.reads after.reads ⊎ IsSomeAnd before.disk.held (λ held. IsOutcome row held (Err (Unread name)))) (is_read : IsRead before.disk.held (IsOutcome row) name) where
+      -- the command reads it
+      read_by : (held : Held) → before.disk.held ≡ Some held → IsReadBy words held name
+      read_by held told = row_printed (without name held) (Err (Unread name)) (is_read held told)
+
       -- where it is told what files hold
       told-lacks : (o : Told) (held : Held) → o ≡ Some held → IsSomeAnd o (λ h. IsOutcome row h (Err (Unread name))) → IsOutcome row held (Err (Unread name))
       told-lacks None held told lacks = absurd lacks
@@ -259,7 +297,7 @@ module _ (words : List (List ℕ)) (before after : Outside) where
       unread_prefix put takes held told =
           let part = takes-prefix _ _ (line_of (Unread name)) _ _ put takes in
           elim cause [
-            | inl rises ↦ inr (inr (rises, (name, (part.0, part.1))))
+            | inl rises ↦ inr (inr (rises, (name, read_by held told, (part.0, part.1))))
             | inr lacks ↦ inr (inl (printed (Err (Unread name)), row_printed held (Err (Unread name)) (told-lacks before.disk.held held told lacks), no_file same, (part.0, part.1)))
           ]
 
@@ -268,27 +306,29 @@ module _ (words : List (List ℕ)) (before after : Outside) where
         answers = inr (inr (inl refl));
         words_cause = record { only = λ e. absurd (omega arith); sure = λ none. absurd (has_row none) };
         read_cause = λ _. elim cause [ inl rises ↦ inl rises | inr lacks ↦ inr (lacks-file before.disk.held lacks) ];
-        unread = λ rises. inr (refl, λ calm. (name, whole_put (line_of (Unread name)) put takes found calm));
+        unread = λ rises. inr (refl, λ calm. (name, whole_put (line_of (Unread name)) put takes found calm, read_by));
         write_cause = λ e. absurd (omega arith);
         done_cause = λ d. absurd (done_not_2 d);
         defined = λ held told a b c. absurd (a refl);
         sure = λ held told stays. inr (printed (Err (Unread name)), unread_printed held told stays, inl refl);
         all = λ held told stays calm _. (printed (Err (Unread name)), unread_printed held told stays, whole_put (line_of (Unread name)) put takes found (λ rises. calm (inl rises)), ap (λ (d : Disk). d.held) same);
         prefix = unread_prefix put takes;
-        changes = same_changes same;
+        changes = (same_leaves same).changes;
+        unput = (same_leaves same).unput;
+        whole = (same_leaves same).whole;
         keeps = λ _. same;
-        unprinted = same_printing same;
+        unprinted = (same_leaves same).unprinted;
         headline = λ held told run named d. absurd (done_not_2 d);
       }
 
       unread_end : (put : Result (Unit {0}) SinkFault) → Took before.output after.output (line_of (Unread name)) put → Promises words before after (status_of (ended ending.Unread ending.Unread put))
       unread_end (Ok done) takes = unread_said (Ok done) (λ e. absurd (cc)) takes
       unread_end (Err sink_fault.Failed) takes = unread_said (Err sink_fault.Failed) (λ e. absurd (cc)) takes
-      unread_end (Err sink_fault.NoMemory) takes = no_memory (unread_prefix (Err sink_fault.NoMemory) takes) (same_changes same) (same_printing same)
+      unread_end (Err sink_fault.NoMemory) takes = no_memory (unread_prefix (Err sink_fault.NoMemory) takes) (same_leaves same)
 
     -- ---- whatever was answered
     refusal_end : (refusal : Refusal) → after.disk ≡ before.disk → Refuses before.disk.held (IsOutcome row) before.reads after.reads refusal → (put : Result (Unit {0}) SinkFault) → Took before.output after.output (line_of refusal) put → Promises words before after (status_of (ended (refused refusal) (refused refusal) put))
-    refusal_end (Unread name) same why put takes = unread_end name same why.1 put takes
+    refusal_end (Unread name) same why put takes = unread_end name same why.1 why.2 put takes
     refusal_end (Bad name fault) same why put takes = bad_end (Bad name fault) refl same why.0 why.1 put takes
 
     row_end : (answered : Result Answer Stop) → Meets before.disk.held (IsOutcome row) before.reads after.reads answered → (result : Ending) → Finishes before.disk after.disk before.output after.output answered result → Promises words before after (status_of result)

@@ -6,6 +6,7 @@ pub mod Headline
 pub mod Statuses
 pub mod Assembled
 pub mod Unread
+pub mod Without
 pub mod Targets
 pub mod Delivered
 pub mod Kept

@@ -95,9 +95,13 @@ WritesWhole words before after = (held : Held) → before.disk.held ≡ Some hel
 abbrev pub target_in : List (List ℕ) → Option (List ℕ)
 target_in words = option_and_then target_of (row_of words)
 
--- no name changes but the one that the command writes, and where it writes none, nothing is put
+-- no name changes but the one that the command writes
 abbrev pub ChangesOnly : List (List ℕ) → Outside → Outside → Type 0
-ChangesOnly words before after = MatchOption (target_in words) (after.disk ≡ before.disk) (KeepsOthers before.disk.held after.disk.held)
+ChangesOnly words before after = MatchOption (target_in words) (after.disk.held ≡ before.disk.held) (KeepsOthers before.disk.held after.disk.held)
+
+-- where the words name no file to be written, no put fails, since none is tried
+abbrev pub IsUnput : List (List ℕ) → Outside → Outside → Type 0
+IsUnput words before after = (held : Held) → before.disk.held ≡ Some held → target_in words ≡ None → after.disk ≡ before.disk
 
 -- and none where the words, a file that is read, or an input is refused
 abbrev pub KeepsFiles : Outside → Outside → ℕ → Type 0
@@ -124,8 +128,9 @@ pub record Promises (words : List (List ℕ)) (before after : Outside) (status :
   pub sure : IsSure words before after status
   pub all : WritesAll words before after status
   pub prefix : WritesPrefix words before after
-  pub whole : WritesWhole words before after
   pub changes : ChangesOnly words before after
+  pub unput : IsUnput words before after
+  pub whole : WritesWhole words before after
   pub keeps : KeepsFiles before after status
   pub unprinted : IsUnprinted before after
   pub headline : GuestsRunAlone words before after status
