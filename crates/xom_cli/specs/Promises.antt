@@ -99,7 +99,7 @@ target_in words = option_and_then target_of (row_of words)
 abbrev pub ChangesOnly : List (List ℕ) → Outside → Outside → Type 0
 ChangesOnly words before after = MatchOption (target_in words) (after.disk.held ≡ before.disk.held) (KeepsOthers before.disk.held after.disk.held)
 
--- where the words name no file to be written, no put fails, since none is tried
+-- where the words name no file to be written, what files hold and their count of writes stay
 abbrev pub IsUnput : List (List ℕ) → Outside → Outside → Type 0
 IsUnput words before after = (held : Held) → before.disk.held ≡ Some held → target_in words ≡ None → after.disk ≡ before.disk
 
