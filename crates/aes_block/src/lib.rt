@@ -12,8 +12,6 @@ mod laws;
 mod schedule;
 mod state;
 mod table;
-#[cfg(test)]
-mod tests;
 
 pub use laws::inverses_are_inverse;
 pub use schedule::Schedule;

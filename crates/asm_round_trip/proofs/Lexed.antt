@@ -4,12 +4,12 @@ use Rattle.std.specs.Prelude.{slice_range}
 use Rattle.std.proofs.lemmas.List.{length-append}
 use Rattle.std.proofs.lemmas.Option.{none-some}
 use Rattle.std.proofs.Math.Seq.{drop-append_seam, take-append_seam}
-use Rattle.mips_text.proofs.KindLaws.{kind_of-no_blank}
-use Rattle.mips_text.proofs.SizeLaws.{token_found, token_kind, token_only}
-use Rattle.mips_text.proofs.StepLaws.{NoBlank, tokens_from-blank, tokens_from-token}
-use Rattle.mips_text.specs.declared.token.Token.{Token}
-use Rattle.mips_text.specs.declared.token.TokenKind.{TokenKind}
-use Rattle.mips_text.specs.Tokens.{EndsBefore, IsTextOf, is_over, token_at, token_of, tokens_from, tokens_of, with_tokens}
+use Rattle.asm_tokens.proofs.KindLaws.{kind_of-no_blank}
+use Rattle.asm_tokens.proofs.SizeLaws.{token_found, token_kind, token_only}
+use Rattle.asm_tokens.proofs.StepLaws.{NoBlank, tokens_from-blank, tokens_from-token}
+use Rattle.asm_tokens.specs.declared.token.Token.{Token}
+use Rattle.asm_tokens.specs.declared.token.TokenKind.{TokenKind}
+use Rattle.asm_tokens.specs.Tokens.{EndsBefore, IsTextOf, is_over, token_at, token_of, tokens_from, tokens_of, with_tokens}
 use Rattle.asm_syntax.specs.declared.lexeme.Lexeme.{Lexeme}
 use Rattle.asm_syntax.specs.Lexing.{lexeme_at, lexeme_of, lexemes_in, lexemes_of}
 

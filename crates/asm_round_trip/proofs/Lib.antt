@@ -7,3 +7,5 @@ pub mod NoNames
 pub mod Growing
 pub mod Standing
 pub mod ListingLaws
+pub mod FieldLaws
+pub mod PrintedLaws

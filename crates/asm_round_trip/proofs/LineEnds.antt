@@ -10,11 +10,11 @@ use Rattle.hex.specs.Hex.{encode_lower, encode_with, lower_digits}
 use Rattle.mips_isa.specs.Words.{read}
 use Rattle.mips_isa.specs.declared.instruction.Ins.{Ins}
 use Rattle.mips_isa.specs.declared.instruction.Ins.TheVariants.{Sll}
-use Rattle.mips_effect.specs.Numbers.{signed_16}
-use Rattle.mips_text.specs.Forms.{form_of}
+use Rattle.mips_isa.specs.Numbers.{signed_16}
+use Rattle.mips_forms.specs.Forms.{form_of}
 use Rattle.mips_text.specs.Texts.{address_text, joined, operand_text, operands_text, read_text, text_of, word_text}
-use Rattle.mips_text.specs.declared.operand.Operand.{Operand}
-use Rattle.mips_text.specs.declared.operand.Operand.TheVariants.{Register, Shift, Signed, Unsigned, Code, Branch, Jump, Offset}
+use Rattle.mips_forms.specs.declared.operand.Operand.{Operand}
+use Rattle.mips_forms.specs.declared.operand.Operand.TheVariants.{Register, Shift, Signed, Unsigned, Code, Branch, Jump, Offset}
 
 -- no byte ends a line
 abbrev pub OneLine : List ℕ → Type 0

@@ -5,9 +5,9 @@ use Rattle.std.proofs.lemmas.Bool.{or_from}
 use Rattle.std.proofs.lemmas.Option.{none-some, option_and_then_some as steps}
 use Rattle.xom_base.proofs.CutLaws.{option_map_some}
 use Rattle.mips_isa.specs.declared.instruction.Ins.{Ins}
-use Rattle.mips_text.specs.Builds.{kinds_of}
-use Rattle.mips_text.specs.declared.operand.Operand.{Operand}
-use Rattle.mips_text.specs.declared.operand.OperandKind.{OperandKind}
+use Rattle.mips_forms.specs.Builds.{kinds_of}
+use Rattle.mips_forms.specs.declared.operand.Operand.{Operand}
+use Rattle.mips_forms.specs.declared.operand.OperandKind.{OperandKind}
 use Rattle.asm_source.specs.declared.argument.Argument.{Argument}
 use Rattle.asm_source.specs.declared.argument.Argument.TheVariants as argument
 use Rattle.asm_source.specs.declared.argument.Value.{Value}

@@ -7,18 +7,18 @@ use Rattle.std.specs.Str.{bytes_eq}
 use Rattle.std.proofs.lemmas.Bool.{and_parts, cases_lt, le-ltb, lt-ltb, true≢false}
 use Rattle.std.proofs.lemmas.Fmt.{decimal_digit, decimal_step}
 use Rattle.std.proofs.lemmas.Slice.Eq.{bytes_eq-Decides}
-use Rattle.mips_effect.specs.Numbers.{signed_16, reduced, target, jump_target, after}
-use Rattle.mips_text.specs.declared.integers.Integer.{Integer}
-use Rattle.mips_text.specs.declared.operand.Operand.{Operand}
-use Rattle.mips_text.specs.declared.operand.Operand.TheVariants as operand
-use Rattle.mips_text.specs.declared.token.TokenKind.TheVariants as kinds
-use Rattle.mips_text.specs.Forms.{InRange, kind_of}
-use Rattle.mips_text.specs.Integers.{IsInteger}
-use Rattle.mips_text.specs.Registers.{IsRegister, register_numbers}
+use Rattle.mips_isa.specs.Numbers.{signed_16, reduced, target, jump_target, after}
+use Rattle.asm_tokens.specs.declared.integers.Integer.{Integer}
+use Rattle.mips_forms.specs.declared.operand.Operand.{Operand}
+use Rattle.mips_forms.specs.declared.operand.Operand.TheVariants as operand
+use Rattle.asm_tokens.specs.declared.token.TokenKind.TheVariants as kinds
+use Rattle.mips_forms.specs.Forms.{InRange, kind_of}
+use Rattle.asm_tokens.specs.Integers.{IsInteger}
+use Rattle.asm_tokens.specs.Registers.{IsRegister, register_numbers}
 use Rattle.mips_text.specs.Texts.{joined, operand_text, operands_text, register_text, value_of}
-use Rattle.mips_text.specs.Tokens.{NoNameByte}
-use Rattle.mips_text.proofs.IntegerLaws.{integer_of-exact}
-use Rattle.mips_text.proofs.RegisterLaws.{register_of-exact}
+use Rattle.asm_tokens.specs.Tokens.{NoNameByte}
+use Rattle.asm_tokens.proofs.IntegerLaws.{integer_of-exact}
+use Rattle.asm_tokens.proofs.RegisterLaws.{register_of-exact}
 use Rattle.asm_source.specs.declared.argument.Argument.{Argument}
 use Rattle.asm_source.specs.declared.argument.Argument.TheVariants as argument
 use Rattle.asm_source.specs.declared.argument.Value.TheVariants as values
@@ -27,7 +27,7 @@ use Rattle.asm_syntax.specs.declared.lexeme.Lexeme.TheVariants.{Number, Register
 use Rattle.asm_syntax.specs.Arguments.{argument_of, arguments_of, is_comma}
 use Rattle.asm_syntax.specs.Forms.{map_some}
 use Rattle.asm_syntax.specs.Lines.{may_be, may_be_all}
-use Rattle.mips_asm.specs.Printed.{Shows}
+use Rattle.asm_round_trip.specs.Printed.{Shows}
 use Rattle.asm_round_trip.proofs.Lexed.{Lexes, lexes_none, lexes_space, lexes_token}
 use Rattle.asm_round_trip.proofs.Numerals.{address-integer, printed, signed-integer, signed_16-small, whole-printed}
 

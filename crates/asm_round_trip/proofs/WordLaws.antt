@@ -7,13 +7,13 @@ use Rattle.mips_isa.proofs.Reading.{read-Word}
 use Rattle.mips_isa.specs.Words.{Fits, read}
 use Rattle.mips_isa.specs.declared.instruction.Ins.{Ins}
 use Rattle.mips_isa.specs.declared.instruction.Ins.TheVariants.{Jalr}
-use Rattle.mips_text.proofs.FormTable.{kinds_of_forms, operands_fit}
-use Rattle.mips_text.specs.declared.integers.Integer.{Integer}
-use Rattle.mips_text.specs.declared.operand.Operand.{Operand}
-use Rattle.mips_text.specs.declared.operand.Operand.TheVariants as operand
-use Rattle.mips_text.specs.declared.token.TokenKind.TheVariants as kinds
-use Rattle.mips_text.specs.Forms.{form_of}
-use Rattle.mips_text.specs.Lexemes.{IsName}
+use Rattle.mips_forms.proofs.FormTable.{kinds_of_forms, operands_fit}
+use Rattle.asm_tokens.specs.declared.integers.Integer.{Integer}
+use Rattle.mips_forms.specs.declared.operand.Operand.{Operand}
+use Rattle.mips_forms.specs.declared.operand.Operand.TheVariants as operand
+use Rattle.asm_tokens.specs.declared.token.TokenKind.TheVariants as kinds
+use Rattle.mips_forms.specs.Forms.{form_of}
+use Rattle.asm_tokens.specs.Lexemes.{IsName}
 use Rattle.mips_text.specs.Texts.{address_text, operand_text, operands_text, read_text, text_of}
 use Rattle.asm_source.specs.declared.argument.Argument.{Argument}
 use Rattle.asm_source.specs.declared.argument.Argument.TheVariants as argument
@@ -25,7 +25,7 @@ use Rattle.asm_syntax.specs.declared.lexeme.Lexeme.TheVariants.{Name, Number}
 use Rattle.asm_syntax.specs.Arguments.{argument_of, arguments_of}
 use Rattle.asm_syntax.specs.Forms.{◌>>=◌}
 use Rattle.asm_syntax.specs.Lines.{coded_of, instruction_of, jalr_of, last_of, line_parts, mnemonic_of, part, parts_of, statement_of, word_of as words_of}
-use Rattle.mips_asm.proofs.PrintedLaws.{printed_is_assembled}
+use Rattle.asm_round_trip.proofs.PrintedLaws.{printed_is_assembled}
 use Rattle.mips_asm.specs.Encoding.{Gives, join_some, word_value}
 use Rattle.mips_asm.specs.Passes.{Labels}
 use Rattle.asm_round_trip.specs.Listed.{WordsAreReadAgain}

@@ -1,4 +1,4 @@
-use mips_text::Integer;
+use asm_tokens::Integer;
 use xom_base::ByteList;
 
 /// A value in a source.

@@ -1,5 +1,5 @@
 use crate::{Argument, Items, Value};
-use mips_text::Integer;
+use asm_tokens::Integer;
 use xom_base::ByteList;
 
 /// A label or a statement.

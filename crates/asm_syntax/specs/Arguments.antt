@@ -1,7 +1,7 @@
 -- Operands as a source writes them: parts between commas.
 use Rattle.std.specs.Prelude.{ℕ, Bool, true, false, List, [], ◌∷◌, Option, Some, None, option_map}
 use Rattle.std.specs.List.{slice_split}
-use Rattle.mips_text.specs.declared.integers.Integer.{Integer}
+use Rattle.asm_tokens.specs.declared.integers.Integer.{Integer}
 use Rattle.asm_source.specs.declared.argument.Argument.{Argument}
 use Rattle.asm_source.specs.declared.argument.Argument.TheVariants as argument
 use Rattle.asm_source.specs.declared.argument.Value.{Value}

@@ -1,12 +1,12 @@
 -- The lexemes of a line: its tokens with what they stand for.
 use Rattle.std.specs.Prelude.{ℕ, List, slice_range, Option, Some, None, Result, Ok, Err, option_map}
-use Rattle.mips_text.specs.Integers.{integer_of}
-use Rattle.mips_text.specs.Lexemes.{quoted_of}
-use Rattle.mips_text.specs.Registers.{register_of}
-use Rattle.mips_text.specs.Tokens.{tokens_of}
-use Rattle.mips_text.specs.declared.token.Token.{Token}
-use Rattle.mips_text.specs.declared.token.TokenKind.{TokenKind}
-use Rattle.mips_text.specs.declared.token.TokenKind.TheVariants as kinds
+use Rattle.asm_tokens.specs.Integers.{integer_of}
+use Rattle.asm_tokens.specs.Lexemes.{quoted_of}
+use Rattle.asm_tokens.specs.Registers.{register_of}
+use Rattle.asm_tokens.specs.Tokens.{tokens_of}
+use Rattle.asm_tokens.specs.declared.token.Token.{Token}
+use Rattle.asm_tokens.specs.declared.token.TokenKind.{TokenKind}
+use Rattle.asm_tokens.specs.declared.token.TokenKind.TheVariants as kinds
 use Rattle.asm_syntax.specs.declared.lexeme.Lexeme.{Lexeme}
 use Rattle.asm_syntax.specs.declared.lexeme.Lexeme.TheVariants.{Name, Number, Register, Text, Comma, Colon, Left, Right}
 use Rattle.asm_syntax.specs.Forms.{map_some}

@@ -2,10 +2,10 @@
 use Rattle.std.specs.Prelude.{ℕ, Bool, true, false, ◌&&◌, ◌||◌, if◌then◌else◌, List, [], ◌∷◌, ◌++◌, codes, Option, Some, None, option_map, Result, Ok, Err}
 use Rattle.std.specs.Str.{bytes_eq}
 use Rattle.xom_base.specs.Lines.{LineStep, lines_of, read_from}
-use Rattle.mips_text.specs.Builds.{kinds_of}
-use Rattle.mips_text.specs.declared.integers.Integer.{Integer}
-use Rattle.mips_text.specs.declared.operand.OperandKind.{OperandKind}
-use Rattle.mips_text.specs.declared.operand.OperandKind.TheVariants as kinds
+use Rattle.mips_forms.specs.Builds.{kinds_of}
+use Rattle.asm_tokens.specs.declared.integers.Integer.{Integer}
+use Rattle.mips_forms.specs.declared.operand.OperandKind.{OperandKind}
+use Rattle.mips_forms.specs.declared.operand.OperandKind.TheVariants as kinds
 use Rattle.asm_source.specs.declared.argument.Argument.{Argument}
 use Rattle.asm_source.specs.declared.argument.Argument.TheVariants.{Register, Value, Offset, Text}
 use Rattle.asm_source.specs.declared.argument.Value.TheVariants as values

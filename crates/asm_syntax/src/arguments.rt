@@ -6,7 +6,7 @@ ghost use Rattle.asm_syntax.specs.Forms.{Answers, map_some};
 use crate::copies::copy_bytes;
 use crate::lexeme::Lexeme;
 use asm_source::{Argument, Items, Value};
-use mips_text::Integer;
+use asm_tokens::Integer;
 use std::alloc::Global;
 use xom_base::{LineFault, NoMemory};
 

@@ -1,11 +1,11 @@
 ghost use Rattle.std.specs.Prelude.{◌≡◌, All};
-ghost use Rattle.mips_text.specs.Tokens.{IsTokenOf};
+ghost use Rattle.asm_tokens.specs.Tokens.{IsTokenOf};
 ghost use Rattle.asm_syntax.specs.Forms.{Answers, map_some};
 ghost use Rattle.asm_syntax.specs.Lexing.{lexeme_at, lexeme_of, lexemes_of};
 
 use crate::copies::copy_bytes;
 use asm_source::Items;
-use mips_text::{Integer, Token, TokenFault, TokenKind, integer, register, tokens, unquoted};
+use asm_tokens::{Integer, Token, TokenFault, TokenKind, integer, register, tokens, unquoted};
 use std::alloc::Global;
 use xom_base::{ByteList, LineFault};
 

@@ -21,7 +21,7 @@ use Rattle.xom_seal.specs.Sealing.{line_tag, sealed_line, unsealed_line}
 use Rattle.xom_seal.proofs.EnvelopeLaws.{envelopes_open as wrapped_open}
 use Rattle.xom_seal.proofs.SealLaws.{lines_open as sealed_lines_open, sealed_lines_have_their_length}
 use Rattle.xom_image.proofs.LineBytes.{AreWhole, get-made}
-use Rattle.image_sealer.specs.declared.owner.Owner.{Owner}
+use Rattle.xom_owners.specs.declared.owner.Owner.{Owner}
 use Rattle.image_sealer.specs.Laws.{EnvelopesOpen, IsOwner, LinesOpen, TagsAreOfTheSealing}
 use Rattle.image_sealer.specs.Sealing.{contents_of, envelope_of, line_count, line_of, line_sealing_of, sealed_line_of, sealed_lines_of, sealing_of}
 

@@ -8,7 +8,7 @@ use Rattle.xom_seal.specs.Envelopes.{tag_in, unwrapped}
 use Rattle.xom_seal.specs.Keys.{image_keys}
 use Rattle.xom_seal.specs.Sealing.{unsealed_line}
 use Rattle.xom_image.specs.declared.sealed_image.SealedImage.{SealedImage}
-use Rattle.image_sealer.specs.declared.owner.Owner.{Owner}
+use Rattle.xom_owners.specs.declared.owner.Owner.{Owner}
 use Rattle.image_sealer.specs.Sealing.{IsSealedFor, contents_of, lines_of, sealing_of}
 
 -- the id has 16 bytes and the key 32, as they have in each value of the types

@@ -2,10 +2,10 @@ ghost use Rattle.std.specs.Prelude.{◌≡◌, ◌≤◌, ◌<◌, ◌^◌, IfOk
 ghost use Rattle.xom_seal.specs.Laws.{IsUnwrapped};
 ghost use Rattle.image_sealer.specs.Sealing.{IsSealedFor, contents_of as contents_for, line_count as line_count_of, line_of, sealed_lines_of};
 
-use crate::Owner;
 use std::alloc::Global;
 use xom_base::{ImageId, Key256, NoMemory};
 use xom_image::{SealedImage, SealedLineList};
+use xom_owners::Owner;
 use xom_seal::{LineName, Unwrapped, image_keys, seal_line, wrap};
 
 /// How many bytes a line has.

@@ -8,8 +8,6 @@ ghost use Rattle.sha2.specs.Sha256.{sha256};
 ghost use Rattle.keyed_mac.specs.Hmac.{block_key, hmac_sha256, masked as masked_of};
 ghost use Rattle.keyed_mac.specs.Laws.{TagsHaveTheirLength};
 
-#[cfg(test)]
-mod tests;
 
 use sha2::{Digest, Sha256};
 

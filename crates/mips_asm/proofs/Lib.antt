@@ -12,5 +12,3 @@ pub mod SameFaults
 pub mod ImageOrFaultLaws
 pub mod OneOutcome
 pub mod BytesLaws
-pub mod FieldLaws
-pub mod PrintedLaws

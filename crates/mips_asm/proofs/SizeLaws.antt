@@ -8,7 +8,7 @@ use Rattle.xom_base.proofs.CutLaws.{option_map_some}
 use Rattle.mips_isa.specs.Words.{word_of}
 use Rattle.mips_isa.specs.declared.instruction.Ins.{Ins}
 use Rattle.mips_isa.specs.declared.instruction.Ins.TheVariants.{Addiu, Ori}
-use Rattle.mips_text.specs.declared.integers.Integer.{Integer}
+use Rattle.asm_tokens.specs.declared.integers.Integer.{Integer}
 use Rattle.asm_source.specs.declared.argument.Value.{Value}
 use Rattle.asm_source.specs.declared.content.Content.{Content}
 use Rattle.asm_source.specs.declared.content.Content.TheVariants.{Label, Words, Bytes, Ascii, Space, Align, Org, Entry, LoadNumber, LoadAddress, Instruction}

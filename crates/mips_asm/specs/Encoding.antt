@@ -4,12 +4,12 @@ use Rattle.std.specs.Int.{w32, to_be_bytes}
 use Rattle.mips_isa.specs.Words.{Fits, word_of}
 use Rattle.mips_isa.specs.declared.instruction.Ins.{Ins}
 use Rattle.mips_isa.specs.declared.instruction.Ins.TheVariants.{Addiu, Ori, Lui}
-use Rattle.mips_text.specs.Builds.{build_of, kinds_of}
-use Rattle.mips_text.specs.declared.integers.Integer.{Integer}
-use Rattle.mips_text.specs.declared.operand.Operand.{Operand}
-use Rattle.mips_text.specs.declared.operand.Operand.TheVariants as operand
-use Rattle.mips_text.specs.declared.operand.OperandKind.{OperandKind}
-use Rattle.mips_text.specs.declared.operand.OperandKind.TheVariants as kinds
+use Rattle.mips_forms.specs.Builds.{build_of, kinds_of}
+use Rattle.asm_tokens.specs.declared.integers.Integer.{Integer}
+use Rattle.mips_forms.specs.declared.operand.Operand.{Operand}
+use Rattle.mips_forms.specs.declared.operand.Operand.TheVariants as operand
+use Rattle.mips_forms.specs.declared.operand.OperandKind.{OperandKind}
+use Rattle.mips_forms.specs.declared.operand.OperandKind.TheVariants as kinds
 use Rattle.asm_source.specs.declared.argument.Argument.{Argument}
 use Rattle.asm_source.specs.declared.argument.Argument.TheVariants as argument
 use Rattle.asm_source.specs.declared.argument.Value.{Value}

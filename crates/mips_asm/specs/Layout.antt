@@ -1,6 +1,6 @@
 -- Where the labels and statements of a source stand, and how many bytes each writes.
 use Rattle.std.specs.Prelude.{◌≡◌, ℕ, ◌+◌, ◌-◌, ◌*◌, ◌%◌, ◌^◌, ◌<◌, ◌≤◌, Bool, ◌&&◌, nat_lt, nat_le, if◌then◌else◌, List, [], ◌∷◌, length, max}
-use Rattle.mips_text.specs.declared.integers.Integer.{Integer}
+use Rattle.asm_tokens.specs.declared.integers.Integer.{Integer}
 use Rattle.asm_source.specs.declared.content.Content.{Content}
 use Rattle.asm_source.specs.declared.content.Content.TheVariants.{Label, Words, Bytes, Ascii, Space, Align, Org, Entry, LoadNumber, LoadAddress, Instruction}
 use Rattle.asm_source.specs.declared.content.Part.{Part}

@@ -5,4 +5,3 @@ pub mod Images
 pub mod Sources
 pub mod LabelMaps
 pub mod Laws
-pub mod Printed

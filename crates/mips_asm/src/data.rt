@@ -10,7 +10,7 @@ use crate::labels::Labels;
 use crate::layout::{in_range, padding};
 use asm_source::{Argument, Content, Items, Value};
 use mips_isa::Ins;
-use mips_text::Integer;
+use asm_tokens::Integer;
 use std::alloc::Global;
 use xom_base::{ByteList, NoMemory};
 

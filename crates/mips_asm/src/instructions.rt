@@ -7,7 +7,8 @@ use crate::labels::Labels;
 use crate::layout::in_range;
 use asm_source::{Argument, Items};
 use mips_isa::{Ins, encode, fits};
-use mips_text::{Integer, Operand, OperandKind, build, kinds};
+use mips_forms::{Operand, OperandKind, build, kinds};
+use asm_tokens::Integer;
 use std::alloc::Global;
 use xom_base::{ByteList, NoMemory};
 

@@ -5,7 +5,7 @@ ghost use Rattle.mips_asm.specs.Passes.{AnswersPass, too_long_line};
 use crate::AsmFault;
 use crate::placed::Placed;
 use asm_source::{Content, Items, Part};
-use mips_text::Integer;
+use asm_tokens::Integer;
 use std::alloc::Global;
 
 /// How many bytes an image may have.

@@ -21,12 +21,8 @@ mod naming;
 mod overlap;
 mod placed;
 mod ranges;
-#[cfg(test)]
-mod tests;
 mod unknown;
 
 pub use assembly::assemble;
 pub use fault::AsmFault;
-pub use law::{
-    bytes_are_those_of_their_statements, sources_have_one_outcome, what_is_printed_is_assembled,
-};
+pub use law::{bytes_are_those_of_their_statements, sources_have_one_outcome};

@@ -11,7 +11,8 @@ use Rattle.mips_effect.specs.declared.seen.Seen.{Seen}
 use Rattle.mips_effect.specs.declared.wish.LoadKind.{LoadKind}
 use Rattle.mips_effect.specs.declared.wish.LoadKind.TheVariants as kind
 use Rattle.mips_effect.specs.declared.wish.Wish.TheVariants as wish
-use Rattle.mips_effect.specs.Numbers.{plus_signed, after, sum, difference, extended, divided, divided_unsigned}
+use Rattle.mips_isa.specs.Numbers.{plus_signed, after, extended}
+use Rattle.mips_effect.specs.Arithmetic.{sum, difference, divided, divided_unsigned}
 use Rattle.mips_effect.specs.Effects.{sources_of, AreCells, IsPrivateStore, set, sets, sets_or_overflows, writes_only, loads, stores, stores_part, stores_left, stores_right, is_open, size_of, act, judged, is_reserved, is_barred, effect_of, seen_at, number_of, private_bytes, Ranged}
 
 -- a register is a cell

@@ -20,7 +20,8 @@ use Rattle.mips_effect.specs.declared.wish.LoadKind.{LoadKind}
 use Rattle.mips_effect.specs.declared.wish.LoadKind.TheVariants as kind
 use Rattle.mips_effect.specs.declared.wish.Wish.{Wish}
 use Rattle.mips_effect.specs.declared.wish.Wish.TheVariants as wish
-use Rattle.mips_effect.specs.Numbers.{signed_8, reduced, extended, plus_signed, target, jump_target, after, minus, sum, difference, shifted_signed, is_less, bit_if, halves, product, divided, divided_unsigned, byte_of, half_of, left_merged, right_merged}
+use Rattle.mips_isa.specs.Numbers.{signed_8, reduced, extended, plus_signed, target, jump_target, after}
+use Rattle.mips_effect.specs.Arithmetic.{minus, sum, difference, shifted_signed, is_less, bit_if, halves, product, divided, divided_unsigned, byte_of, half_of, left_merged, right_merged}
 
 -- the bytes of private memory
 abbrev pub private_bytes : ℕ

@@ -15,8 +15,6 @@ mod loads;
 mod products;
 mod seen;
 mod sums;
-#[cfg(test)]
-mod tests;
 mod wish;
 
 pub use acts::effect;

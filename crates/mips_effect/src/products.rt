@@ -1,5 +1,6 @@
 ghost use Rattle.std.specs.Prelude.{◌≡◌, ◌<◌, ◌*◌, int_div, int_rem};
-ghost use Rattle.mips_effect.specs.Numbers.{halves, product, divided, divided_unsigned, reduced, signed};
+ghost use Rattle.mips_isa.specs.Numbers.{reduced, signed};
+ghost use Rattle.mips_effect.specs.Arithmetic.{halves, product, divided, divided_unsigned};
 
 use xom_base::Writes;
 

@@ -8,8 +8,6 @@ mod decoder;
 mod encoder;
 mod fields;
 mod instruction;
-#[cfg(test)]
-mod tests;
 
 pub use decoder::decode;
 pub use encoder::{encode, fits};

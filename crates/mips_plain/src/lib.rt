@@ -10,8 +10,6 @@ mod instruction;
 mod law;
 mod machine;
 mod memory;
-#[cfg(test)]
-mod tests;
 mod verdict;
 
 pub use cell::PlainCell;

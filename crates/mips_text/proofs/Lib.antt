@@ -1,10 +1,1 @@
-pub mod FormTable
-pub mod Heads
-pub mod IntegerLaws
-pub mod KindLaws
-pub mod LineLaws
 pub mod OperandValues
-pub mod QuotedLaws
-pub mod RegisterLaws
-pub mod SizeLaws
-pub mod StepLaws

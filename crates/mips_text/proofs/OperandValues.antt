@@ -5,10 +5,10 @@ use Rattle.std.proofs.lemmas.Int.{ints, int_rem_euclid_is}
 use Rattle.std.specs.Prelude.{unsigned_abs}
 use Rattle.mips_isa.proofs.Reading.{Word-read, reserved-none}
 use Rattle.mips_isa.specs.declared.instruction.Ins.{Ins}
-use Rattle.mips_effect.specs.Numbers.{signed_16, reduced, target, jump_target, after}
-use Rattle.mips_text.specs.declared.operand.Operand.TheVariants.{Register, Shift, Signed, Unsigned, Code, Branch, Jump, Offset}
+use Rattle.mips_isa.specs.Numbers.{signed_16, reduced, target, jump_target, after}
+use Rattle.mips_forms.specs.declared.operand.Operand.TheVariants.{Register, Shift, Signed, Unsigned, Code, Branch, Jump, Offset}
 use Rattle.mips_text.specs.Texts.{read_text}
-use Rattle.mips_text.specs.FormLaws.{ValuesDiffer, WordsAreListed}
+use Rattle.mips_text.specs.TextLaws.{ValuesDiffer, WordsAreListed}
 
 -- a number of 16 bits with its sign is itself, or itself less 2^16
 signed_16-is : (n : ℕ) → ((n < 2 ^ 15) × (signed_16 n ≡ pos n)) ⊎ ((2 ^ 15 ≤ n) × (signed_16 n ≡ pos n -ℤ pos (2 ^ 16)))

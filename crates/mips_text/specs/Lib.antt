@@ -1,8 +1,2 @@
-pub mod Builds
-pub mod FormLaws
-pub mod Forms
-pub mod Integers
-pub mod Lexemes
-pub mod Registers
 pub mod Texts
-pub mod Tokens
+pub mod TextLaws

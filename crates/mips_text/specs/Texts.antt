@@ -6,10 +6,10 @@ use Rattle.std.specs.Int.{w32, from_be_bytes}
 use Rattle.text_pieces.specs.Pieces.{hex8}
 use Rattle.mips_isa.specs.declared.instruction.Ins.{Ins}
 use Rattle.mips_isa.specs.Words.{read}
-use Rattle.mips_effect.specs.Numbers.{signed_16, target, jump_target, after}
-use Rattle.mips_text.specs.declared.operand.Operand.{Operand}
-use Rattle.mips_text.specs.declared.operand.Operand.TheVariants.{Register, Shift, Signed, Unsigned, Code, Branch, Jump, Offset}
-use Rattle.mips_text.specs.Forms.{form_of}
+use Rattle.mips_isa.specs.Numbers.{signed_16, target, jump_target, after}
+use Rattle.mips_forms.specs.declared.operand.Operand.{Operand}
+use Rattle.mips_forms.specs.declared.operand.Operand.TheVariants.{Register, Shift, Signed, Unsigned, Code, Branch, Jump, Offset}
+use Rattle.mips_forms.specs.Forms.{form_of}
 
 -- The number that stands for an operand in the text of the instruction at an address: a target is an
 -- address, reckoned as the instruction itself does from the address after its own.

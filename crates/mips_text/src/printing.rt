@@ -1,12 +1,12 @@
 ghost use Rattle.std.specs.Prelude.{◌≡◌, ◌++◌, map, OnOk, IfOk, codes};
 ghost use Rattle.std.specs.List.{AllByRecursion};
 ghost use Rattle.mips_isa.specs.Words.{Fits};
-ghost use Rattle.mips_text.specs.Forms.{listed, InRange};
+ghost use Rattle.mips_forms.specs.Forms.{listed, InRange};
 ghost use Rattle.mips_text.specs.Texts.{text_of, operand_text, offset_text, operands_text, joined};
 
 use crate::pieces::{push_address, push_register, push_signed};
 use crate::targets::{branch_target, jump_target};
-use crate::{Operand, Operands, form};
+use mips_forms::{Operand, Operands, form};
 use mips_isa::Ins;
 use std::alloc::Global;
 use text_pieces::{push_bytes, push_decimal};
@@ -26,7 +26,7 @@ pub fn print(alloc: Global, ins: Ins, pc: u32) -> Result<ByteList, NoMemory>
 
 /// Adds the text of the instruction at an address. Where memory runs out, a part of it may stand
 /// there already.
-#[tactic(auto, unfolding(crate::specs::Texts::text_of), using(crate::proofs::FormTable::operands_fit))]
+#[tactic(auto, unfolding(crate::specs::Texts::text_of), using(mips_forms::proofs::FormTable::operands_fit))]
 pub fn push_text(text: &mut Vec<u8>, ins: Ins, pc: u32) -> Result<(), NoMemory>
     requires { Fits ins }
     ensures { OnOk result (text.new.items ≡ text.old.items ++ text_of ins pc) }

@@ -8,8 +8,6 @@ mod ending;
 mod law;
 mod received;
 mod run;
-#[cfg(test)]
-mod tests;
 
 pub use ending::PlainEnd;
 pub use law::run_is_alone;

@@ -5,8 +5,6 @@
 mod mask;
 mod session;
 mod table;
-#[cfg(test)]
-mod tests;
 
 pub use mask::{owns, with_cell, without_cell};
 pub use session::{Session, SlotState, SlotView};

@@ -8,8 +8,6 @@
 mod fault;
 mod fields;
 mod pieces;
-#[cfg(test)]
-mod tests;
 
 pub use fault::fault_name;
 pub use fields::push_step;

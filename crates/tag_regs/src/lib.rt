@@ -5,8 +5,6 @@
 
 mod cell;
 mod cells;
-#[cfg(test)]
-mod tests;
 
 pub use cell::Cell;
 pub use cells::Cells;

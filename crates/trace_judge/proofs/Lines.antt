@@ -6,8 +6,8 @@ use Rattle.xom_base.specs.declared.entry.Entry.{Entry}
 use Rattle.xom_base.specs.declared.entry.Entry.TheVariants as entry
 use Rattle.xom_base.specs.declared.key.ImageId.{ImageId}
 use Rattle.xom_base.specs.Entries.{steps_of}
-use Rattle.image_sealer.specs.declared.owner.Owner.{Owner}
-use Rattle.image_sealer.specs.Owners.{owner_of}
+use Rattle.xom_owners.specs.declared.owner.Owner.{Owner}
+use Rattle.xom_owners.specs.Owners.{owner_of}
 use Rattle.mips_plain.specs.declared.verdict.Verdict.TheVariants.{Follows}
 use Rattle.mips_plain.specs.Machine.{State, start}
 use Rattle.mips_plain.specs.Follows.{Reaches}

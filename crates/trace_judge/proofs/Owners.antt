@@ -1,6 +1,6 @@
 -- Owners seal nothing as yet.
 use Rattle.std.proofs.Common.{◌≡◌, List, [], ◌∷◌, refl}
-use Rattle.image_sealer.specs.declared.owner.Owner.{Owner}
+use Rattle.xom_owners.specs.declared.owner.Owner.{Owner}
 use Rattle.trace_judge.specs.Judgement.{sealed_by}
 
 -- no owner sealed anything

@@ -11,8 +11,8 @@ use Rattle.xom_base.specs.declared.step.Step.{Step}
 use Rattle.xom_base.specs.declared.step.StepEnd.{StepEnd}
 use Rattle.xom_base.specs.declared.step.StepEnd.TheVariants as ended
 use Rattle.xom_base.specs.Entries.{steps_of}
-use Rattle.image_sealer.specs.declared.owner.Owner.{Owner}
-use Rattle.image_sealer.specs.Owners.{owner_of}
+use Rattle.xom_owners.specs.declared.owner.Owner.{Owner}
+use Rattle.xom_owners.specs.Owners.{owner_of}
 use Rattle.mips_plain.specs.declared.verdict.Verdict.{Verdict}
 use Rattle.mips_plain.specs.declared.verdict.Verdict.TheVariants.{NoOwner}
 use Rattle.mips_plain.specs.Machine.{start}

@@ -4,7 +4,7 @@ ghost use Rattle.trace_judge.specs.Judgement.{judgement};
 use crate::Report;
 use crate::guests::guest_lines;
 use crate::searches::{collision, forged};
-use image_sealer::OwnerList;
+use xom_owners::OwnerList;
 use std::alloc::Global;
 use xom_base::NoMemory;
 use xom_journal::Journal;

@@ -10,8 +10,6 @@ mod judging;
 mod laws;
 mod report;
 mod searches;
-#[cfg(test)]
-mod tests;
 mod text;
 
 pub use judging::judge;

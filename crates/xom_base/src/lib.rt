@@ -18,8 +18,6 @@ mod numbers;
 mod payload;
 mod schedule;
 mod step;
-#[cfg(test)]
-mod tests;
 
 pub use chunk::Chunk;
 pub use entry::Entry;

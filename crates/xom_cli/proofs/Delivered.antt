@@ -7,10 +7,11 @@ use Rattle.xom_io.specs.declared.files.FileFault.TheVariants as file_fault
 use Rattle.xom_io.specs.declared.sink.SinkFault.{SinkFault}
 use Rattle.xom_io.specs.declared.sink.SinkFault.TheVariants as sink_fault
 use Rattle.xom_io.specs.Answers.{Appends, KeepsOthers, Rises, TakesAll, Told}
-use Rattle.xom_cli.specs.declared.answer.Answer.{Answer}
-use Rattle.xom_cli.specs.declared.answer.OutputFile.{OutputFile}
-use Rattle.xom_cli.specs.Endings.{Disk, IsDone, PutsFile}
-use Rattle.xom_cli.specs.Inputs.{Held}
+use Rattle.cli_base.specs.declared.answer.Answer.{Answer}
+use Rattle.cli_base.specs.declared.answer.OutputFile.{OutputFile}
+use Rattle.xom_cli.specs.Endings.{Disk, PutsFile}
+use Rattle.cli_base.specs.Commands.{IsDone}
+use Rattle.cli_base.specs.Inputs.{Held}
 use Rattle.xom_cli.specs.Outcome.{IsOutcome}
 use Rattle.xom_cli.specs.Promises.{WritesFile}
 use Rattle.xom_cli.specs.Rows.{Row, target_of}

@@ -7,24 +7,25 @@ use Rattle.xom_io.specs.declared.sink.SinkFault.{SinkFault}
 use Rattle.xom_io.specs.declared.sink.SinkFault.TheVariants as sink_fault
 use Rattle.xom_io.specs.Answers.{Appends, KeepsOthers, Rises, TakesAll, Told}
 use Rattle.trace_judge.specs.ReportText.{report_text}
-use Rattle.xom_cli.specs.declared.answer.Answer.{Answer}
+use Rattle.cli_base.specs.declared.answer.Answer.{Answer}
 use Rattle.xom_cli.specs.declared.ending.Ending.{Ending}
 use Rattle.xom_cli.specs.declared.ending.Ending.TheVariants as ending
-use Rattle.xom_cli.specs.declared.refusal.Refusal.{Refusal}
-use Rattle.xom_cli.specs.declared.refusal.Refusal.TheVariants.{Unread, Bad}
-use Rattle.xom_cli.specs.declared.refusal.Stop.{Stop}
-use Rattle.xom_cli.specs.declared.refusal.Stop.TheVariants as stop
-use Rattle.xom_cli.specs.declared.trace.Parts.{Parts}
-use Rattle.xom_cli.specs.Endings.{Disk, Ends, EndsRow, EndsWords, Finishes, IsDone, IsSilent, Outside, Output, PrintsBehind, PutsFile, ended, refused, status_of}
-use Rattle.xom_cli.specs.Inputs.{Held, without}
+use Rattle.cli_base.specs.declared.refusal.Refusal.{Refusal}
+use Rattle.cli_base.specs.declared.refusal.Refusal.TheVariants.{Unread, Bad}
+use Rattle.cli_base.specs.declared.refusal.Stop.{Stop}
+use Rattle.cli_base.specs.declared.refusal.Stop.TheVariants as stop
+use Rattle.cli_trace.specs.declared.trace.Parts.{Parts}
+use Rattle.xom_cli.specs.Endings.{Disk, Ends, EndsRow, EndsWords, Finishes, IsSilent, Outside, Output, PrintsBehind, PutsFile, ended, refused, status_of}
+use Rattle.cli_base.specs.Commands.{IsDone}
+use Rattle.cli_base.specs.Inputs.{Held, without}
 use Rattle.xom_cli.specs.Outcome.{IsOutcome, IsPrinted, IsPrintedBy, Printed, printed, printed_words}
 use Rattle.xom_cli.specs.Promises.{ChangesOnly, FailsWriting, IsReadBy, IsUnprinted, IsUnput, Promises, WritesFile, WritesPrefix, WritesWhole, target_in}
-use Rattle.xom_cli.specs.Readings.{IsRead, Meets, Refuses}
-use Rattle.xom_cli.specs.Refusals.{line_of, refusal_status, words_line}
+use Rattle.cli_base.specs.Readings.{IsRead, Meets, Refuses}
+use Rattle.cli_base.specs.Refusals.{line_of, refusal_status, words_line}
 use Rattle.xom_cli.specs.Rows.{Row, Trace, row_of, target_of}
-use Rattle.xom_cli.specs.Trace.{AllFollow, events_line, last_record, parts_of, report_of, traced}
+use Rattle.cli_trace.specs.Trace.{AllFollow, events_line, last_record, parts_of, report_of, traced}
 use Rattle.xom_cli.proofs.Delivered.{done_not_1, done_not_2, done_not_3, done_not_4, done_not_5, fails-rising, lacks-count, lacks-held, never-long, puts-changes, puts-count, puts-file, puts-nothing, same-changes, same-count, takes-prefix}
-use Rattle.xom_cli.proofs.Headline.{all_follow}
+use Rattle.cli_trace.proofs.Headline.{all_follow}
 use Rattle.xom_cli.proofs.Targets.{trace-answer}
 use Rattle.xom_cli.proofs.Unread.{row-unread}
 

@@ -1,12 +1,4 @@
-pub mod Runnable
-pub mod Images
-pub mod Told
-pub mod Traced
-pub mod Headline
-pub mod Statuses
-pub mod Assembled
 pub mod Unread
-pub mod Without
 pub mod Targets
 pub mod Delivered
 pub mod Kept

@@ -5,10 +5,11 @@ use Rattle.mips_asm.specs.declared.fault.AsmFault.{AsmFault}
 use Rattle.mips_asm.specs.declared.fault.AsmFault.TheVariants as asm_fault
 use Rattle.mips_asm.specs.Sources.{IsFaultOf}
 use Rattle.mips_asm.proofs.OneOutcome.{image_or_fault, one_fault, one_image}
-use Rattle.xom_cli.specs.declared.answer.Answer.{Answer}
-use Rattle.xom_cli.specs.declared.refusal.Refusal.{Refusal}
-use Rattle.xom_cli.specs.Assembly.{AssemblesRead, AssemblesText, image_answer, said_of}
-use Rattle.xom_cli.specs.Inputs.{Held, fetched, source_limit}
+use Rattle.cli_base.specs.declared.answer.Answer.{Answer}
+use Rattle.cli_base.specs.declared.refusal.Refusal.{Refusal}
+use Rattle.cli_programs.specs.Assembly.{AssemblesRead, AssemblesText, image_answer, said_of}
+use Rattle.cli_base.specs.Inputs.{Held, fetched}
+use Rattle.cli_programs.specs.Programs.{source_limit}
 use Rattle.xom_cli.specs.Laws.{HaveOneOutcome}
 use Rattle.xom_cli.specs.Outcome.{IsOutcome, IsPrinted, IsPrintedBy, Printed, printed}
 use Rattle.xom_cli.specs.Rows.{Row, Asm, Disasm, Plain, Seal, Trace, row_of}

@@ -2,16 +2,17 @@
 use Rattle.std.proofs.Common.{◌≡◌, List, ℕ, Option, Some, None, Result, Ok, Err, refl, sym, ◌∙◌, ap}
 use Rattle.xom_base.specs.declared.key.ImageId.{ImageId}
 use Rattle.xom_base.specs.declared.key.Key256.{Key256}
-use Rattle.xom_cli.specs.declared.answer.Answer.{Answer}
-use Rattle.xom_cli.specs.declared.answer.OutputFile.{OutputFile}
-use Rattle.xom_cli.specs.declared.refusal.Refusal.{Refusal}
-use Rattle.xom_cli.specs.declared.trace.Parts.{Parts}
-use Rattle.xom_cli.specs.Assembly.{AssemblesRead}
-use Rattle.xom_cli.specs.Inputs.{◌>>=◌, Held, fetched, image_of, source_limit}
+use Rattle.cli_base.specs.declared.answer.Answer.{Answer}
+use Rattle.cli_base.specs.declared.answer.OutputFile.{OutputFile}
+use Rattle.cli_base.specs.declared.refusal.Refusal.{Refusal}
+use Rattle.cli_trace.specs.declared.trace.Parts.{Parts}
+use Rattle.cli_programs.specs.Assembly.{AssemblesRead}
+use Rattle.cli_base.specs.Inputs.{◌>>=◌, Held, fetched, image_of}
+use Rattle.cli_programs.specs.Programs.{source_limit}
 use Rattle.xom_cli.specs.Outcome.{IsOutcome}
-use Rattle.xom_cli.specs.Programs.{disasm_of, plain_of, seal_of, values_of}
+use Rattle.cli_programs.specs.Programs.{disasm_of, plain_of, seal_of, values_of}
 use Rattle.xom_cli.specs.Rows.{Row, Asm, Disasm, Plain, Seal, Trace, target_of}
-use Rattle.xom_cli.specs.Trace.{parts_of, trace_of, traced}
+use Rattle.cli_trace.specs.Trace.{parts_of, trace_of, traced}
 
 -- where two steps answer, the first did, and the second of what it gave
 pub bind-ok : {A B : Type 0} (o : Result A Refusal) (f : A → Result B Refusal) (value : B) → (o >>= f) ≡ Ok value → (x : A) × (o ≡ Ok x) × (f x ≡ Ok value)

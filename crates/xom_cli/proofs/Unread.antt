@@ -3,17 +3,19 @@ use Rattle.std.proofs.Common.{◌≡◌, ◌⊎◌, inl, inr, ℕ, List, Option,
 use Rattle.std.specs.Prelude.{nat_le}
 use Rattle.xom_base.specs.declared.key.ImageId.{ImageId}
 use Rattle.xom_base.specs.declared.key.Key256.{Key256}
-use Rattle.xom_cli.specs.declared.refusal.InputFault.{InputFault}
-use Rattle.xom_cli.specs.declared.refusal.InputFault.TheVariants.{TooLong}
-use Rattle.xom_cli.specs.declared.refusal.Refusal.{Refusal}
-use Rattle.xom_cli.specs.declared.refusal.Refusal.TheVariants.{Unread, Bad}
-use Rattle.xom_cli.specs.Assembly.{Assembles, AssemblesRead}
-use Rattle.xom_cli.proofs.Assembled.{said-unread}
-use Rattle.xom_cli.specs.Inputs.{◌>>=◌, Held, fetched, fetched_bytes, image_of, in_file, input_of, received_of, run_file_of, script_of, source_limit}
+use Rattle.cli_base.specs.declared.refusal.InputFault.{InputFault}
+use Rattle.cli_base.specs.declared.refusal.InputFault.TheVariants.{TooLong}
+use Rattle.cli_base.specs.declared.refusal.Refusal.{Refusal}
+use Rattle.cli_base.specs.declared.refusal.Refusal.TheVariants.{Unread, Bad}
+use Rattle.cli_programs.specs.Assembly.{Assembles, AssemblesRead}
+use Rattle.cli_programs.proofs.Assembled.{said-unread}
+use Rattle.cli_base.specs.Inputs.{◌>>=◌, Held, fetched, fetched_bytes, image_of, in_file, input_of}
+use Rattle.cli_programs.specs.Programs.{received_of, source_limit}
+use Rattle.cli_trace.specs.Inputs.{run_file_of, script_of}
 use Rattle.xom_cli.specs.Outcome.{IsOutcome}
-use Rattle.xom_cli.specs.Programs.{disasm_of, plain_of, seal_of, values_of}
+use Rattle.cli_programs.specs.Programs.{disasm_of, plain_of, seal_of, values_of}
 use Rattle.xom_cli.specs.Rows.{Row, Asm, Disasm, Plain, Seal, Trace}
-use Rattle.xom_cli.specs.Trace.{parts_of, trace_of}
+use Rattle.cli_trace.specs.Trace.{parts_of, trace_of}
 
 -- where a step and what follows it are refused, one of them is
 bind-err : {A B : Type 0} (o : Result A Refusal) (f : A → Result B Refusal) (e : Refusal) → (o >>= f) ≡ Err e → (o ≡ Err e) ⊎ ((x : A) × (o ≡ Ok x) × (f x ≡ Err e))

@@ -5,17 +5,18 @@ use Rattle.xom_io.specs.declared.files.FileFault.TheVariants as file_fault
 use Rattle.xom_io.specs.declared.sink.SinkFault.{SinkFault}
 use Rattle.xom_io.specs.declared.sink.SinkFault.TheVariants as sink_fault
 use Rattle.xom_io.specs.Answers.{KeepsOthers, Puts, TakesAll, Told}
-use Rattle.xom_cli.specs.declared.answer.Answer.{Answer}
-use Rattle.xom_cli.specs.declared.answer.OutputFile.{OutputFile}
+use Rattle.cli_base.specs.declared.answer.Answer.{Answer}
+use Rattle.cli_base.specs.declared.answer.OutputFile.{OutputFile}
 use Rattle.xom_cli.specs.declared.ending.Ending.{Ending}
 use Rattle.xom_cli.specs.declared.ending.Ending.TheVariants as ending
-use Rattle.xom_cli.specs.declared.refusal.Refusal.{Refusal}
-use Rattle.xom_cli.specs.declared.refusal.Refusal.TheVariants.{Unread, Bad}
-use Rattle.xom_cli.specs.declared.refusal.Stop.{Stop}
-use Rattle.xom_cli.specs.declared.refusal.Stop.TheVariants as stop
+use Rattle.cli_base.specs.Commands.{IsDone}
+use Rattle.cli_base.specs.declared.refusal.Refusal.{Refusal}
+use Rattle.cli_base.specs.declared.refusal.Refusal.TheVariants.{Unread, Bad}
+use Rattle.cli_base.specs.declared.refusal.Stop.{Stop}
+use Rattle.cli_base.specs.declared.refusal.Stop.TheVariants as stop
 use Rattle.xom_cli.specs.Outcome.{IsOutcome}
-use Rattle.xom_cli.specs.Readings.{Meets}
-use Rattle.xom_cli.specs.Refusals.{line_of, words_line}
+use Rattle.cli_base.specs.Readings.{Meets}
+use Rattle.cli_base.specs.Refusals.{line_of, words_line}
 use Rattle.xom_cli.specs.Rows.{Row, row_of}
 
 -- what files tell, and their count of writes that failed
@@ -52,10 +53,6 @@ status_of ending.Unread = 2
 status_of ending.WriteFault = 3
 status_of ending.BadInput = 4
 status_of ending.NoMemory = 5
-
--- a command that was carried out ends so
-abbrev pub IsDone : ℕ → Type 0
-IsDone status = (status ≡ 0) ⊎ (status ≡ 6) ⊎ (status ≡ 8) ⊎ (status ≡ 9)
 
 -- ---- The sink
 

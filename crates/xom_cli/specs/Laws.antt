@@ -1,6 +1,6 @@
 -- What words come to is one thing.
 use Rattle.std.specs.Prelude.{◌≡◌, ℕ, List}
-use Rattle.xom_cli.specs.Inputs.{Held}
+use Rattle.cli_base.specs.Inputs.{Held}
 use Rattle.xom_cli.specs.Outcome.{IsPrinted, Printed}
 
 -- over files that hold the same, words print one text, write one file and end with one status

@@ -1,12 +1,6 @@
 pub mod Rows
 pub mod Words
-pub mod Refusals
-pub mod Inputs
-pub mod Programs
-pub mod Assembly
-pub mod Trace
 pub mod Outcome
 pub mod Endings
-pub mod Readings
 pub mod Promises
 pub mod Laws

@@ -1,14 +1,14 @@
 -- What each list of words comes to, where files tell what they hold.
 use Rattle.std.specs.Prelude.{◌≡◌, ℕ, List, Option, Some, None, Result, Ok, Err}
-use Rattle.xom_cli.specs.declared.answer.Answer.{Answer}
-use Rattle.xom_cli.specs.declared.answer.OutputFile.{OutputFile}
-use Rattle.xom_cli.specs.declared.refusal.Refusal.{Refusal}
-use Rattle.xom_cli.specs.Inputs.{Held}
-use Rattle.xom_cli.specs.Refusals.{line_of, refusal_status, words_line}
-use Rattle.xom_cli.specs.Assembly.{Assembles}
-use Rattle.xom_cli.specs.Programs.{disasm_of, plain_of, seal_of}
+use Rattle.cli_base.specs.declared.answer.Answer.{Answer}
+use Rattle.cli_base.specs.declared.answer.OutputFile.{OutputFile}
+use Rattle.cli_base.specs.declared.refusal.Refusal.{Refusal}
+use Rattle.cli_base.specs.Inputs.{Held}
+use Rattle.cli_base.specs.Refusals.{line_of, refusal_status, words_line}
+use Rattle.cli_programs.specs.Assembly.{Assembles}
+use Rattle.cli_programs.specs.Programs.{disasm_of, plain_of, seal_of}
 use Rattle.xom_cli.specs.Rows.{Row, Asm, Disasm, Plain, Seal, Trace, row_of}
-use Rattle.xom_cli.specs.Trace.{trace_of}
+use Rattle.cli_trace.specs.Trace.{trace_of}
 
 -- what a row's command comes to: its answer, or why it isn't carried out
 abbrev pub IsOutcome : Row → Held → Result Answer Refusal → Type 0

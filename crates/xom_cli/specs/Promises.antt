@@ -2,15 +2,16 @@
 use Rattle.std.specs.Prelude.{◌≡◌, ◌≢◌, ◌⊎◌, ℕ, ◌<◌, List, ◌++◌, Option, Some, None, Ok, Err, IsSomeAnd, MatchOption, option_and_then, take}
 use Rattle.xom_io.specs.Answers.{Appends, Holds, KeepsOthers, Rises}
 use Rattle.trace_judge.specs.ReportText.{report_text}
-use Rattle.xom_cli.specs.declared.answer.OutputFile.{OutputFile}
-use Rattle.xom_cli.specs.declared.trace.Parts.{Parts}
-use Rattle.xom_cli.specs.declared.refusal.Refusal.TheVariants.{Unread}
-use Rattle.xom_cli.specs.Endings.{Disk, IsDone, Outside}
-use Rattle.xom_cli.specs.Inputs.{Held, without}
+use Rattle.cli_base.specs.declared.answer.OutputFile.{OutputFile}
+use Rattle.cli_trace.specs.declared.trace.Parts.{Parts}
+use Rattle.cli_base.specs.declared.refusal.Refusal.TheVariants.{Unread}
+use Rattle.xom_cli.specs.Endings.{Disk, Outside}
+use Rattle.cli_base.specs.Commands.{IsDone}
+use Rattle.cli_base.specs.Inputs.{Held, without}
 use Rattle.xom_cli.specs.Outcome.{IsPrinted, Printed, printed}
-use Rattle.xom_cli.specs.Refusals.{line_of}
+use Rattle.cli_base.specs.Refusals.{line_of}
 use Rattle.xom_cli.specs.Rows.{Trace, row_of, target_of}
-use Rattle.xom_cli.specs.Trace.{AllFollow, events_line, last_record, parts_of, report_of}
+use Rattle.cli_trace.specs.Trace.{AllFollow, events_line, last_record, parts_of, report_of}
 
 -- the statuses that there are
 abbrev pub IsStatus : ℕ → Type 0

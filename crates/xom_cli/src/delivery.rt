@@ -1,13 +1,13 @@
 ghost use Rattle.std.specs.Prelude.{◌≡◌, ◌++◌, IfOk, string_bytes};
-ghost use Rattle.xom_cli.specs.Endings.{Delivers, Finishes, IsDone, Prints, PrintsRefusal, PutsFile, disk, output, refused as refused_by};
-ghost use Rattle.xom_cli.specs.Refusals.{fault_text as fault_text_of, line_of, source_word as source_word_of};
+ghost use Rattle.xom_cli.specs.Endings.{Delivers, Finishes, Prints, PrintsRefusal, PutsFile, disk, output, refused as refused_by};
+ghost use Rattle.cli_base.specs.Commands.{IsDone};
+ghost use Rattle.cli_base.specs.Refusals.{fault_text as fault_text_of, line_of, source_word as source_word_of};
 
-use crate::answer::{Answer, OutputFile};
 use crate::ending::Ending;
-use crate::refusal::{InputFault, Refusal, SourceFault, Stop};
+use cli_base::{Answer, InputFault, OutputFile, Refusal, SourceFault, Stop};
 use std::alloc::{AllocError, Global};
 use xom_io::{FileFault, Files, Sink, SinkFault, put_all};
-use xom_script::Name;
+use xom_io::Name;
 
 /// Delivers what was answered: the file and the text of an answer, or the line of a refusal.
 pub fn finish<F: Files, O: Sink>(

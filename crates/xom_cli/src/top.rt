@@ -1,20 +1,20 @@
 ghost use Rattle.std.specs.Prelude.{◌≡◌, IfOk, map, string_bytes};
-ghost use Rattle.xom_cli.specs.Endings.{Ends, IsDone, disk, output, outside};
+ghost use Rattle.xom_cli.specs.Endings.{Ends, disk, output, outside};
+ghost use Rattle.cli_base.specs.Commands.{IsDone};
 ghost use Rattle.xom_cli.specs.Outcome.{IsOutcome};
 ghost use Rattle.xom_cli.specs.Promises.{Promises};
-ghost use Rattle.xom_cli.specs.Readings.{Meets};
+ghost use Rattle.cli_base.specs.Readings.{Meets};
 ghost use Rattle.xom_cli.specs.Words.{shown};
 
-use crate::answer::Answer;
-use crate::asm::asm;
 use crate::delivery::{finish, print};
-use crate::disasm::disasm;
 use crate::ending::Ending;
-use crate::plain::plain;
-use crate::refusal::Stop;
 use crate::row::{Row, row_named};
-use crate::seal::seal;
-use crate::trace::trace;
+use cli_base::{Answer, Stop};
+use cli_programs::asm::asm;
+use cli_programs::disasm::disasm;
+use cli_programs::plain::plain;
+use cli_programs::seal::seal;
+use cli_trace::trace::trace;
 use std::alloc::Global;
 use xom_io::{Files, Sink};
 

@@ -1,6 +1,6 @@
 ghost use Rattle.std.specs.Prelude.{◌≡◌, ◌≤◌, ◌<◌, ◌+◌, ◌^◌, List, ℕ, IfOk};
 ghost use Rattle.xom_base.specs.declared.event.OwnFault.{OwnFault};
-ghost use Rattle.image_sealer.specs.declared.owner.Owner.{Owner};
+ghost use Rattle.xom_owners.specs.declared.owner.Owner.{Owner};
 ghost use Rattle.mips_effect.specs.Effects.{Ranged};
 ghost use Rattle.mips_plain.specs.Inside.{IsInside};
 ghost use Rattle.mips_plain.specs.Instruction.{fetched, tried};

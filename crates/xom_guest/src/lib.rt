@@ -5,7 +5,5 @@
 mod cells;
 mod event;
 mod masks;
-#[cfg(test)]
-mod tests;
 
 pub use event::guest_event;

@@ -10,8 +10,6 @@ mod line_list;
 mod plain;
 mod sealed;
 mod sealed_image;
-#[cfg(test)]
-mod tests;
 
 pub use fault::ImageFault;
 pub use line_list::SealedLineList;

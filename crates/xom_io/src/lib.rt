@@ -10,15 +10,15 @@ mod disk;
 mod files;
 mod mem_files;
 mod mem_sink;
+mod name;
 mod shelf;
 mod sink;
 mod std_sink;
-#[cfg(test)]
-mod tests;
 
 pub use disk::DiskFiles;
 pub use files::{FileFault, Files};
 pub use mem_files::MemFiles;
 pub use mem_sink::MemSink;
+pub use name::Name;
 pub use sink::{Sink, SinkFault, put_all};
 pub use std_sink::StdSink;

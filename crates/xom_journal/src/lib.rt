@@ -5,7 +5,5 @@
 #![tactic(auto)]
 
 mod journal;
-#[cfg(test)]
-mod tests;
 
 pub use journal::{Journal, cost};

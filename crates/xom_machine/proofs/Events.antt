@@ -8,8 +8,8 @@ use Rattle.xom_base.specs.declared.event.Event.TheVariants as event
 use Rattle.xom_base.specs.declared.image.PlainImage.{PlainImage}
 use Rattle.xom_base.specs.declared.key.ImageId.{ImageId}
 use Rattle.xom_base.specs.declared.key.Key256.{Key256}
-use Rattle.image_sealer.specs.declared.owner.Owner.{Owner}
-use Rattle.image_sealer.specs.Owners.{owner_of}
+use Rattle.xom_owners.specs.declared.owner.Owner.{Owner}
+use Rattle.xom_owners.specs.Owners.{owner_of}
 use Rattle.session_table.specs.Sessions.{is_live}
 use Rattle.xom_model.specs.Event.{fits, guest_turn, on, ran_on, running}
 use Rattle.xom_model.specs.Guest.{guest}

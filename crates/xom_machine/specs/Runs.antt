@@ -1,6 +1,6 @@
 -- What comes next in a run, and what a run has come to.
 use Rattle.std.specs.Prelude.{◌≡◌, ℕ, ◌+◌, ◌*◌, ◌<◌, ◌≤◌, true, false, List, [], ◌∷◌, length, Option, Some, None, IfSome}
-use Rattle.image_sealer.specs.declared.owner.Owner.{Owner}
+use Rattle.xom_owners.specs.declared.owner.Owner.{Owner}
 use Rattle.xom_base.specs.declared.event.Event.{Event}
 use Rattle.xom_base.specs.declared.event.Event.TheVariants as event
 use Rattle.xom_base.specs.declared.event.RunEnd.{RunEnd}

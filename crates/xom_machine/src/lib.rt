@@ -8,8 +8,6 @@ mod kernel;
 mod machine;
 mod next;
 mod runs;
-#[cfg(test)]
-mod tests;
 
 pub use kernel::Kernel;
 pub use machine::Machine;

@@ -1,6 +1,6 @@
 ghost use Rattle.std.specs.Prelude.{◌≡◌, ◌≤◌, ◌<◌, ◌+◌, ◌*◌, ◌^◌, Bool, true, false, List, ℕ, IfOk, IsOk, OnOk, OnErr, IsTrue, Some, is_some};
-ghost use Rattle.image_sealer.specs.declared.owner.Owner.{Owner};
-ghost use Rattle.image_sealer.specs.Owners.{owner_of};
+ghost use Rattle.xom_owners.specs.declared.owner.Owner.{Owner};
+ghost use Rattle.xom_owners.specs.Owners.{owner_of};
 ghost use Rattle.xom_model.specs.Event.{fits as fits_of, guest_turn, is_halt as is_halt_of, on, operated, outcome_of, running as running_of};
 ghost use Rattle.xom_model.specs.Holds.{Holds};
 ghost use Rattle.xom_model.specs.Install.{given};

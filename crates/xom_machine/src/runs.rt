@@ -1,5 +1,5 @@
 ghost use Rattle.std.specs.Prelude.{◌≡◌, ◌≤◌, ◌<◌, ◌+◌, ◌*◌, ◌^◌, ◌↔◌, true, false, List, ℕ, length, IfSome, OnOk, OnErr, IsOk};
-ghost use Rattle.image_sealer.specs.declared.owner.Owner.{Owner};
+ghost use Rattle.xom_owners.specs.declared.owner.Owner.{Owner};
 ghost use Rattle.xom_base.specs.declared.event.Event.{Event};
 ghost use Rattle.xom_machine.specs.Runs.{IsRun, Ran, WentOn, guests_in as guests_in_event};
 ghost use Rattle.xom_model.specs.Holds.{Holds};

@@ -5,7 +5,7 @@ use Rattle.std.specs.Int.{bit_at}
 use Rattle.xom_base.specs.Entries.{steps_of}
 use Rattle.xom_base.specs.declared.entry.Entry.{Entry}
 use Rattle.xom_base.specs.declared.key.ImageId.{ImageId}
-use Rattle.image_sealer.specs.declared.owner.Owner.{Owner}
+use Rattle.xom_owners.specs.declared.owner.Owner.{Owner}
 use Rattle.mips_plain.specs.Machine.{State, start}
 use Rattle.mips_plain.specs.declared.cell.PlainCell.TheVariants.{Own}
 use Rattle.mips_plain.specs.Follows.{Reaches}

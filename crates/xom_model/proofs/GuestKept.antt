@@ -4,7 +4,7 @@ use Rattle.xom_base.specs.declared.event.Cause.TheVariants as cause
 use Rattle.xom_base.specs.declared.event.OwnFault.{OwnFault}
 use Rattle.xom_base.specs.declared.step.StepEnd.{StepEnd}
 use Rattle.xom_base.specs.declared.step.StepEnd.TheVariants as ended
-use Rattle.image_sealer.specs.declared.owner.Owner.{Owner}
+use Rattle.xom_owners.specs.declared.owner.Owner.{Owner}
 use Rattle.mips_effect.specs.declared.effects.Effect.{Effect}
 use Rattle.mips_plain.specs.Machine.{is_exit}
 use Rattle.xom_model.specs.State.{CoreState}

@@ -11,7 +11,7 @@ use Rattle.xom_base.specs.declared.event.Op.{Op}
 use Rattle.xom_base.specs.declared.event.Op.TheVariants.{Install, Enter, Resume, Save, Restore, Map, Unmap, SetReg, Kill, Out, Halt}
 use Rattle.xom_base.specs.declared.event.Rule.{Rule}
 use Rattle.xom_base.specs.declared.event.Rule.TheVariants as rule
-use Rattle.image_sealer.specs.declared.owner.Owner.{Owner}
+use Rattle.xom_owners.specs.declared.owner.Owner.{Owner}
 use Rattle.mips_plain.specs.Machine.{start, cell_at as plain_cell}
 use Rattle.mips_plain.specs.declared.cell.PlainCell.TheVariants.{Lent}
 use Rattle.mips_plain.specs.Follows.{Reaches}

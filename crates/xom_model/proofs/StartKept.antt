@@ -7,8 +7,8 @@ use Rattle.std.proofs.Math.Decide.{dec_lt}
 use Rattle.std.specs.Int.{bit_at}
 use Rattle.std.proofs.lemmas.Nat.Bits.{bit_at-zero}
 use Rattle.xom_base.specs.declared.key.ImageId.{ImageId}
-use Rattle.image_sealer.specs.declared.owner.Owner.{Owner}
-use Rattle.image_sealer.specs.Owners.{owner_of}
+use Rattle.xom_owners.specs.declared.owner.Owner.{Owner}
+use Rattle.xom_owners.specs.Owners.{owner_of}
 use Rattle.mips_plain.specs.Machine.{start}
 use Rattle.mips_plain.specs.declared.cell.PlainCell.TheVariants.{Lent}
 use Rattle.tag_regs.specs.TaggedCells.{all_empty, cell_at, empty}

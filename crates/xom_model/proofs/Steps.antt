@@ -8,7 +8,7 @@ use Rattle.xom_base.specs.declared.entry.Entry.TheVariants as entry
 use Rattle.xom_base.specs.declared.event.OwnFault.{OwnFault}
 use Rattle.xom_base.specs.declared.key.ImageId.{ImageId}
 use Rattle.xom_base.specs.declared.step.Step.{Step}
-use Rattle.image_sealer.specs.declared.owner.Owner.{Owner}
+use Rattle.xom_owners.specs.declared.owner.Owner.{Owner}
 use Rattle.mips_isa.specs.declared.instruction.Ins.{Ins}
 use Rattle.mips_isa.specs.Words.{Fits}
 use Rattle.mips_effect.specs.declared.effects.Effect.{Effect}

@@ -6,8 +6,8 @@ use Rattle.xom_base.specs.declared.event.Cause.TheVariants as cause
 use Rattle.xom_base.specs.declared.event.Event.{Event}
 use Rattle.xom_base.specs.declared.event.Op.{Op}
 use Rattle.xom_base.specs.declared.event.OwnFault.{OwnFault}
-use Rattle.image_sealer.specs.declared.owner.Owner.{Owner}
-use Rattle.image_sealer.specs.Owners.{owner_of}
+use Rattle.xom_owners.specs.declared.owner.Owner.{Owner}
+use Rattle.xom_owners.specs.Owners.{owner_of}
 use Rattle.mips_plain.specs.Machine.{State, plain}
 use Rattle.mips_plain.specs.declared.given.Given.TheVariants as given
 use Rattle.mips_plain.specs.declared.given.PlainStep.TheVariants as plain_step

@@ -6,8 +6,6 @@
 mod law;
 mod missing;
 mod operations;
-#[cfg(test)]
-mod tests;
 
 pub use law::missing_is_least;
 pub use operations::operate;

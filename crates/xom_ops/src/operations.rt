@@ -1,5 +1,5 @@
 ghost use Rattle.std.specs.Prelude.{◌≡◌, ◌≤◌, ◌<◌, ◌+◌, ◌↔◌, List, ℕ, IfSome};
-ghost use Rattle.image_sealer.specs.declared.owner.Owner.{Owner};
+ghost use Rattle.xom_owners.specs.declared.owner.Owner.{Owner};
 ghost use Rattle.xom_model.specs.Holds.{Holds, IsRunning};
 ghost use Rattle.xom_model.specs.Operation.{enter as enter_of, go_on as go_on_of, is_cell as is_cell_of, is_slot as is_slot_of, operation, resume as resume_of, resume_paused as resume_paused_of, set_register as set_register_of};
 ghost use Rattle.xom_model.specs.State.{session_of};

@@ -6,8 +6,6 @@
 
 mod memories;
 mod parts;
-#[cfg(test)]
-mod tests;
 
 pub use memories::Memories;
 pub use parts::{Core, EVENT_ROOM};

@@ -3,14 +3,10 @@
 
 mod fault;
 mod kernel;
-mod name;
 mod run_file;
 mod script;
-#[cfg(test)]
-mod tests;
 
 pub use fault::FormFault;
 pub use kernel::ScriptKernel;
-pub use name::Name;
 pub use run_file::{OwnerFile, RunFile, read_run};
 pub use script::{Script, read_script};

@@ -6,12 +6,13 @@ ghost use Rattle.xom_script.specs.Forms.{AnswersForm};
 ghost use Rattle.xom_script.specs.RunFiles.{IsRunFile, run_file_at, rows_of, machine_of, boot_of, frames_of, budget_of, owner_of, is_guest, kernel_of, schedule_of, interrupts_of, at_of, times_of, name_of, behind, is_space, is_word, is_word_byte};
 ghost use Rattle.xom_script.specs.declared.run_file.RunFile.{RunFile as RunFileValue};
 
-use crate::{FormFault, Name};
+use crate::FormFault;
 use std::alloc::{AllocError, Global};
 use xom_base::{
     ImageId, Interrupts, Key256, NumberList, Schedule, cut, hex16, hex32, number, number_below,
     split_lines,
 };
+use xom_io::Name;
 
 /// The owner of an image: its plain file, the key that seals it, and its public name.
 #[derive(Drop)]

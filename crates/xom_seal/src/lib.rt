@@ -15,8 +15,6 @@ mod mask;
 mod message;
 mod names;
 mod register;
-#[cfg(test)]
-mod tests;
 mod text;
 
 pub use envelope::{Unwrapped, unwrap, wrap};

@@ -1,0 +1,4 @@
+pub mod Integers
+pub mod Lexemes
+pub mod Registers
+pub mod Tokens

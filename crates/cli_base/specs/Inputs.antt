@@ -1,0 +1,99 @@
+-- What a command reads, where it is told what files hold: the value that a file's bytes write, or why it is refused.
+use Rattle.std.specs.Prelude.{◌≡◌, ℕ, ◌%◌, ◌^◌, ◌==◌, true, false, List, Option, Some, None, Result, Ok, Err, length, nat_le, if◌then◌else◌}
+use Rattle.std.proofs.Math.Decide.{dec_le, dec_lt}
+use Rattle.std.proofs.Common.{refl}
+use Rattle.std.proofs.lemmas.Bool.{eqb-true}
+use Rattle.std.specs.Str.{bytes_eq}
+use Rattle.xom_base.specs.declared.image.PlainImage.{PlainImage}
+use Rattle.xom_image.specs.PlainFiles.{plain_image_at}
+use Rattle.cli_base.specs.declared.refusal.InputFault.{InputFault}
+use Rattle.cli_base.specs.declared.refusal.InputFault.TheVariants.{TooLong, NotBuilt, BadByte, BadLine}
+use Rattle.cli_base.specs.declared.refusal.InputStop.{InputStop}
+use Rattle.cli_base.specs.declared.refusal.InputStop.TheVariants as input_stop
+use Rattle.cli_base.specs.declared.refusal.Refusal.{Refusal}
+use Rattle.cli_base.specs.declared.refusal.Refusal.TheVariants.{Unread, Bad}
+
+-- what names hold
+abbrev pub Held : Type 0
+Held = List ℕ → Option (List ℕ)
+
+-- the same, but for one name that isn't held
+abbrev pub without : List ℕ → Held → Held
+without name held other = if bytes_eq other name then None else held other
+
+-- one step and the next, where the first isn't refused
+infixl 10 ◌>>=◌
+abbrev pub ◌>>=◌ : {A B : Type 0} → Result A Refusal → (A → Result B Refusal) → Result B Refusal
+(Ok x) >>= f = f x
+(Err refusal) >>= f = Err refusal
+
+-- ---- A file of a format
+
+-- the bytes of a file that is held, at most so many
+abbrev pub fetched_bytes : List ℕ → ℕ → Option (List ℕ) → Result (List ℕ) Refusal
+fetched_bytes name limit None = Err (Unread name)
+fetched_bytes name limit (Some bytes) = if nat_le (length bytes) limit then Ok bytes else Err (Bad name TooLong)
+
+unfoldable pub fetched : Held → List ℕ → ℕ → Result (List ℕ) Refusal
+fetched held name limit = fetched_bytes name limit (held name)
+
+-- what was read, or what is said of the file of this name
+abbrev pub in_file : {A : Type 0} → List ℕ → Result A InputFault → Result A Refusal
+in_file name (Ok value) = Ok value
+in_file name (Err fault) = Err (Bad name fault)
+
+-- the value of a file of at most so many bytes, by the format that reads them
+abbrev pub input_of : {A : Type 0} → ℕ → (List ℕ → Result A InputFault) → Held → List ℕ → Result A Refusal
+input_of limit format held name = do
+  bytes ← fetched held name limit
+  in_file name (format bytes)
+
+-- what the reader of a format answers: its value or its fault, unless memory ran out
+abbrev pub Faults : {A : Type 0} → Result A InputFault → InputStop → Type 0
+Faults wanted (input_stop.Fault fault) = wanted ≡ Err fault
+Faults wanted input_stop.NoMemory = Unit {0}
+
+abbrev pub Answers : {A : Type 0} → Result A InputFault → Result A InputStop → Type 0
+Answers wanted (Ok value) = wanted ≡ Ok value
+Answers wanted (Err why) = Faults wanted why
+
+-- ---- The formats
+
+-- the image of an entry and of bytes that are valid
+abbrev pub valid_image : ℕ → List ℕ → Option PlainImage
+valid_image entry bytes =
+    elim (dec_le (length bytes) (2 ^ 20)) [
+      | no _ ↦ None
+      | yes fits ↦ elim (dec_lt entry (2 ^ 20)) [
+        | no _ ↦ None
+        | yes private ↦ elim (entry % 4 == 0) as (λ b. (entry % 4 == 0) ≡ b → Option PlainImage) [
+          | false ↦ λ _. None
+          | true ↦ λ aligned. Some (record { entry = entry; bytes = bytes; fits = fits; aligned = eqb-true (entry % 4) 0 aligned; private = private })
+        ] refl
+      ]
+    ]
+
+-- The image that was read, or the first bad byte. What is read is valid, so the first case is never met.
+abbrev pub image_found : Option PlainImage → Result PlainImage InputFault
+image_found None = Err NotBuilt
+image_found (Some image) = Ok image
+
+abbrev pub image_read : Result (ℕ × List ℕ) ℕ → Result PlainImage InputFault
+image_read (Ok read) = image_found (valid_image read.0 read.1)
+image_read (Err bad) = Err (BadByte bad)
+
+-- the image that a file's bytes are
+unfoldable pub image_at : List ℕ → Result PlainImage InputFault
+image_at bytes = image_read (plain_image_at bytes)
+
+-- what was read of a text, or its first bad line
+abbrev pub in_lines : {A : Type 0} → Result A ℕ → Result A InputFault
+in_lines (Ok value) = Ok value
+in_lines (Err line) = Err (BadLine line)
+
+-- at most so many bytes are in a plain image file
+abbrev pub image_limit : ℕ
+image_limit = 1048592
+
+unfoldable pub image_of : Held → List ℕ → Result PlainImage Refusal
+image_of = input_of image_limit image_at

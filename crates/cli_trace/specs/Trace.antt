@@ -1,0 +1,110 @@
+-- `trace RUN`: the run that a run file tells, and the judgement of the journal that it made.
+use Rattle.std.specs.Prelude.{◌≡◌, ℕ, ◌^◌, ◌≤◌, Bool, true, false, ◌||◌, List, [], ◌∷◌, ◌++◌, All, None, Result, Ok, codes, unwrap_or, is_some, if◌then◌else◌}
+use Rattle.std.specs.Fmt.{decimal}
+use Rattle.std.specs.List.{list_any}
+use Rattle.xom_base.specs.declared.entry.Entry.{Entry}
+use Rattle.xom_base.specs.declared.entry.Entry.TheVariants as entry
+use Rattle.xom_base.specs.declared.event.Op.{Op}
+use Rattle.xom_base.specs.declared.schedule.Interrupts.{Interrupts}
+use Rattle.xom_owners.specs.declared.owner.Owner.{Owner}
+use Rattle.mips_plain.specs.declared.verdict.Verdict.{Verdict}
+use Rattle.mips_plain.specs.declared.verdict.Verdict.TheVariants.{Follows, Departs, NoOwner}
+use Rattle.trace_judge.specs.declared.report.GuestLine.{GuestLine}
+use Rattle.trace_judge.specs.declared.report.Report.{Report}
+use Rattle.trace_judge.specs.Judgement.{judgement}
+use Rattle.trace_judge.specs.ReportText.{report_text}
+use Rattle.xom_model.specs.State.{Record, power_on}
+use Rattle.xom_model.specs.Install.{given}
+use Rattle.xom_model.specs.Run.{IsSchedule, run_from}
+use Rattle.xom_script.specs.Turns.{script_told}
+use Rattle.cli_base.specs.declared.answer.Answer.{Answer}
+use Rattle.cli_trace.specs.declared.trace.Parts.{Parts}
+use Rattle.cli_base.specs.declared.refusal.Refusal.{Refusal}
+use Rattle.cli_base.specs.Inputs.{◌>>=◌, Held, image_of}
+use Rattle.cli_trace.specs.Inputs.{run_file_of, script_of}
+use Rattle.xom_script.specs.declared.run_file.RunFile.{RunFile}
+
+-- ---- What is read
+
+-- the run file, then the image of its owner, which its guest names again, then the script of its kernel
+unfoldable pub parts_of : Held → List ℕ → Result Parts Refusal
+parts_of held run = do
+  file ← run_file_of held run
+  image ← image_of held file.owner.plain
+  ops ← script_of held file.kernel
+  Ok (record { file = file; image = image; script = ops })
+
+-- ---- What is run and judged
+
+-- the owner of the guest
+abbrev pub owner_in : Parts → Owner
+owner_in parts = record { plain = parts.image; key = parts.file.owner.key; id = parts.file.owner.id }
+
+-- the machine with the owner's guest, before its first event
+abbrev pub first_of : Owner → Record
+first_of owner = given power_on owner.id owner.key owner.plain
+
+-- the machine after the run of these operations, under this interrupt line, within so many events
+unfoldable pub last_of : Owner → Interrupts → ℕ → List Op → Record
+last_of owner line budget ops = unwrap_or (run_from script_told line budget 0 (first_of owner) ops) (first_of owner)
+
+abbrev pub last_record : Parts → Record
+last_record parts = last_of (owner_in parts) parts.file.schedule.interrupts parts.file.budget parts.script
+
+-- a run can be made of a run file: its schedule keeps the rules, and its budget is small
+pub record IsRunnable (file : RunFile) : Type 0 where
+  pub schedule : IsSchedule file.schedule.interrupts
+  pub budget : file.budget ≤ 2 ^ 20
+
+-- the judgement of its journal
+abbrev pub report_of : Parts → Report
+report_of parts = judgement (owner_in parts ∷ []) (last_record parts).core.entries
+
+-- ---- What is printed
+
+abbrev pub ending_text : Bool → List ℕ
+ending_text true = codes " halted\n"
+ending_text false = codes " budget\n"
+
+-- how many events there were, and how the run ended
+abbrev pub events_line : Record → List ℕ
+events_line r = codes "events " ++ (decimal r.events ++ ending_text r.halted)
+
+-- ---- What is answered
+
+-- the guest departs or has no owner
+abbrev pub is_doubted : Verdict → Bool
+is_doubted (Follows steps) = false
+is_doubted (Departs step) = true
+is_doubted NoOwner = true
+
+-- the report names a forged entry, a collision, or a guest that departs or has no owner
+abbrev pub is_suspect : Report → Bool
+is_suspect report = is_some report.forged || (is_some report.collision || list_any (λ (line : GuestLine). is_doubted line.verdict) report.guests)
+
+abbrev pub is_stop : Entry → Bool
+is_stop (entry.Stop install rule) = true
+is_stop other = false
+
+-- the first of these that holds: the report is suspect, a guest was stopped, the budget was reached before the kernel halted
+abbrev pub trace_status : Report → Record → ℕ
+trace_status report r = if is_suspect report then 9 else (if list_any is_stop r.core.entries then 8 else (if r.halted then 0 else 6))
+
+-- the report and the line on events, with the status
+abbrev pub answer_of : Report → Record → Answer
+answer_of report r = record { text = report_text report ++ events_line r; file = None; status = trace_status report r }
+
+unfoldable pub traced : Parts → Answer
+traced parts = answer_of (report_of parts) (last_record parts)
+
+-- the answer of the command
+unfoldable pub trace_of : Held → List ℕ → Result Answer Refusal
+trace_of held run = do
+  parts ← parts_of held run
+  Ok (traced parts)
+
+-- ---- The headline
+
+-- the guest of each line follows: none departs, and each has an owner
+abbrev pub AllFollow : Report → Type 0
+AllFollow report = All (λ line. (steps : ℕ) × (line.verdict ≡ Follows steps)) report.guests

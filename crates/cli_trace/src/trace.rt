@@ -1,0 +1,179 @@
+ghost use Rattle.std.specs.Prelude.{◌≡◌, ◌≤◌, ◌^◌, ◌++◌, IfOk, string_bytes};
+ghost use Rattle.std.specs.List.{list_any};
+ghost use Rattle.cli_base.specs.Commands.{IsDone};
+ghost use Rattle.cli_base.specs.Readings.{Gives};
+ghost use Rattle.cli_trace.specs.Trace.{IsRunnable, answer_of, ending_text, events_line, is_doubted as is_doubted_by, is_stop as is_stop_by, is_suspect as is_suspect_by, last_of, parts_of, trace_of, trace_status, traced as traced_of};
+ghost use Rattle.xom_model.specs.Run.{IsSchedule};
+
+use crate::reading::{run_file, script};
+use cli_base::{Answer, Stop, image};
+use xom_owners::{Owner, OwnerList};
+use mips_plain::Verdict;
+use std::alloc::Global;
+use trace_judge::{GuestLine, Report, judge, print_report};
+use xom_base::{ByteList, Entry, NoMemory, PlainImage, RunEnd, Schedule};
+use xom_io::Files;
+use xom_machine::{Machine, run};
+use xom_script::{RunFile, Script, ScriptKernel};
+
+/// All that a run is made of.
+#[derive(Drop)]
+pub struct Parts {
+    /// The run file.
+    pub file: RunFile,
+    /// The image of its owner, which is its guest.
+    pub image: PlainImage,
+    /// What its kernel does.
+    pub script: Script,
+}
+
+/// `trace RUN`: reads what a run is made of, makes it, and judges its journal.
+#[tactic(auto, unfolding(crate::specs::Trace::trace_of))]
+pub fn trace<F: Files>(alloc: Global, files: &mut F, run: &String) -> Result<Answer, Stop>
+    ensures gives { Gives (F.held files.old) (λ held. trace_of held (string_bytes run.now))
+        (F.reads files.old) (F.reads files.new) result }
+    ensures done { IfOk result (λ answer. IsDone answer.status) }
+    ensures names { F.held files.new ≡ F.held files.old }
+    ensures writes { F.writes files.new ≡ F.writes files.old }
+{
+    let parts = read_parts(alloc, files, run)?;
+    Ok(traced(alloc, parts)?)
+}
+
+/// Reads the run file, the image of its owner and the script of its kernel, in this order. The
+/// first that can't be read or is off its form is refused.
+#[tactic(auto, unfolding(crate::specs::Trace::parts_of))]
+fn read_parts<F: Files>(alloc: Global, files: &mut F, run: &String) -> Result<Parts, Stop>
+    ensures gives { Gives (F.held files.old) (λ held. parts_of held (string_bytes run.now))
+        (F.reads files.old) (F.reads files.new) result }
+    ensures runnable { IfOk result (λ parts. IsRunnable parts.file) }
+    ensures names { F.held files.new ≡ F.held files.old }
+    ensures writes { F.writes files.new ≡ F.writes files.old }
+{
+    let file = run_file(alloc, files, run)?;
+    let image = image(alloc, files, file.owner.plain.as_string())?;
+    let script = script(alloc, files, file.kernel.as_string())?;
+    Ok(Parts {
+        file,
+        image,
+        script,
+    })
+}
+
+/// Makes the run and judges its journal.
+#[tactic(auto, unfolding(crate::specs::Trace::traced))]
+fn traced(alloc: Global, parts: Parts) -> Result<Answer, NoMemory>
+    requires { IsRunnable parts.file }
+    ensures { IfOk result (λ answer. answer ≡ traced_of parts) }
+{
+    let Parts {
+        file,
+        image,
+        script,
+    } = parts;
+    let owner = Owner {
+        plain: image,
+        key: file.owner.key,
+        id: file.owner.id,
+    };
+    let machine = ran(alloc, &owner, &file.schedule, file.budget, script)?;
+    let mut owners = OwnerList::new(alloc);
+    owners.push(owner)?;
+    let report = judge(alloc, &owners, machine.journal())?;
+    answer(alloc, &report, &machine)
+}
+
+/// The machine after the run of an owner's guest under a script.
+#[tactic(auto, unfolding(crate::specs::Trace::last_of))]
+fn ran(
+    alloc: Global,
+    owner: &Owner,
+    schedule: &Schedule,
+    budget: u64,
+    script: Script,
+) -> Result<Machine, NoMemory>
+    requires schedule { IsSchedule schedule.now.interrupts }
+    requires budget { budget ≤ 2 ^ 20 }
+    ensures { IfOk result (λ machine. machine.state ≡ last_of owner.now schedule.now.interrupts budget script) }
+{
+    let mut machine = Machine::new(alloc)?;
+    machine.give(owner.id, owner.key, &owner.plain)?;
+    let mut kernel = ScriptKernel::new(script);
+    match run(&mut machine, &mut kernel, schedule, budget) {
+        RunEnd::NoMemory => Err(NoMemory),
+        _ => Ok(machine),
+    }
+}
+
+/// What the trace has to say.
+fn answer(alloc: Global, report: &Report, machine: &Machine) -> Result<Answer, NoMemory>
+    ensures { IfOk result (λ answer. answer ≡ answer_of report.now machine.now.state) }
+{
+    let lines = print_report(alloc, report)?;
+    let events = events_text(alloc, machine)?;
+    let mut text = Vec::from_slice(alloc, lines.as_slice())?;
+    text.extend_from_slice(events.as_bytes())?;
+    Ok(Answer {
+        text: ByteList::from_vec(text),
+        file: None,
+        status: status(report, machine),
+    })
+}
+
+/// How many events there were, and how the run ended.
+fn events_text(alloc: Global, machine: &Machine) -> Result<String, NoMemory>
+    ensures { IfOk result (λ text. string_bytes text ≡ events_line machine.now.state) }
+{
+    let events = machine.events();
+    if machine.is_halted() {
+        Ok(format!(in alloc; "events {events} halted\n")?)
+    } else {
+        Ok(format!(in alloc; "events {events} budget\n")?)
+    }
+}
+
+/// The first status that holds: 9 for a suspect report, 8 where a guest was stopped, 0 where the
+/// kernel halted, and 6 where the budget was reached.
+fn status(report: &Report, machine: &Machine) -> u8
+    ensures { result ≡ trace_status report.now machine.now.state }
+{
+    if is_suspect(report) {
+        9
+    } else if has_stop(machine.journal().entries()) {
+        8
+    } else if machine.is_halted() {
+        0
+    } else {
+        6
+    }
+}
+
+fn is_suspect(report: &Report) -> bool
+    ensures { result ≡ is_suspect_by report.now }
+{
+    report.forged.is_some() || report.collision.is_some() || has_doubt(report.guests.as_slice())
+}
+
+fn has_doubt(lines: &[GuestLine]) -> bool
+    ensures { result ≡ list_any (λ line. is_doubted_by line.verdict) lines.now }
+{
+    lines.iter().any(|line| is_doubted(line.verdict))
+}
+
+fn is_doubted(verdict: Verdict) -> bool
+    ensures { result ≡ is_doubted_by verdict }
+{
+    !matches!(verdict, Verdict::Follows(_))
+}
+
+fn has_stop(entries: &[Entry]) -> bool
+    ensures { result ≡ list_any is_stop_by entries.now }
+{
+    entries.iter().any(|entry| is_stop(entry))
+}
+
+fn is_stop(entry: &Entry) -> bool
+    ensures { result ≡ is_stop_by entry.now }
+{
+    matches!(entry, Entry::Stop { .. })
+}

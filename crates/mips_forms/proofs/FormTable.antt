@@ -1,0 +1,366 @@
+-- The table of forms is exact both ways: an instruction is built of its own form, and what is built has that form.
+use Rattle.std.proofs.Common.{◌≡◌, ◌⊎◌, ℕ, Bool, true, false, cond, List, [], ◌∷◌, map, Option, Some, None, refl, sym, ◌∙◌, ap, inl, inr, is_some}
+use Rattle.std.proofs.lemmas.Bool.{cases_Bool}
+use Rattle.std.proofs.lemmas.Slice.Eq.{bytes_eq-Decides}
+use Rattle.std.specs.Str.{bytes_eq}
+use Rattle.std.specs.List.{AllByRecursion, find}
+use Rattle.mips_isa.specs.declared.instruction.Ins.{Ins}
+use Rattle.mips_isa.specs.declared.instruction.Ins.TheVariants.{Sll, Srl, Sra, Sllv, Srlv, Srav, Jr, Jalr, Syscall, Break, Mfhi, Mthi, Mflo, Mtlo, Mult, Multu, Div, Divu, Add, Addu, Sub, Subu, And, Or, Xor, Nor, Slt, Sltu, Bltz, Bgez, Bltzal, Bgezal, J, Jal, Beq, Bne, Blez, Bgtz, Addi, Addiu, Slti, Sltiu, Andi, Ori, Xori, Lui, Lb, Lh, Lwl, Lw, Lbu, Lhu, Lwr, Sb, Sh, Swl, Sw, Swr, Xlwn, Xswn, Xmvtn, Xmvfn, Xexit, Xhand, Xsigret, Xinstall, Xenter, Xresume, Xsave, Xrestore, Xmap, Xunmap, Xkill, Xout, Xhalt, Xstat, Xcause, Xarg, Xwho}
+use Rattle.mips_forms.specs.declared.operand.Operand.{Operand}
+use Rattle.mips_forms.specs.declared.operand.Operand.TheVariants.{Register, Shift, Signed, Unsigned, Code, Branch, Jump, Offset}
+use Rattle.mips_forms.specs.declared.operand.OperandKind.{OperandKind}
+use Rattle.mips_forms.specs.declared.operand.OperandKind.TheVariants as kinds
+use Rattle.mips_forms.specs.Forms.{form_of, kind_of, IsNoMnemonic, Takes}
+use Rattle.mips_forms.specs.Builds.{Row, in_rows, rows_of, plain_rows, register_rows, two_registers_rows, three_registers_rows, sum_rows, slot_rows, shift_rows, signed_rows, unsigned_rows, upper_rows, access_rows, compare_rows, test_rows, jump_rows, coded_rows, build_of, shapes, sample_of, takes, kinds_of}
+use Rattle.mips_forms.specs.FormLaws.{FormsDiffer, KindsOfForms, OperandsFit}
+
+-- ---- From the instruction to its form and back
+
+-- each instruction is built of its own form
+pub built_form : (i : Ins) → build_of (form_of i).0 (form_of i).1 ≡ Some i
+unfolding rows_of plain_rows register_rows two_registers_rows three_registers_rows sum_rows slot_rows shift_rows signed_rows unsigned_rows upper_rows access_rows compare_rows test_rows jump_rows coded_rows
+built_form (Sll rd rt sa) = refl
+built_form (Srl rd rt sa) = refl
+built_form (Sra rd rt sa) = refl
+built_form (Sllv rd rt rs) = refl
+built_form (Srlv rd rt rs) = refl
+built_form (Srav rd rt rs) = refl
+built_form (Jr rs) = refl
+built_form (Jalr rd rs) = refl
+built_form (Syscall code) = refl
+built_form (Break code) = refl
+built_form (Mfhi rd) = refl
+built_form (Mthi rs) = refl
+built_form (Mflo rd) = refl
+built_form (Mtlo rs) = refl
+built_form (Mult rs rt) = refl
+built_form (Multu rs rt) = refl
+built_form (Div rs rt) = refl
+built_form (Divu rs rt) = refl
+built_form (Add rd rs rt) = refl
+built_form (Addu rd rs rt) = refl
+built_form (Sub rd rs rt) = refl
+built_form (Subu rd rs rt) = refl
+built_form (And rd rs rt) = refl
+built_form (Or rd rs rt) = refl
+built_form (Xor rd rs rt) = refl
+built_form (Nor rd rs rt) = refl
+built_form (Slt rd rs rt) = refl
+built_form (Sltu rd rs rt) = refl
+built_form (Bltz rs imm) = refl
+built_form (Bgez rs imm) = refl
+built_form (Bltzal rs imm) = refl
+built_form (Bgezal rs imm) = refl
+built_form (J index) = refl
+built_form (Jal index) = refl
+built_form (Beq rs rt imm) = refl
+built_form (Bne rs rt imm) = refl
+built_form (Blez rs imm) = refl
+built_form (Bgtz rs imm) = refl
+built_form (Addi rt rs imm) = refl
+built_form (Addiu rt rs imm) = refl
+built_form (Slti rt rs imm) = refl
+built_form (Sltiu rt rs imm) = refl
+built_form (Andi rt rs imm) = refl
+built_form (Ori rt rs imm) = refl
+built_form (Xori rt rs imm) = refl
+built_form (Lui rt imm) = refl
+built_form (Lb rt imm rs) = refl
+built_form (Lh rt imm rs) = refl
+built_form (Lwl rt imm rs) = refl
+built_form (Lw rt imm rs) = refl
+built_form (Lbu rt imm rs) = refl
+built_form (Lhu rt imm rs) = refl
+built_form (Lwr rt imm rs) = refl
+built_form (Sb rt imm rs) = refl
+built_form (Sh rt imm rs) = refl
+built_form (Swl rt imm rs) = refl
+built_form (Sw rt imm rs) = refl
+built_form (Swr rt imm rs) = refl
+built_form (Xlwn rt imm rs) = refl
+built_form (Xswn rt imm rs) = refl
+built_form (Xmvtn rs) = refl
+built_form (Xmvfn rd rs) = refl
+built_form Xexit = refl
+built_form (Xhand rs) = refl
+built_form Xsigret = refl
+built_form (Xinstall rs rt rd) = refl
+built_form (Xenter rs) = refl
+built_form (Xresume rs rt) = refl
+built_form (Xsave rs rt rd) = refl
+built_form (Xrestore rs rt rd) = refl
+built_form (Xmap rs rt rd) = refl
+built_form (Xunmap rs rt) = refl
+built_form (Xkill rs) = refl
+built_form (Xout rs) = refl
+built_form Xhalt = refl
+built_form (Xstat rd) = refl
+built_form (Xcause rd) = refl
+built_form (Xarg rd) = refl
+built_form (Xwho rd) = refl
+
+pub forms_differ : FormsDiffer
+forms_differ i j same =
+    let both : Some i ≡ Some j = sym (built_form i) ∙ ap (λ (form : List ℕ × List Operand). build_of form.0 form.1) same ∙ built_form j in
+    cc
+
+-- ---- From the form to the instruction
+
+-- a row makes an instruction with the row's mnemonic and these operands
+abbrev Holds : List Operand → Row → Type 0
+Holds operands row = form_of row.1 ≡ (row.0, operands)
+
+-- the row that is found is this one, or stands behind it
+found_row : (here : Bool) (i j : Ins) (behind : Option Ins) → cond here (Some i) behind ≡ Some j → ((here ≡ true) × (i ≡ j)) ⊎ (behind ≡ Some j)
+found_row true i j behind is = inl (refl, cc)
+found_row false i j behind is = inr is
+
+in_rows-form : (name : List ℕ) (operands : List Operand) (i : Ins) (rows : List Row) → AllByRecursion (Holds operands) rows → in_rows name rows ≡ Some i → form_of i ≡ (name, operands)
+in_rows-form name operands i [] all is = absurd (let none : None ≡ Some i = is in cc)
+in_rows-form name operands i (row ∷ rows) all is =
+    elim (found_row (bytes_eq name row.0) row.1 i (in_rows name rows) is) [
+      | inl here ↦
+          let same : name ≡ row.0 = (bytes_eq-Decides name row.0).0 here.0 in
+          ap form_of (sym here.1) ∙ all.0 ∙ ap (λ (word : List ℕ). (word, operands)) (sym same)
+      | inr behind ↦ in_rows-form name operands i rows all.1 behind
+    ]
+
+-- each row of the tables makes an instruction of its form
+rows_of-hold : (operands : List Operand) → AllByRecursion (Holds operands) (rows_of operands)
+unfolding rows_of plain_rows register_rows two_registers_rows three_registers_rows sum_rows slot_rows shift_rows signed_rows unsigned_rows upper_rows access_rows compare_rows test_rows jump_rows coded_rows
+rows_of-hold [] = (refl, (refl, (refl, tt)))
+rows_of-hold (Register a ∷ []) = (refl, (refl, (refl, (refl, (refl, (refl, (refl, (refl, (refl, (refl, (refl, (refl, (refl, (refl, tt))))))))))))))
+rows_of-hold (Register a ∷ Register b ∷ []) = (refl, (refl, (refl, (refl, (refl, (refl, (refl, (refl, tt))))))))
+rows_of-hold (Register a ∷ Register b ∷ Register c ∷ []) = (refl, (refl, (refl, (refl, (refl, (refl, (refl, (refl, (refl, (refl, (refl, (refl, (refl, (refl, (refl, (refl, (refl, tt)))))))))))))))))
+rows_of-hold (Register a ∷ Register b ∷ Shift c ∷ []) = (refl, (refl, (refl, tt)))
+rows_of-hold (Register a ∷ Register b ∷ Signed c ∷ []) = (refl, (refl, (refl, (refl, tt))))
+rows_of-hold (Register a ∷ Register b ∷ Unsigned c ∷ []) = (refl, (refl, (refl, tt)))
+rows_of-hold (Register a ∷ Unsigned b ∷ []) = (refl, tt)
+rows_of-hold (Register a ∷ Offset imm base ∷ []) = (refl, (refl, (refl, (refl, (refl, (refl, (refl, (refl, (refl, (refl, (refl, (refl, (refl, (refl, tt))))))))))))))
+rows_of-hold (Register a ∷ Register b ∷ Branch c ∷ []) = (refl, (refl, tt))
+rows_of-hold (Register a ∷ Branch b ∷ []) = (refl, (refl, (refl, (refl, (refl, (refl, tt))))))
+rows_of-hold (Jump a ∷ []) = (refl, (refl, tt))
+rows_of-hold (Code a ∷ []) = (refl, (refl, tt))
+rows_of-hold _ = tt
+
+-- what is built has that form
+pub build_of-form : (name : List ℕ) (operands : List Operand) (i : Ins) → build_of name operands ≡ Some i → form_of i ≡ (name, operands)
+build_of-form name operands i is = in_rows-form name operands i (rows_of operands) (rows_of-hold operands) is
+
+-- what has that form is built
+pub form-build_of : (name : List ℕ) (operands : List Operand) (i : Ins) → form_of i ≡ (name, operands) → build_of name operands ≡ Some i
+form-build_of name operands i is = ap (λ (form : List ℕ × List Operand). build_of form.0 form.1) (sym is) ∙ built_form i
+
+-- ---- Which operands a mnemonic takes
+
+pub kinds_of_forms : KindsOfForms
+unfolding kinds_of rows_of plain_rows register_rows two_registers_rows three_registers_rows sum_rows slot_rows shift_rows signed_rows unsigned_rows upper_rows access_rows compare_rows test_rows jump_rows coded_rows
+kinds_of_forms (Sll rd rt sa) = refl
+kinds_of_forms (Srl rd rt sa) = refl
+kinds_of_forms (Sra rd rt sa) = refl
+kinds_of_forms (Sllv rd rt rs) = refl
+kinds_of_forms (Srlv rd rt rs) = refl
+kinds_of_forms (Srav rd rt rs) = refl
+kinds_of_forms (Jr rs) = refl
+kinds_of_forms (Jalr rd rs) = refl
+kinds_of_forms (Syscall code) = refl
+kinds_of_forms (Break code) = refl
+kinds_of_forms (Mfhi rd) = refl
+kinds_of_forms (Mthi rs) = refl
+kinds_of_forms (Mflo rd) = refl
+kinds_of_forms (Mtlo rs) = refl
+kinds_of_forms (Mult rs rt) = refl
+kinds_of_forms (Multu rs rt) = refl
+kinds_of_forms (Div rs rt) = refl
+kinds_of_forms (Divu rs rt) = refl
+kinds_of_forms (Add rd rs rt) = refl
+kinds_of_forms (Addu rd rs rt) = refl
+kinds_of_forms (Sub rd rs rt) = refl
+kinds_of_forms (Subu rd rs rt) = refl
+kinds_of_forms (And rd rs rt) = refl
+kinds_of_forms (Or rd rs rt) = refl
+kinds_of_forms (Xor rd rs rt) = refl
+kinds_of_forms (Nor rd rs rt) = refl
+kinds_of_forms (Slt rd rs rt) = refl
+kinds_of_forms (Sltu rd rs rt) = refl
+kinds_of_forms (Bltz rs imm) = refl
+kinds_of_forms (Bgez rs imm) = refl
+kinds_of_forms (Bltzal rs imm) = refl
+kinds_of_forms (Bgezal rs imm) = refl
+kinds_of_forms (J index) = refl
+kinds_of_forms (Jal index) = refl
+kinds_of_forms (Beq rs rt imm) = refl
+kinds_of_forms (Bne rs rt imm) = refl
+kinds_of_forms (Blez rs imm) = refl
+kinds_of_forms (Bgtz rs imm) = refl
+kinds_of_forms (Addi rt rs imm) = refl
+kinds_of_forms (Addiu rt rs imm) = refl
+kinds_of_forms (Slti rt rs imm) = refl
+kinds_of_forms (Sltiu rt rs imm) = refl
+kinds_of_forms (Andi rt rs imm) = refl
+kinds_of_forms (Ori rt rs imm) = refl
+kinds_of_forms (Xori rt rs imm) = refl
+kinds_of_forms (Lui rt imm) = refl
+kinds_of_forms (Lb rt imm rs) = refl
+kinds_of_forms (Lh rt imm rs) = refl
+kinds_of_forms (Lwl rt imm rs) = refl
+kinds_of_forms (Lw rt imm rs) = refl
+kinds_of_forms (Lbu rt imm rs) = refl
+kinds_of_forms (Lhu rt imm rs) = refl
+kinds_of_forms (Lwr rt imm rs) = refl
+kinds_of_forms (Sb rt imm rs) = refl
+kinds_of_forms (Sh rt imm rs) = refl
+kinds_of_forms (Swl rt imm rs) = refl
+kinds_of_forms (Sw rt imm rs) = refl
+kinds_of_forms (Swr rt imm rs) = refl
+kinds_of_forms (Xlwn rt imm rs) = refl
+kinds_of_forms (Xswn rt imm rs) = refl
+kinds_of_forms (Xmvtn rs) = refl
+kinds_of_forms (Xmvfn rd rs) = refl
+kinds_of_forms Xexit = refl
+kinds_of_forms (Xhand rs) = refl
+kinds_of_forms Xsigret = refl
+kinds_of_forms (Xinstall rs rt rd) = refl
+kinds_of_forms (Xenter rs) = refl
+kinds_of_forms (Xresume rs rt) = refl
+kinds_of_forms (Xsave rs rt rd) = refl
+kinds_of_forms (Xrestore rs rt rd) = refl
+kinds_of_forms (Xmap rs rt rd) = refl
+kinds_of_forms (Xunmap rs rt) = refl
+kinds_of_forms (Xkill rs) = refl
+kinds_of_forms (Xout rs) = refl
+kinds_of_forms Xhalt = refl
+kinds_of_forms (Xstat rd) = refl
+kinds_of_forms (Xcause rd) = refl
+kinds_of_forms (Xarg rd) = refl
+kinds_of_forms (Xwho rd) = refl
+
+-- what is found passes the test
+find-passes : (test : List OperandKind → Bool) (all : List (List OperandKind)) (shape : List OperandKind) → find test all ≡ Some shape → test shape ≡ true
+find-passes test [] shape is = absurd (let none : None ≡ Some shape = is in cc)
+find-passes test (first ∷ all) shape is =
+    elim (cases_Bool (test first)) [
+      | inl passes ↦ let here : Some first ≡ Some shape = (rw passes at is) in let same : first ≡ shape = cc in ap test (sym same) ∙ passes
+      | inr fails ↦ find-passes test all shape (rw fails at is)
+    ]
+
+-- a sample is of its kind
+sample_of-kind : (kind : OperandKind) → kind_of (sample_of kind) ≡ kind
+sample_of-kind kinds.Register = refl
+sample_of-kind kinds.Shift = refl
+sample_of-kind kinds.Signed = refl
+sample_of-kind kinds.Unsigned = refl
+sample_of-kind kinds.Code = refl
+sample_of-kind kinds.Branch = refl
+sample_of-kind kinds.Jump = refl
+sample_of-kind kinds.Offset = refl
+
+kind_of-sample : (shape : List OperandKind) → map kind_of (map sample_of shape) ≡ shape
+kind_of-sample [] = refl
+kind_of-sample (kind ∷ shape) =
+    ap (λ (first : OperandKind). first ∷ map kind_of (map sample_of shape)) (sample_of-kind kind) ∙ ap (λ (rest : List OperandKind). kind ∷ rest) (kind_of-sample shape)
+
+-- a value that is there
+some_of : (o : Option Ins) → is_some o ≡ true → (i : Ins) × (o ≡ Some i)
+some_of (Some i) there = (i, refl)
+some_of None there = absurd (let bad : false ≡ true = there in cc)
+
+-- the kinds of a mnemonic are those of an instruction
+pub kinds_of-Takes : (name : List ℕ) (shape : List OperandKind) → kinds_of name ≡ Some shape → Takes name shape
+unfolding kinds_of
+kinds_of-Takes name shape is =
+    let built = some_of (build_of name (map sample_of shape)) (find-passes (takes name) shapes shape is) in
+    let form = build_of-form name (map sample_of shape) built.0 built.1 in (
+      built.0,
+      ap (λ (form : List ℕ × List Operand). form.0) form,
+      ap (λ (form : List ℕ × List Operand). map kind_of form.1) form ∙ kind_of-sample shape,
+    )
+
+-- a name without kinds is no mnemonic
+pub kinds_of-none : (name : List ℕ) → kinds_of name ≡ None → IsNoMnemonic name
+kinds_of-none name none i is =
+    let found : None ≡ Some (map kind_of (form_of i).1) = sym none ∙ ap kinds_of (sym is) ∙ kinds_of_forms i in
+    cc
+
+-- ---- Ranges
+
+pub operands_fit : OperandsFit
+operands_fit (Sll rd rt sa) fits = (fits.0, (fits.1, (fits.2, tt)))
+operands_fit (Srl rd rt sa) fits = (fits.0, (fits.1, (fits.2, tt)))
+operands_fit (Sra rd rt sa) fits = (fits.0, (fits.1, (fits.2, tt)))
+operands_fit (Sllv rd rt rs) fits = (fits.0, (fits.1, (fits.2, tt)))
+operands_fit (Srlv rd rt rs) fits = (fits.0, (fits.1, (fits.2, tt)))
+operands_fit (Srav rd rt rs) fits = (fits.0, (fits.1, (fits.2, tt)))
+operands_fit (Jr rs) fits = (fits, tt)
+operands_fit (Jalr rd rs) fits = (fits.0, (fits.1, tt))
+operands_fit (Syscall code) fits = (fits, tt)
+operands_fit (Break code) fits = (fits, tt)
+operands_fit (Mfhi rd) fits = (fits, tt)
+operands_fit (Mthi rs) fits = (fits, tt)
+operands_fit (Mflo rd) fits = (fits, tt)
+operands_fit (Mtlo rs) fits = (fits, tt)
+operands_fit (Mult rs rt) fits = (fits.0, (fits.1, tt))
+operands_fit (Multu rs rt) fits = (fits.0, (fits.1, tt))
+operands_fit (Div rs rt) fits = (fits.0, (fits.1, tt))
+operands_fit (Divu rs rt) fits = (fits.0, (fits.1, tt))
+operands_fit (Add rd rs rt) fits = (fits.0, (fits.1, (fits.2, tt)))
+operands_fit (Addu rd rs rt) fits = (fits.0, (fits.1, (fits.2, tt)))
+operands_fit (Sub rd rs rt) fits = (fits.0, (fits.1, (fits.2, tt)))
+operands_fit (Subu rd rs rt) fits = (fits.0, (fits.1, (fits.2, tt)))
+operands_fit (And rd rs rt) fits = (fits.0, (fits.1, (fits.2, tt)))
+operands_fit (Or rd rs rt) fits = (fits.0, (fits.1, (fits.2, tt)))
+operands_fit (Xor rd rs rt) fits = (fits.0, (fits.1, (fits.2, tt)))
+operands_fit (Nor rd rs rt) fits = (fits.0, (fits.1, (fits.2, tt)))
+operands_fit (Slt rd rs rt) fits = (fits.0, (fits.1, (fits.2, tt)))
+operands_fit (Sltu rd rs rt) fits = (fits.0, (fits.1, (fits.2, tt)))
+operands_fit (Bltz rs imm) fits = (fits.0, (fits.1, tt))
+operands_fit (Bgez rs imm) fits = (fits.0, (fits.1, tt))
+operands_fit (Bltzal rs imm) fits = (fits.0, (fits.1, tt))
+operands_fit (Bgezal rs imm) fits = (fits.0, (fits.1, tt))
+operands_fit (J index) fits = (fits, tt)
+operands_fit (Jal index) fits = (fits, tt)
+operands_fit (Beq rs rt imm) fits = (fits.0, (fits.1, (fits.2, tt)))
+operands_fit (Bne rs rt imm) fits = (fits.0, (fits.1, (fits.2, tt)))
+operands_fit (Blez rs imm) fits = (fits.0, (fits.1, tt))
+operands_fit (Bgtz rs imm) fits = (fits.0, (fits.1, tt))
+operands_fit (Addi rt rs imm) fits = (fits.0, (fits.1, (fits.2, tt)))
+operands_fit (Addiu rt rs imm) fits = (fits.0, (fits.1, (fits.2, tt)))
+operands_fit (Slti rt rs imm) fits = (fits.0, (fits.1, (fits.2, tt)))
+operands_fit (Sltiu rt rs imm) fits = (fits.0, (fits.1, (fits.2, tt)))
+operands_fit (Andi rt rs imm) fits = (fits.0, (fits.1, (fits.2, tt)))
+operands_fit (Ori rt rs imm) fits = (fits.0, (fits.1, (fits.2, tt)))
+operands_fit (Xori rt rs imm) fits = (fits.0, (fits.1, (fits.2, tt)))
+operands_fit (Lui rt imm) fits = (fits.0, (fits.1, tt))
+operands_fit (Lb rt imm rs) fits = (fits.0, ((fits.1, fits.2), tt))
+operands_fit (Lh rt imm rs) fits = (fits.0, ((fits.1, fits.2), tt))
+operands_fit (Lwl rt imm rs) fits = (fits.0, ((fits.1, fits.2), tt))
+operands_fit (Lw rt imm rs) fits = (fits.0, ((fits.1, fits.2), tt))
+operands_fit (Lbu rt imm rs) fits = (fits.0, ((fits.1, fits.2), tt))
+operands_fit (Lhu rt imm rs) fits = (fits.0, ((fits.1, fits.2), tt))
+operands_fit (Lwr rt imm rs) fits = (fits.0, ((fits.1, fits.2), tt))
+operands_fit (Sb rt imm rs) fits = (fits.0, ((fits.1, fits.2), tt))
+operands_fit (Sh rt imm rs) fits = (fits.0, ((fits.1, fits.2), tt))
+operands_fit (Swl rt imm rs) fits = (fits.0, ((fits.1, fits.2), tt))
+operands_fit (Sw rt imm rs) fits = (fits.0, ((fits.1, fits.2), tt))
+operands_fit (Swr rt imm rs) fits = (fits.0, ((fits.1, fits.2), tt))
+operands_fit (Xlwn rt imm rs) fits = (fits.0, ((fits.1, fits.2), tt))
+operands_fit (Xswn rt imm rs) fits = (fits.0, ((fits.1, fits.2), tt))
+operands_fit (Xmvtn rs) fits = (fits.1, tt)
+operands_fit (Xmvfn rd rs) fits = (fits.0.1, (fits.1.1, tt))
+operands_fit Xexit fits = tt
+operands_fit (Xhand rs) fits = (fits, tt)
+operands_fit Xsigret fits = tt
+operands_fit (Xinstall rs rt rd) fits = (fits.0, (fits.1, (fits.2, tt)))
+operands_fit (Xenter rs) fits = (fits, tt)
+operands_fit (Xresume rs rt) fits = (fits.0, (fits.1, tt))
+operands_fit (Xsave rs rt rd) fits = (fits.0, (fits.1, (fits.2, tt)))
+operands_fit (Xrestore rs rt rd) fits = (fits.0, (fits.1, (fits.2, tt)))
+operands_fit (Xmap rs rt rd) fits = (fits.0, (fits.1, (fits.2, tt)))
+operands_fit (Xunmap rs rt) fits = (fits.0, (fits.1, tt))
+operands_fit (Xkill rs) fits = (fits, tt)
+operands_fit (Xout rs) fits = (fits, tt)
+operands_fit Xhalt fits = tt
+operands_fit (Xstat rd) fits = (fits, tt)
+operands_fit (Xcause rd) fits = (fits, tt)
+operands_fit (Xarg rd) fits = (fits, tt)
+operands_fit (Xwho rd) fits = (fits, tt)

@@ -1,0 +1,412 @@
+ghost use Rattle.std.specs.Prelude.{◌≡◌, ◌↔◌, ◌∷◌, [], MatchOption};
+ghost use Rattle.mips_forms.specs.Forms.{form_of, Takes, IsNoMnemonic};
+ghost use Rattle.mips_forms.specs.Builds.{build_of, kinds_of, in_rows, plain_rows, register_rows, two_registers_rows, three_registers_rows, sum_rows, slot_rows, shift_rows, signed_rows, unsigned_rows, upper_rows, access_rows, compare_rows, test_rows, jump_rows, coded_rows};
+
+use crate::OperandKind::{Branch, Code, Jump, Offset, Register, Shift, Signed, Unsigned};
+use crate::{Operand, OperandKind};
+use mips_isa::Ins;
+
+/// The instruction with this mnemonic and these operands, in the order of the text, and None where
+/// there is none. That the operands fit their fields isn't asked: `mips_isa::fits` tells.
+pub fn build(name: &[u8], operands: &[Operand]) -> Option<Ins>
+    ensures exact { (i : Ins) → (result ≡ Some i) ↔ (form_of i ≡ (name.now, operands.now)) }
+    ensures value { result ≡ build_of name.now operands.now }
+{
+    found(name, operands)
+}
+
+/// The kinds of the operands that a mnemonic takes, in the order of the text, and None where no
+/// instruction has that mnemonic.
+pub fn kinds(name: &[u8]) -> Option<&'static [OperandKind]>
+    ensures exact { MatchOption result (IsNoMnemonic name.now) (λ shape. Takes name.now shape.now) }
+    ensures value { MatchOption result (kinds_of name.now ≡ None) (λ shape. kinds_of name.now ≡ Some shape.now) }
+{
+    found_kinds(name)
+}
+
+/// The kinds of the tables in which this mnemonic stands.
+#[tactic(auto, unfolding(crate::specs::Builds::kinds_of, crate::specs::Builds::rows_of))]
+fn found_kinds(name: &[u8]) -> Option<&'static [OperandKind]>
+    ensures { MatchOption result (kinds_of name.now ≡ None) (λ shape. kinds_of name.now ≡ Some shape.now) }
+{
+    if plain(name).is_some() {
+        Some(&[])
+    } else if register(name, 0).is_some() {
+        Some(&[Register])
+    } else if two_registers(name, 0, 0).is_some() {
+        Some(&[Register, Register])
+    } else if three_registers(name, 0, 0, 0).is_some() {
+        Some(&[Register, Register, Register])
+    } else if shift(name, 0, 0, 0).is_some() {
+        Some(&[Register, Register, Shift])
+    } else if signed(name, 0, 0, 0).is_some() {
+        Some(&[Register, Register, Signed])
+    } else if unsigned(name, 0, 0, 0).is_some() {
+        Some(&[Register, Register, Unsigned])
+    } else if upper(name, 0, 0).is_some() {
+        Some(&[Register, Unsigned])
+    } else if access(name, 0, 0, 0).is_some() {
+        Some(&[Register, Offset])
+    } else if compare(name, 0, 0, 0).is_some() {
+        Some(&[Register, Register, Branch])
+    } else if test(name, 0, 0).is_some() {
+        Some(&[Register, Branch])
+    } else if jump(name, 0).is_some() {
+        Some(&[Jump])
+    } else if coded(name, 0).is_some() {
+        Some(&[Code])
+    } else {
+        None
+    }
+}
+
+/// The row with this mnemonic among those of these operands.
+#[tactic(auto, unfolding(crate::specs::Builds::rows_of))]
+fn found(name: &[u8], operands: &[Operand]) -> Option<Ins>
+    ensures { result ≡ build_of name.now operands.now }
+{
+    match *operands {
+        [] => plain(name),
+        [Operand::Register(a)] => register(name, a),
+        [Operand::Register(a), Operand::Register(b)] => two_registers(name, a, b),
+        [
+            Operand::Register(a),
+            Operand::Register(b),
+            Operand::Register(c),
+        ] => three_registers(name, a, b, c),
+        [
+            Operand::Register(rd),
+            Operand::Register(rt),
+            Operand::Shift(sa),
+        ] => shift(name, rd, rt, sa),
+        [
+            Operand::Register(rt),
+            Operand::Register(rs),
+            Operand::Signed(imm),
+        ] => signed(name, rt, rs, imm),
+        [
+            Operand::Register(rt),
+            Operand::Register(rs),
+            Operand::Unsigned(imm),
+        ] => unsigned(name, rt, rs, imm),
+        [Operand::Register(rt), Operand::Unsigned(imm)] => upper(name, rt, imm),
+        [Operand::Register(rt), Operand::Offset { imm, base: rs }] => access(name, rt, imm, rs),
+        [
+            Operand::Register(rs),
+            Operand::Register(rt),
+            Operand::Branch(imm),
+        ] => compare(name, rs, rt, imm),
+        [Operand::Register(rs), Operand::Branch(imm)] => test(name, rs, imm),
+        [Operand::Jump(index)] => jump(name, index),
+        [Operand::Code(code)] => coded(name, code),
+        _ => None,
+    }
+}
+
+/// No operand.
+#[tactic(auto, unfolding(crate::specs::Builds::plain_rows))]
+fn plain(name: &[u8]) -> Option<Ins>
+    ensures { result ≡ in_rows name.now plain_rows }
+{
+    if name == b"xexit".as_slice() {
+        Some(Ins::Xexit)
+    } else if name == b"xsigret".as_slice() {
+        Some(Ins::Xsigret)
+    } else if name == b"xhalt".as_slice() {
+        Some(Ins::Xhalt)
+    } else {
+        None
+    }
+}
+
+/// One register.
+#[tactic(auto, unfolding(crate::specs::Builds::register_rows))]
+fn register(name: &[u8], a: u8) -> Option<Ins>
+    ensures { result ≡ in_rows name.now (register_rows a) }
+{
+    if name == b"jr".as_slice() {
+        Some(Ins::Jr { rs: a })
+    } else if name == b"mfhi".as_slice() {
+        Some(Ins::Mfhi { rd: a })
+    } else if name == b"mthi".as_slice() {
+        Some(Ins::Mthi { rs: a })
+    } else if name == b"mflo".as_slice() {
+        Some(Ins::Mflo { rd: a })
+    } else if name == b"mtlo".as_slice() {
+        Some(Ins::Mtlo { rs: a })
+    } else if name == b"xmvtn".as_slice() {
+        Some(Ins::Xmvtn { rs: a })
+    } else if name == b"xhand".as_slice() {
+        Some(Ins::Xhand { rs: a })
+    } else if name == b"xenter".as_slice() {
+        Some(Ins::Xenter { rs: a })
+    } else if name == b"xkill".as_slice() {
+        Some(Ins::Xkill { rs: a })
+    } else if name == b"xout".as_slice() {
+        Some(Ins::Xout { rs: a })
+    } else if name == b"xstat".as_slice() {
+        Some(Ins::Xstat { rd: a })
+    } else if name == b"xcause".as_slice() {
+        Some(Ins::Xcause { rd: a })
+    } else if name == b"xarg".as_slice() {
+        Some(Ins::Xarg { rd: a })
+    } else if name == b"xwho".as_slice() {
+        Some(Ins::Xwho { rd: a })
+    } else {
+        None
+    }
+}
+
+/// Two registers.
+#[tactic(auto, unfolding(crate::specs::Builds::two_registers_rows))]
+fn two_registers(name: &[u8], a: u8, b: u8) -> Option<Ins>
+    ensures { result ≡ in_rows name.now (two_registers_rows a b) }
+{
+    if name == b"jalr".as_slice() {
+        Some(Ins::Jalr { rd: a, rs: b })
+    } else if name == b"mult".as_slice() {
+        Some(Ins::Mult { rs: a, rt: b })
+    } else if name == b"multu".as_slice() {
+        Some(Ins::Multu { rs: a, rt: b })
+    } else if name == b"div".as_slice() {
+        Some(Ins::Div { rs: a, rt: b })
+    } else if name == b"divu".as_slice() {
+        Some(Ins::Divu { rs: a, rt: b })
+    } else if name == b"xmvfn".as_slice() {
+        Some(Ins::Xmvfn { rd: a, rs: b })
+    } else if name == b"xresume".as_slice() {
+        Some(Ins::Xresume { rs: a, rt: b })
+    } else if name == b"xunmap".as_slice() {
+        Some(Ins::Xunmap { rs: a, rt: b })
+    } else {
+        None
+    }
+}
+
+/// Three registers.
+#[tactic(auto, unfolding(crate::specs::Builds::three_registers_rows))]
+fn three_registers(name: &[u8], rd: u8, rt: u8, rs: u8) -> Option<Ins>
+    ensures { result ≡ in_rows name.now (three_registers_rows rd rt rs) }
+{
+    if name == b"sllv".as_slice() {
+        Some(Ins::Sllv { rd, rt, rs })
+    } else if name == b"srlv".as_slice() {
+        Some(Ins::Srlv { rd, rt, rs })
+    } else if name == b"srav".as_slice() {
+        Some(Ins::Srav { rd, rt, rs })
+    } else {
+        sum(name, rd, rt, rs)
+    }
+}
+
+/// Three registers, the result first.
+#[tactic(auto, unfolding(crate::specs::Builds::sum_rows))]
+fn sum(name: &[u8], rd: u8, rs: u8, rt: u8) -> Option<Ins>
+    ensures { result ≡ in_rows name.now (sum_rows rd rs rt) }
+{
+    if name == b"add".as_slice() {
+        Some(Ins::Add { rd, rs, rt })
+    } else if name == b"addu".as_slice() {
+        Some(Ins::Addu { rd, rs, rt })
+    } else if name == b"sub".as_slice() {
+        Some(Ins::Sub { rd, rs, rt })
+    } else if name == b"subu".as_slice() {
+        Some(Ins::Subu { rd, rs, rt })
+    } else if name == b"and".as_slice() {
+        Some(Ins::And { rd, rs, rt })
+    } else if name == b"or".as_slice() {
+        Some(Ins::Or { rd, rs, rt })
+    } else if name == b"xor".as_slice() {
+        Some(Ins::Xor { rd, rs, rt })
+    } else if name == b"nor".as_slice() {
+        Some(Ins::Nor { rd, rs, rt })
+    } else if name == b"slt".as_slice() {
+        Some(Ins::Slt { rd, rs, rt })
+    } else if name == b"sltu".as_slice() {
+        Some(Ins::Sltu { rd, rs, rt })
+    } else {
+        slot(name, rd, rs, rt)
+    }
+}
+
+/// Three registers, a slot first.
+#[tactic(auto, unfolding(crate::specs::Builds::slot_rows))]
+fn slot(name: &[u8], rs: u8, rt: u8, rd: u8) -> Option<Ins>
+    ensures { result ≡ in_rows name.now (slot_rows rs rt rd) }
+{
+    if name == b"xinstall".as_slice() {
+        Some(Ins::Xinstall { rs, rt, rd })
+    } else if name == b"xsave".as_slice() {
+        Some(Ins::Xsave { rs, rt, rd })
+    } else if name == b"xrestore".as_slice() {
+        Some(Ins::Xrestore { rs, rt, rd })
+    } else if name == b"xmap".as_slice() {
+        Some(Ins::Xmap { rs, rt, rd })
+    } else {
+        None
+    }
+}
+
+/// Two registers and a shift amount.
+#[tactic(auto, unfolding(crate::specs::Builds::shift_rows))]
+fn shift(name: &[u8], rd: u8, rt: u8, sa: u8) -> Option<Ins>
+    ensures { result ≡ in_rows name.now (shift_rows rd rt sa) }
+{
+    if name == b"sll".as_slice() {
+        Some(Ins::Sll { rd, rt, sa })
+    } else if name == b"srl".as_slice() {
+        Some(Ins::Srl { rd, rt, sa })
+    } else if name == b"sra".as_slice() {
+        Some(Ins::Sra { rd, rt, sa })
+    } else {
+        None
+    }
+}
+
+/// Two registers and an immediate with its sign.
+#[tactic(auto, unfolding(crate::specs::Builds::signed_rows))]
+fn signed(name: &[u8], rt: u8, rs: u8, imm: u16) -> Option<Ins>
+    ensures { result ≡ in_rows name.now (signed_rows rt rs imm) }
+{
+    if name == b"addi".as_slice() {
+        Some(Ins::Addi { rt, rs, imm })
+    } else if name == b"addiu".as_slice() {
+        Some(Ins::Addiu { rt, rs, imm })
+    } else if name == b"slti".as_slice() {
+        Some(Ins::Slti { rt, rs, imm })
+    } else if name == b"sltiu".as_slice() {
+        Some(Ins::Sltiu { rt, rs, imm })
+    } else {
+        None
+    }
+}
+
+/// Two registers and an immediate without a sign.
+#[tactic(auto, unfolding(crate::specs::Builds::unsigned_rows))]
+fn unsigned(name: &[u8], rt: u8, rs: u8, imm: u16) -> Option<Ins>
+    ensures { result ≡ in_rows name.now (unsigned_rows rt rs imm) }
+{
+    if name == b"andi".as_slice() {
+        Some(Ins::Andi { rt, rs, imm })
+    } else if name == b"ori".as_slice() {
+        Some(Ins::Ori { rt, rs, imm })
+    } else if name == b"xori".as_slice() {
+        Some(Ins::Xori { rt, rs, imm })
+    } else {
+        None
+    }
+}
+
+/// A register and an immediate without a sign.
+#[tactic(auto, unfolding(crate::specs::Builds::upper_rows))]
+fn upper(name: &[u8], rt: u8, imm: u16) -> Option<Ins>
+    ensures { result ≡ in_rows name.now (upper_rows rt imm) }
+{
+    if name == b"lui".as_slice() {
+        Some(Ins::Lui { rt, imm })
+    } else {
+        None
+    }
+}
+
+/// A register, and an offset from a base register.
+#[tactic(auto, unfolding(crate::specs::Builds::access_rows))]
+fn access(name: &[u8], rt: u8, imm: u16, rs: u8) -> Option<Ins>
+    ensures { result ≡ in_rows name.now (access_rows rt imm rs) }
+{
+    if name == b"lb".as_slice() {
+        Some(Ins::Lb { rt, imm, rs })
+    } else if name == b"lh".as_slice() {
+        Some(Ins::Lh { rt, imm, rs })
+    } else if name == b"lwl".as_slice() {
+        Some(Ins::Lwl { rt, imm, rs })
+    } else if name == b"lw".as_slice() {
+        Some(Ins::Lw { rt, imm, rs })
+    } else if name == b"lbu".as_slice() {
+        Some(Ins::Lbu { rt, imm, rs })
+    } else if name == b"lhu".as_slice() {
+        Some(Ins::Lhu { rt, imm, rs })
+    } else if name == b"lwr".as_slice() {
+        Some(Ins::Lwr { rt, imm, rs })
+    } else if name == b"sb".as_slice() {
+        Some(Ins::Sb { rt, imm, rs })
+    } else if name == b"sh".as_slice() {
+        Some(Ins::Sh { rt, imm, rs })
+    } else if name == b"swl".as_slice() {
+        Some(Ins::Swl { rt, imm, rs })
+    } else if name == b"sw".as_slice() {
+        Some(Ins::Sw { rt, imm, rs })
+    } else if name == b"swr".as_slice() {
+        Some(Ins::Swr { rt, imm, rs })
+    } else if name == b"xlwn".as_slice() {
+        Some(Ins::Xlwn { rt, imm, rs })
+    } else if name == b"xswn".as_slice() {
+        Some(Ins::Xswn { rt, imm, rs })
+    } else {
+        None
+    }
+}
+
+/// Two registers and a branch target.
+#[tactic(auto, unfolding(crate::specs::Builds::compare_rows))]
+fn compare(name: &[u8], rs: u8, rt: u8, imm: u16) -> Option<Ins>
+    ensures { result ≡ in_rows name.now (compare_rows rs rt imm) }
+{
+    if name == b"beq".as_slice() {
+        Some(Ins::Beq { rs, rt, imm })
+    } else if name == b"bne".as_slice() {
+        Some(Ins::Bne { rs, rt, imm })
+    } else {
+        None
+    }
+}
+
+/// A register and a branch target.
+#[tactic(auto, unfolding(crate::specs::Builds::test_rows))]
+fn test(name: &[u8], rs: u8, imm: u16) -> Option<Ins>
+    ensures { result ≡ in_rows name.now (test_rows rs imm) }
+{
+    if name == b"bltz".as_slice() {
+        Some(Ins::Bltz { rs, imm })
+    } else if name == b"bgez".as_slice() {
+        Some(Ins::Bgez { rs, imm })
+    } else if name == b"bltzal".as_slice() {
+        Some(Ins::Bltzal { rs, imm })
+    } else if name == b"bgezal".as_slice() {
+        Some(Ins::Bgezal { rs, imm })
+    } else if name == b"blez".as_slice() {
+        Some(Ins::Blez { rs, imm })
+    } else if name == b"bgtz".as_slice() {
+        Some(Ins::Bgtz { rs, imm })
+    } else {
+        None
+    }
+}
+
+/// A jump target.
+#[tactic(auto, unfolding(crate::specs::Builds::jump_rows))]
+fn jump(name: &[u8], index: u32) -> Option<Ins>
+    ensures { result ≡ in_rows name.now (jump_rows index) }
+{
+    if name == b"j".as_slice() {
+        Some(Ins::J { index })
+    } else if name == b"jal".as_slice() {
+        Some(Ins::Jal { index })
+    } else {
+        None
+    }
+}
+
+/// A code.
+#[tactic(auto, unfolding(crate::specs::Builds::coded_rows))]
+fn coded(name: &[u8], code: u32) -> Option<Ins>
+    ensures { result ≡ in_rows name.now (coded_rows code) }
+{
+    if name == b"syscall".as_slice() {
+        Some(Ins::Syscall { code })
+    } else if name == b"break".as_slice() {
+        Some(Ins::Break { code })
+    } else {
+        None
+    }
+}

@@ -1,7 +1,0 @@
--- The laws, as the table of forms and the numbers of operands give them.
-use Rattle.mips_text.proofs.FormTable.{forms_differ, kinds_of_forms, operands_fit}
-use Rattle.mips_text.proofs.OperandValues.{values_differ, words_are_listed}
-use Rattle.mips_text.proofs.law.forms_are_exact.Goals as goal
-
-pub returns : goal.returns
-returns c = record { differ = forms_differ; kinds = kinds_of_forms; fit = operands_fit; values = values_differ; words = words_are_listed }
