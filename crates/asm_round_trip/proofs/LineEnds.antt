@@ -7,10 +7,10 @@ use Rattle.std.specs.List.{AllByRecursion, list_any}
 use Rattle.std.proofs.lemmas.Bool.{cond_both, ne_eqb, or_from, or_parts}
 use Rattle.std.proofs.lemmas.List.Folds.{list_any-append}
 use Rattle.hex.specs.Hex.{encode_lower, encode_with, lower_digits}
-use Rattle.mips_isa.specs.Words.{read}
-use Rattle.mips_isa.specs.declared.instruction.Ins.{Ins}
-use Rattle.mips_isa.specs.declared.instruction.Ins.TheVariants.{Sll}
-use Rattle.mips_isa.specs.Numbers.{signed_16}
+use Rattle.mips_instruction.specs.Words.{read}
+use Rattle.mips_instruction.specs.declared.instruction.Ins.{Ins}
+use Rattle.mips_instruction.specs.declared.instruction.Ins.TheVariants.{Sll}
+use Rattle.mips_instruction.specs.Numbers.{signed_16}
 use Rattle.mips_forms.specs.Forms.{form_of}
 use Rattle.mips_text.specs.Texts.{address_text, joined, operand_text, operands_text, read_text, text_of, word_text}
 use Rattle.mips_forms.specs.declared.operand.Operand.{Operand}

@@ -12,7 +12,7 @@ use Rattle.hex.specs.Hex.{encode_lower, encode_with, lower_digits}
 use Rattle.xom_base.proofs.NumberLaws.{digits_from, value_is}
 use Rattle.xom_base.specs.Numbers.{IsNumber, value}
 use Rattle.text_pieces.specs.Pieces.{hex8}
-use Rattle.mips_isa.specs.Numbers.{signed_16}
+use Rattle.mips_instruction.specs.Numbers.{signed_16}
 use Rattle.asm_tokens.specs.declared.integers.Integer.{Integer}
 use Rattle.asm_tokens.specs.Integers.{IsInteger, signed, whole}
 use Rattle.mips_text.specs.Texts.{address_text}

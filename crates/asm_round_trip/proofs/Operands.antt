@@ -7,7 +7,7 @@ use Rattle.std.specs.Str.{bytes_eq}
 use Rattle.std.proofs.lemmas.Bool.{and_parts, cases_lt, le-ltb, lt-ltb, true≢false}
 use Rattle.std.proofs.lemmas.Fmt.{decimal_digit, decimal_step}
 use Rattle.std.proofs.lemmas.Slice.Eq.{bytes_eq-Decides}
-use Rattle.mips_isa.specs.Numbers.{signed_16, reduced, target, jump_target, after}
+use Rattle.mips_instruction.specs.Numbers.{signed_16, reduced, target, jump_target, after}
 use Rattle.asm_tokens.specs.declared.integers.Integer.{Integer}
 use Rattle.mips_forms.specs.declared.operand.Operand.{Operand}
 use Rattle.mips_forms.specs.declared.operand.Operand.TheVariants as operand

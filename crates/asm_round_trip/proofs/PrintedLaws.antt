@@ -1,8 +1,8 @@
 -- An instruction as it is printed is assembled to its word.
 use Rattle.std.proofs.Common.{◌≡◌, ℕ, ◌+◌, ◌%◌, ◌^◌, ◌<◌, List, [], ◌∷◌, Option, Some, refl, ap, map, option_map, arith}
 use Rattle.std.specs.List.{AllByRecursion, AllZip}
-use Rattle.mips_isa.specs.Words.{Fits}
-use Rattle.mips_isa.specs.declared.instruction.Ins.{Ins}
+use Rattle.mips_instruction.specs.Words.{Fits}
+use Rattle.mips_instruction.specs.declared.instruction.Ins.{Ins}
 use Rattle.mips_forms.specs.Forms.{InRange, form_of, kind_of}
 use Rattle.mips_forms.specs.declared.operand.Operand.{Operand}
 use Rattle.mips_forms.specs.declared.operand.Operand.TheVariants.{Register, Shift, Signed, Unsigned, Code, Branch, Jump, Offset}

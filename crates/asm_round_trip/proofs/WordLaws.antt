@@ -4,9 +4,9 @@ use Rattle.std.specs.Prelude.{codes}
 use Rattle.std.specs.Int.{w32, to_be_bytes}
 use Rattle.std.proofs.lemmas.Bool.{le-leb}
 use Rattle.mips_isa.proofs.Reading.{read-Word}
-use Rattle.mips_isa.specs.Words.{Fits, read}
-use Rattle.mips_isa.specs.declared.instruction.Ins.{Ins}
-use Rattle.mips_isa.specs.declared.instruction.Ins.TheVariants.{Jalr}
+use Rattle.mips_instruction.specs.Words.{Fits, read}
+use Rattle.mips_instruction.specs.declared.instruction.Ins.{Ins}
+use Rattle.mips_instruction.specs.declared.instruction.Ins.TheVariants.{Jalr}
 use Rattle.mips_forms.proofs.FormTable.{kinds_of_forms, operands_fit}
 use Rattle.asm_tokens.specs.declared.integers.Integer.{Integer}
 use Rattle.mips_forms.specs.declared.operand.Operand.{Operand}

@@ -2,8 +2,8 @@
 use Rattle.std.specs.Prelude.{◌≡◌, ℕ, ◌+◌, ◌%◌, ◌^◌, ◌<◌, List}
 use Rattle.std.specs.List.{AllZip}
 use Rattle.std.specs.Int.{w32, to_be_bytes}
-use Rattle.mips_isa.specs.Words.{Fits, word_of}
-use Rattle.mips_isa.specs.declared.instruction.Ins.{Ins}
+use Rattle.mips_instruction.specs.Words.{Fits, word_of}
+use Rattle.mips_instruction.specs.declared.instruction.Ins.{Ins}
 use Rattle.mips_forms.specs.Forms.{form_of}
 use Rattle.asm_tokens.specs.Integers.{whole}
 use Rattle.mips_text.specs.Texts.{value_of}

@@ -19,7 +19,7 @@ use Rattle.xom_model.specs.Run.{is_flagged, one_event, run_from}
 use Rattle.xom_model.specs.Holds.{Holds, Installs, IsAlone, IsInstalled}
 use Rattle.xom_model.proofs.StartKept.{installed_holds}
 use Rattle.xom_model.proofs.Turns.{events_keep}
-use Rattle.xom_script.specs.Turns.{script_told}
+use Rattle.script_kernel.specs.Turns.{script_told}
 use Rattle.cli_trace.specs.declared.trace.Parts.{Parts}
 use Rattle.cli_trace.specs.Trace.{AllFollow, first_of, last_of, last_record, owner_in, report_of}
 

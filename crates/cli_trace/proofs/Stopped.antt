@@ -4,7 +4,7 @@ use Rattle.xom_io.specs.Answers.{Told}
 use Rattle.xom_base.specs.declared.image.PlainImage.{PlainImage}
 use Rattle.xom_script.specs.declared.run_file.RunFile.{RunFile}
 use Rattle.cli_base.specs.declared.refusal.Stop.{Stop}
-use Rattle.cli_base.specs.Inputs.{Held, image_of}
+use Rattle.cli_base.specs.Inputs.{Held, image_of, without}
 use Rattle.cli_base.specs.Readings.{Gives}
 use Rattle.cli_base.proofs.Without.{SameOrUnread, image-without, input-without, stops-after, stops-through}
 use Rattle.cli_trace.specs.Inputs.{run_file_of, script_of}

@@ -6,7 +6,7 @@ use Rattle.xom_base.specs.declared.schedule.Interrupts.{Interrupts}
 use Rattle.xom_model.specs.State.{Record}
 use Rattle.xom_model.specs.Event.{running}
 use Rattle.xom_model.specs.Run.{one_event, run_from}
-use Rattle.xom_script.specs.Turns.{script_told}
+use Rattle.script_kernel.specs.Turns.{script_told}
 
 one_event-some : (line : Interrupts) (next : ℕ → Record → List Op → Option Record) → ((g : ℕ) (r : Record) (ops : List Op) → IsSome (next g r ops))
     → (g : ℕ) (r : Record) (ops : List Op) (at : Option ℕ) → IsSome (one_event script_told line next g r ops at)

@@ -16,7 +16,7 @@ use Rattle.trace_judge.specs.ReportText.{report_text}
 use Rattle.xom_model.specs.State.{Record, power_on}
 use Rattle.xom_model.specs.Install.{given}
 use Rattle.xom_model.specs.Run.{IsSchedule, run_from}
-use Rattle.xom_script.specs.Turns.{script_told}
+use Rattle.script_kernel.specs.Turns.{script_told}
 use Rattle.cli_base.specs.declared.answer.Answer.{Answer}
 use Rattle.cli_trace.specs.declared.trace.Parts.{Parts}
 use Rattle.cli_base.specs.declared.refusal.Refusal.{Refusal}

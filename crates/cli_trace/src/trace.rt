@@ -14,7 +14,8 @@ use trace_judge::{GuestLine, Report, judge, print_report};
 use xom_base::{ByteList, Entry, NoMemory, PlainImage, RunEnd, Schedule};
 use xom_io::Files;
 use xom_machine::{Machine, run};
-use xom_script::{RunFile, Script, ScriptKernel};
+use xom_script::{RunFile, Script};
+use script_kernel::ScriptKernel;
 
 /// All that a run is made of.
 #[derive(Drop)]

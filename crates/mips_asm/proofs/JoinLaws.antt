@@ -5,8 +5,8 @@ use Rattle.std.specs.Int.{w32, to_be_bytes}
 use Rattle.std.proofs.lemmas.List.{take_more, take-append-drop, append-nil}
 use Rattle.std.proofs.Math.Seq.{drop-cons}
 use Rattle.std.proofs.lemmas.Option.{option_and_then_some as steps, same_Some}
-use Rattle.mips_isa.specs.Words.{Fits, word_of}
-use Rattle.mips_isa.specs.declared.instruction.Ins.{Ins}
+use Rattle.mips_instruction.specs.Words.{Fits, word_of}
+use Rattle.mips_instruction.specs.declared.instruction.Ins.{Ins}
 use Rattle.mips_asm.specs.Encoding.{AreWords, join_some}
 
 -- nothing comes of what always gives nothing

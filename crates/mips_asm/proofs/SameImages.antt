@@ -7,8 +7,8 @@ use Rattle.std.proofs.lemmas.List.{ext_get_or}
 use Rattle.std.proofs.lemmas.Option.{same_Some}
 use mathlib.Core.HLevel.{is_prop→PathP}
 use Rattle.xom_base.specs.declared.image.PlainImage.{PlainImage}
-use Rattle.mips_isa.specs.Words.{word_of}
-use Rattle.mips_isa.specs.declared.instruction.Ins.{Ins}
+use Rattle.mips_instruction.specs.Words.{word_of}
+use Rattle.mips_instruction.specs.declared.instruction.Ins.{Ins}
 use Rattle.asm_source.specs.declared.content.Content.{Content}
 use Rattle.asm_source.specs.declared.content.Content.TheVariants.{Label, Words, Bytes, Ascii, Space, Align, Org, Entry, LoadNumber, LoadAddress, Instruction}
 use Rattle.mips_asm.specs.declared.chunk.Chunk.{Chunk}

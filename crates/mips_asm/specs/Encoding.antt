@@ -1,9 +1,9 @@
 -- The bytes that a statement writes, where its values are in their ranges.
 use Rattle.std.specs.Prelude.{◌≡◌, ℕ, ◌+◌, ◌-◌, ◌/◌, ◌%◌, ◌^◌, ◌≤◌, ◌==◌, ◌&&◌, nat_lt, nat_le, ◌||◌, Bool, true, false, if◌then◌else◌, List, [], ◌∷◌, ◌++◌, replicate, Option, Some, None, option_map}
 use Rattle.std.specs.Int.{w32, to_be_bytes}
-use Rattle.mips_isa.specs.Words.{Fits, word_of}
-use Rattle.mips_isa.specs.declared.instruction.Ins.{Ins}
-use Rattle.mips_isa.specs.declared.instruction.Ins.TheVariants.{Addiu, Ori, Lui}
+use Rattle.mips_instruction.specs.Words.{Fits, word_of}
+use Rattle.mips_instruction.specs.declared.instruction.Ins.{Ins}
+use Rattle.mips_instruction.specs.declared.instruction.Ins.TheVariants.{Addiu, Ori, Lui}
 use Rattle.mips_forms.specs.Builds.{build_of, kinds_of}
 use Rattle.asm_tokens.specs.declared.integers.Integer.{Integer}
 use Rattle.mips_forms.specs.declared.operand.Operand.{Operand}

@@ -9,7 +9,7 @@ use crate::instructions::{instruction_at, load_address, load_number, one, words}
 use crate::labels::Labels;
 use crate::layout::{in_range, padding};
 use asm_source::{Argument, Content, Items, Value};
-use mips_isa::Ins;
+use mips_instruction::Ins;
 use asm_tokens::Integer;
 use std::alloc::Global;
 use xom_base::{ByteList, NoMemory};

@@ -3,7 +3,7 @@ use Rattle.std.proofs.Common.{◌≡◌, ℕ, ◌^◌, ◌<◌, ◌≤◌, ℤ, 
 use Rattle.std.proofs.lemmas.Int.{ints, to_z-of_z, fits_signed_mul}
 use Rattle.std.specs.Prelude.{unsigned_abs}
 use Rattle.std.specs.Int.{w32, w64, cast_signed, cast_unsigned}
-use Rattle.mips_isa.specs.Numbers.{signed, reduced_64}
+use Rattle.mips_instruction.specs.Numbers.{signed, reduced_64}
 
 -- the signed value of a number of 32 bits
 pub signed-is : (n : ℕ) → n < 2 ^ 32 → cast_signed w32 n ≡ signed n

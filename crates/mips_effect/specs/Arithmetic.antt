@@ -4,7 +4,7 @@ use Rattle.std.specs.Prelude.{ℕ, ◌+◌, ◌-◌, ◌*◌, ◌/◌, ◌%◌, 
 use Rattle.std.specs.Int.{int_div_euclid}
 use Rattle.xom_base.specs.declared.step.Writes.{Writes}
 use Rattle.xom_base.specs.declared.step.Writes.TheVariants as writes
-use Rattle.mips_isa.specs.Numbers.{signed, reduced, reduced_64}
+use Rattle.mips_instruction.specs.Numbers.{signed, reduced, reduced_64}
 
 -- ---- Sums, shifts and comparisons
 

@@ -1,5 +1,5 @@
 ghost use Rattle.std.specs.Prelude.{◌≡◌, IfOk};
-ghost use Rattle.mips_isa.specs.Words.{Fits};
+ghost use Rattle.mips_instruction.specs.Words.{Fits};
 ghost use Rattle.mips_effect.specs.Effects.{effect_of, Ranged, act, judged, seen_at, number_of, is_foreign, is_guest_form, is_kernel_form, is_not_built, is_reserved, is_barred};
 
 use crate::accesses::{loads, low_bytes, stores, stores_left, stores_right};
@@ -14,7 +14,7 @@ use crate::sums::{
     sum,
 };
 use crate::{Asked, LoadKind, Mode, Seen, Wish};
-use mips_isa::Ins;
+use mips_instruction::Ins;
 use xom_base::{Op, OwnFault, Writes};
 
 /// What an instruction does, given what its one sees of the cells that `sources` names, and the

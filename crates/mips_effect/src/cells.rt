@@ -1,8 +1,8 @@
 ghost use Rattle.std.specs.Prelude.{◌≡◌, ◌<◌};
-ghost use Rattle.mips_isa.specs.Words.{Fits};
+ghost use Rattle.mips_instruction.specs.Words.{Fits};
 ghost use Rattle.mips_effect.specs.Effects.{sources_of};
 
-use mips_isa::Ins;
+use mips_instruction::Ins;
 
 /// The cells that an instruction reads: `rs` in the first place, `rt` in the second, `rd` in the
 /// third, and 0 in a place that isn't read. For `mfhi` and `mflo` the first place is HI, cell 32, or

@@ -1,6 +1,6 @@
 ghost use Rattle.std.specs.Prelude.{◌≡◌, ◌<◌, ◌≤◌, ◌^◌};
 ghost use Rattle.mips_effect.specs.Effects.{IsAligned, merge_of};
-ghost use Rattle.mips_isa.specs.Numbers.{reduced, signed_8};
+ghost use Rattle.mips_instruction.specs.Numbers.{reduced, signed_8};
 ghost use Rattle.mips_effect.specs.Arithmetic.{byte_of, half_of, left_merged, right_merged};
 
 use crate::LoadKind;

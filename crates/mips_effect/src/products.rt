@@ -1,5 +1,5 @@
 ghost use Rattle.std.specs.Prelude.{◌≡◌, ◌<◌, ◌*◌, int_div, int_rem};
-ghost use Rattle.mips_isa.specs.Numbers.{reduced, signed};
+ghost use Rattle.mips_instruction.specs.Numbers.{reduced, signed};
 ghost use Rattle.mips_effect.specs.Arithmetic.{halves, product, divided, divided_unsigned};
 
 use xom_base::Writes;

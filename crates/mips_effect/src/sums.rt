@@ -1,5 +1,5 @@
 ghost use Rattle.std.specs.Prelude.{◌≡◌, ◌<◌, ◌^◌};
-ghost use Rattle.mips_isa.specs.Numbers.{plus_signed, target, jump_target, after, extended, signed};
+ghost use Rattle.mips_instruction.specs.Numbers.{plus_signed, target, jump_target, after, extended, signed};
 ghost use Rattle.mips_effect.specs.Arithmetic.{minus, sum, difference, is_less, bit_if, shifted_signed};
 
 /// The sum of a number and a sign-extended immediate. It wraps.

@@ -1,8 +1,8 @@
 -- What is true of the text forms of all instructions.
 use Rattle.std.specs.Prelude.{◌≡◌, Some, map}
 use Rattle.std.specs.List.{AllByRecursion}
-use Rattle.mips_isa.specs.declared.instruction.Ins.{Ins}
-use Rattle.mips_isa.specs.Words.{Fits}
+use Rattle.mips_instruction.specs.declared.instruction.Ins.{Ins}
+use Rattle.mips_instruction.specs.Words.{Fits}
 use Rattle.mips_forms.specs.Forms.{form_of, kind_of, InRange}
 use Rattle.mips_forms.specs.Builds.{kinds_of}
 

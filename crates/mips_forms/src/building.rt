@@ -4,7 +4,7 @@ ghost use Rattle.mips_forms.specs.Builds.{build_of, kinds_of, in_rows, plain_row
 
 use crate::OperandKind::{Branch, Code, Jump, Offset, Register, Shift, Signed, Unsigned};
 use crate::{Operand, OperandKind};
-use mips_isa::Ins;
+use mips_instruction::Ins;
 
 /// The instruction with this mnemonic and these operands, in the order of the text, and None where
 /// there is none. That the operands fit their fields isn't asked: `mips_isa::fits` tells.

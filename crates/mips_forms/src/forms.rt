@@ -2,7 +2,7 @@ ghost use Rattle.std.specs.Prelude.{◌≡◌, [], ◌∷◌};
 ghost use Rattle.mips_forms.specs.Forms.{form_of, listed};
 
 use crate::{Operand, Operands};
-use mips_isa::Ins;
+use mips_instruction::Ins;
 
 /// The text of an instruction before it is laid out: a mnemonic and operands.
 #[derive(Clone, Copy)]

@@ -1,8 +1,8 @@
 ghost use Rattle.std.specs.Prelude.{◌≡◌, ◌↔◌, IsNone};
-ghost use Rattle.mips_isa.specs.Words.{Word, IsReserved, read, special_of, branch_of, compartment_of, immediate_of, op_of, rs_of, rt_of, rd_of, sa_of, function_of, imm_of, code_of};
+ghost use Rattle.mips_instruction.specs.Words.{Word, IsReserved, read, special_of, branch_of, compartment_of, immediate_of, op_of, rs_of, rt_of, rd_of, sa_of, function_of, imm_of, code_of};
 
-use crate::Ins;
 use crate::fields::{code, function, imm, index, op, rd, rs, rt, sa};
+use mips_instruction::Ins;
 
 /// The instruction of a word, and None where the word is reserved: where it is in no row of the
 /// table, or a field that its row doesn't name isn't zero.
@@ -14,7 +14,7 @@ pub fn decode(word: u32) -> Option<Ins>
     read_word(word)
 }
 
-#[tactic(auto, unfolding(crate::specs::Words::read))]
+#[tactic(auto, unfolding(mips_instruction::specs::Words::read))]
 fn read_word(word: u32) -> Option<Ins>
     ensures { result ≡ read word }
 {
@@ -28,7 +28,7 @@ fn read_word(word: u32) -> Option<Ins>
     }
 }
 
-#[tactic(auto, unfolding(crate::specs::Words::special_of))]
+#[tactic(auto, unfolding(mips_instruction::specs::Words::special_of))]
 fn special(word: u32) -> Option<Ins>
     ensures { result ≡ special_of (rs_of word) (rt_of word) (rd_of word) (sa_of word) (function_of word) (code_of word) }
 {
@@ -65,7 +65,7 @@ fn special(word: u32) -> Option<Ins>
     }
 }
 
-#[tactic(auto, unfolding(crate::specs::Words::branch_of))]
+#[tactic(auto, unfolding(mips_instruction::specs::Words::branch_of))]
 fn branch(word: u32) -> Option<Ins>
     ensures { result ≡ branch_of (rs_of word) (rt_of word) (imm_of word) }
 {
@@ -79,7 +79,7 @@ fn branch(word: u32) -> Option<Ins>
     }
 }
 
-#[tactic(auto, unfolding(crate::specs::Words::compartment_of))]
+#[tactic(auto, unfolding(mips_instruction::specs::Words::compartment_of))]
 fn compartment(word: u32) -> Option<Ins>
     ensures { result ≡ compartment_of (rs_of word) (rt_of word) (rd_of word) (sa_of word) (function_of word) }
 {
@@ -107,7 +107,7 @@ fn compartment(word: u32) -> Option<Ins>
     }
 }
 
-#[tactic(auto, unfolding(crate::specs::Words::immediate_of))]
+#[tactic(auto, unfolding(mips_instruction::specs::Words::immediate_of))]
 fn immediate(word: u32) -> Option<Ins>
     ensures { result ≡ immediate_of (op_of word) (rs_of word) (rt_of word) (imm_of word) }
 {

@@ -1,7 +1,7 @@
 ghost use Rattle.std.specs.Prelude.{◌≡◌, ◌<◌, ◌^◌, ◌↔◌, ℕ, IsTrue};
-ghost use Rattle.mips_isa.specs.Words.{Fits, Word, r_word, i_word};
+ghost use Rattle.mips_instruction.specs.Words.{Fits, Word, r_word, i_word};
 
-use crate::Ins;
+use mips_instruction::Ins;
 
 /// Whether each operand is in its range.
 pub fn fits(ins: &Ins) -> bool

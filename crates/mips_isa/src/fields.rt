@@ -1,5 +1,5 @@
 ghost use Rattle.std.specs.Prelude.{◌≡◌};
-ghost use Rattle.mips_isa.specs.Words.{op_of, rs_of, rt_of, rd_of, sa_of, function_of, imm_of, code_of, index_of};
+ghost use Rattle.mips_instruction.specs.Words.{op_of, rs_of, rt_of, rd_of, sa_of, function_of, imm_of, code_of, index_of};
 
 /// Bits 31 to 26.
 pub fn op(word: u32) -> u8

@@ -7,8 +7,6 @@
 mod decoder;
 mod encoder;
 mod fields;
-mod instruction;
 
 pub use decoder::decode;
 pub use encoder::{encode, fits};
-pub use instruction::Ins;

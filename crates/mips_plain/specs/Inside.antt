@@ -5,7 +5,7 @@ use Rattle.xom_base.specs.declared.step.Stored.TheVariants as stored
 use Rattle.xom_base.specs.declared.step.Released.{Released}
 use Rattle.xom_base.specs.declared.step.Released.TheVariants as released
 use Rattle.xom_base.specs.declared.step.Step.{Step}
-use Rattle.mips_isa.specs.Words.{IsMoved}
+use Rattle.mips_instruction.specs.Words.{IsMoved}
 use Rattle.mips_effect.specs.Effects.{AreCells}
 use Rattle.mips_plain.specs.Memory.{private_size}
 

@@ -1,7 +1,7 @@
 -- What the instruction at a place of private memory comes to, for whoever tells what is seen in the cells.
 use Rattle.std.specs.Prelude.{ℕ, ◌-◌, ◌%◌, ◌==◌, ◌&&◌, nat_lt, Bool, true, false, List, Option, Some, None, Result, Ok, Err, if◌then◌else◌}
-use Rattle.mips_isa.specs.declared.instruction.Ins.{Ins}
-use Rattle.mips_isa.specs.Words.{read}
+use Rattle.mips_instruction.specs.declared.instruction.Ins.{Ins}
+use Rattle.mips_instruction.specs.Words.{read}
 use Rattle.mips_effect.specs.declared.effects.Effect.{Effect}
 use Rattle.mips_effect.specs.declared.seen.Mode.TheVariants.{Guest}
 use Rattle.mips_effect.specs.declared.seen.Seen.{Seen}

@@ -1,5 +1,5 @@
 ghost use Rattle.std.specs.Prelude.{◌≡◌, IfOk};
-ghost use Rattle.mips_isa.specs.Words.{Fits};
+ghost use Rattle.mips_instruction.specs.Words.{Fits};
 ghost use Rattle.mips_effect.specs.Effects.{Ranged, set as set_of};
 ghost use Rattle.mips_plain.specs.Instruction.{fetched, step_made as made_of};
 ghost use Rattle.mips_plain.specs.Inside.{IsInside};
@@ -7,7 +7,8 @@ ghost use Rattle.mips_plain.specs.Inside.{IsInside};
 use crate::Memory;
 use mips_effect::effects::Effect;
 use mips_effect::{Wish, merge};
-use mips_isa::{Ins, decode};
+use mips_isa::decode;
+use mips_instruction::Ins;
 use xom_base::{OwnFault, Received, Released, Step, StepEnd, Stored, Writes};
 
 /// The instruction at an address of private memory. Faults are Address off a multiple of 4 or

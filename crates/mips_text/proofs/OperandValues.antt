@@ -4,8 +4,8 @@ use Rattle.std.proofs.lemmas.Bool.{cases_Bool, ltb-true, ltb-false}
 use Rattle.std.proofs.lemmas.Int.{ints, int_rem_euclid_is}
 use Rattle.std.specs.Prelude.{unsigned_abs}
 use Rattle.mips_isa.proofs.Reading.{Word-read, reserved-none}
-use Rattle.mips_isa.specs.declared.instruction.Ins.{Ins}
-use Rattle.mips_isa.specs.Numbers.{signed_16, reduced, target, jump_target, after}
+use Rattle.mips_instruction.specs.declared.instruction.Ins.{Ins}
+use Rattle.mips_instruction.specs.Numbers.{signed_16, reduced, target, jump_target, after}
 use Rattle.mips_forms.specs.declared.operand.Operand.TheVariants.{Register, Shift, Signed, Unsigned, Code, Branch, Jump, Offset}
 use Rattle.mips_text.specs.Texts.{read_text}
 use Rattle.mips_text.specs.TextLaws.{ValuesDiffer, WordsAreListed}

@@ -1,7 +1,7 @@
 -- What is true of the texts of operands and of words.
 use Rattle.std.specs.Prelude.{◌≡◌, ℕ, codes, ◌++◌}
-use Rattle.mips_isa.specs.declared.instruction.Ins.{Ins}
-use Rattle.mips_isa.specs.Words.{Word, IsReserved}
+use Rattle.mips_instruction.specs.declared.instruction.Ins.{Ins}
+use Rattle.mips_instruction.specs.Words.{Word, IsReserved}
 use Rattle.mips_forms.specs.declared.operand.Operand.{Operand}
 use Rattle.mips_forms.specs.Forms.{kind_of, base_of, InRange}
 use Rattle.mips_text.specs.Texts.{value_of, text_of, word_text, address_text}

@@ -4,9 +4,9 @@ use Rattle.std.specs.Prelude.{ℕ, zero, suc, ◌+◌, ◌*◌, ◌/◌, List, [
 use Rattle.std.specs.Fmt.{decimal, signed_decimal}
 use Rattle.std.specs.Int.{w32, from_be_bytes}
 use Rattle.text_pieces.specs.Pieces.{hex8}
-use Rattle.mips_isa.specs.declared.instruction.Ins.{Ins}
-use Rattle.mips_isa.specs.Words.{read}
-use Rattle.mips_isa.specs.Numbers.{signed_16, target, jump_target, after}
+use Rattle.mips_instruction.specs.declared.instruction.Ins.{Ins}
+use Rattle.mips_instruction.specs.Words.{read}
+use Rattle.mips_instruction.specs.Numbers.{signed_16, target, jump_target, after}
 use Rattle.mips_forms.specs.declared.operand.Operand.{Operand}
 use Rattle.mips_forms.specs.declared.operand.Operand.TheVariants.{Register, Shift, Signed, Unsigned, Code, Branch, Jump, Offset}
 use Rattle.mips_forms.specs.Forms.{form_of}

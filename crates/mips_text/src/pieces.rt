@@ -3,7 +3,7 @@
 
 ghost use Rattle.std.specs.Prelude.{◌≡◌, ◌++◌, OnOk};
 ghost use Rattle.std.specs.Fmt.{signed_decimal};
-ghost use Rattle.mips_isa.specs.Numbers.{signed_16};
+ghost use Rattle.mips_instruction.specs.Numbers.{signed_16};
 ghost use Rattle.mips_text.specs.Texts.{register_text, address_text};
 
 use itoa::Buffer;

@@ -1,13 +1,13 @@
 ghost use Rattle.std.specs.Prelude.{◌≡◌, ◌++◌, map, OnOk, IfOk, codes};
 ghost use Rattle.std.specs.List.{AllByRecursion};
-ghost use Rattle.mips_isa.specs.Words.{Fits};
+ghost use Rattle.mips_instruction.specs.Words.{Fits};
 ghost use Rattle.mips_forms.specs.Forms.{listed, InRange};
 ghost use Rattle.mips_text.specs.Texts.{text_of, operand_text, offset_text, operands_text, joined};
 
 use crate::pieces::{push_address, push_register, push_signed};
 use crate::targets::{branch_target, jump_target};
 use mips_forms::{Operand, Operands, form};
-use mips_isa::Ins;
+use mips_instruction::Ins;
 use std::alloc::Global;
 use text_pieces::{push_bytes, push_decimal};
 use xom_base::{ByteList, NoMemory};

@@ -1,5 +1,5 @@
 ghost use Rattle.std.specs.Prelude.{◌≡◌, ◌<◌, ◌^◌};
-ghost use Rattle.mips_isa.specs.Numbers.{target, jump_target as jump_target_of, after};
+ghost use Rattle.mips_instruction.specs.Numbers.{target, jump_target as jump_target_of, after};
 
 /// The target of the branch at an address.
 pub fn branch_target(pc: u32, imm: u16) -> u32

@@ -9,8 +9,8 @@ use Rattle.xom_base.specs.declared.event.OwnFault.{OwnFault}
 use Rattle.xom_base.specs.declared.key.ImageId.{ImageId}
 use Rattle.xom_base.specs.declared.step.Step.{Step}
 use Rattle.xom_owners.specs.declared.owner.Owner.{Owner}
-use Rattle.mips_isa.specs.declared.instruction.Ins.{Ins}
-use Rattle.mips_isa.specs.Words.{Fits}
+use Rattle.mips_instruction.specs.declared.instruction.Ins.{Ins}
+use Rattle.mips_instruction.specs.Words.{Fits}
 use Rattle.mips_effect.specs.declared.effects.Effect.{Effect}
 use Rattle.mips_effect.specs.Effects.{Ranged}
 use Rattle.mips_plain.specs.declared.given.PlainStep.TheVariants.{Did}

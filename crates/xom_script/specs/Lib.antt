@@ -1,4 +1,3 @@
 pub mod Forms
 pub mod RunFiles
 pub mod Scripts
-pub mod Turns

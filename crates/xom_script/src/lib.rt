@@ -2,11 +2,9 @@
 #![tactic(auto)]
 
 mod fault;
-mod kernel;
 mod run_file;
 mod script;
 
 pub use fault::FormFault;
-pub use kernel::ScriptKernel;
 pub use run_file::{OwnerFile, RunFile, read_run};
 pub use script::{Script, read_script};

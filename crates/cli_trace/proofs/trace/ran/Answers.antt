@@ -1,7 +1,7 @@
 use Rattle.cli_trace.proofs.Told.{run_from-some, told-whole}
 use Rattle.cli_trace.specs.Trace.{first_of, last_of}
 use Rattle.xom_model.specs.Run.{run_from}
-use Rattle.xom_script.specs.Turns.{script_told}
+use Rattle.script_kernel.specs.Turns.{script_told}
 use Rattle.cli_trace.proofs.trace.ran.Goals as goal
 
 pub returns-in_default : goal.returns-in_default

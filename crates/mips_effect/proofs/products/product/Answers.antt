@@ -2,7 +2,7 @@
 use Rattle.std.proofs.Common.{◌≡◌, ◌*ℤ◌, refl, ◌∙◌, FitsSigned}
 use Rattle.std.proofs.lemmas.Int.{to_z-of_z}
 use Rattle.std.specs.Int.{w32}
-use Rattle.mips_isa.specs.Numbers.{signed, reduced_64}
+use Rattle.mips_instruction.specs.Numbers.{signed, reduced_64}
 use Rattle.mips_effect.proofs.Signed.{signed-is, product-is}
 use Rattle.mips_effect.proofs.products.product.Goals as goal
 

@@ -1,9 +1,9 @@
 ghost use Rattle.std.specs.Prelude.{◌≡◌};
 
-use crate::Script;
 use std::marker::Model;
 use xom_base::{Op, Turn};
 use xom_machine::{Kernel, View};
+use xom_script::Script;
 
 /// A kernel that gives the operations of a script, one a turn, and then Halt. Contracts see the
 /// operations that are left.
@@ -34,7 +34,7 @@ impl ScriptKernel {
 }
 
 impl Kernel for ScriptKernel {
-    ghost use Rattle.xom_script.specs.Turns.{script_told};
+    ghost use Rattle.script_kernel.specs.Turns.{script_told};
 
     ghost told = { script_told };
 

@@ -1,0 +1,6 @@
+//! The kernel that follows a script: one operation a turn, and then Halt.
+#![tactic(auto)]
+
+mod kernel;
+
+pub use kernel::ScriptKernel;
