@@ -19,6 +19,7 @@ mod register;
 mod tests;
 mod text;
 
+pub use counter::register_counter;
 pub use envelope::{Unwrapped, unwrap, wrap};
 pub use keys::{LineKeys, RegisterKeys, image_keys, register_keys, run_keys};
 pub use law::{

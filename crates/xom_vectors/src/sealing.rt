@@ -1,0 +1,215 @@
+//! Sealed lines, registers and envelopes, with their messages. Keys are 32 bytes, ids 16, lines 32,
+//! ciphertexts of registers 4.
+//!
+//! A vector that seals opens what came, too: where it doesn't open to what was sealed, the result ends
+//! with `stays sealed`.
+//!
+//! - `image_line KEY ID LINE PLAIN = CIPHERTEXT TAG`
+//! - `run_line KEY BOOT INSTALL LINE VERSION PLAIN = CIPHERTEXT TAG`
+//! - `register KEY BOOT INSTALL EPOCH REGISTER VALUE = CIPHERTEXT TAG`
+//! - `envelope MACHINE ID ENTRY LINES KEY = ENVELOPE`
+//! - `open_run_line KEY BOOT INSTALL LINE VERSION CIPHERTEXT TAG = PLAIN` or `refused`
+//! - `open_register KEY BOOT INSTALL EPOCH REGISTER CIPHERTEXT TAG = VALUE` or `refused`
+//! - `open_envelope MACHINE ENVELOPE = ID ENTRY LINES KEY` or `refused`
+//! - `image_line_message ID LINE CIPHERTEXT = LENGTH`, `run_line_message BOOT INSTALL LINE VERSION
+//!   CIPHERTEXT = LENGTH`, `register_message BOOT INSTALL EPOCH REGISTER CIPHERTEXT = LENGTH`,
+//!   `envelope_message ENVELOPE = LENGTH`
+//! - `register_counter BOOT INSTALL EPOCH REGISTER = BLOCK`
+
+ghost use Rattle.std.specs.Prelude.{◌≤◌};
+
+use crate::args::Args;
+use crate::fault::{Answer, Fault};
+use crate::text::{hex, push_hex, push_number, push_value, push_word, word};
+use std::alloc::{AllocError, Global};
+use xom_base::Short;
+use xom_seal::{
+    LineKeys, LineName, RegName, SealedLine, SealedReg, Unwrapped, envelope_message, image_keys,
+    line_message, register_counter, register_keys, register_message, run_keys, seal_line,
+    seal_register, unseal_line, unseal_register, unwrap, wrap,
+};
+
+/// The result, or none where the kind isn't of this module.
+pub fn answer(kind: &str, args: &Args) -> Option<Answer> {
+    match (kind, args.len()) {
+        ("image_line", 4) => Some(image_line(args)),
+        ("run_line", 6) => Some(run_line(args)),
+        ("register", 6) => Some(register(args)),
+        ("envelope", 5) => Some(envelope(args)),
+        ("open_run_line", 7) => Some(open_run_line(args)),
+        ("open_register", 7) => Some(open_register(args)),
+        ("open_envelope", 2) => Some(open_envelope(args)),
+        ("register_counter", 4) => Some(counter_block(args)),
+        _ => message(kind, args),
+    }
+}
+
+// The kinds of messages.
+fn message(kind: &str, args: &Args) -> Option<Answer> {
+    match (kind, args.len()) {
+        ("image_line_message", 3) => Some(image_line_message(args)),
+        ("run_line_message", 5) => Some(run_line_message(args)),
+        ("register_message", 5) => Some(message_of_register(args)),
+        ("envelope_message", 1) => Some(message_of_envelope(args)),
+        _ => None,
+    }
+}
+
+fn image_line(args: &Args) -> Answer {
+    let id = args.id(1)?;
+    let name = LineName::Image {
+        id,
+        line: args.number32(2)?,
+    };
+    let keys = image_keys(&args.key(0)?, &id);
+    Ok(sealed(args.alloc(), &name, &keys, &args.array(3)?)?)
+}
+
+fn run_line(args: &Args) -> Answer {
+    let name = run_name(args, 1)?;
+    let keys = run_keys(&args.key(0)?, args.number(1)?, args.number(2)?);
+    Ok(sealed(args.alloc(), &name, &keys, &args.array(5)?)?)
+}
+
+// The name in the words from this place on.
+fn run_name(args: &Args, place: usize) -> Result<LineName, Fault>
+    requires { place ≤ 1 }
+{
+    Ok(LineName::Run {
+        boot: args.number(place)?,
+        install: args.number(place + 1)?,
+        line: args.number32(place + 2)?,
+        version: args.number(place + 3)?,
+    })
+}
+
+fn sealed(
+    alloc: Global,
+    name: &LineName,
+    keys: &LineKeys,
+    plain: &[u8; 32],
+) -> Result<String, AllocError> {
+    let sealed = seal_line(name, keys, plain);
+    let mut text = hex(alloc, &sealed.ct)?;
+    push_hex(&mut text, &sealed.tag)?;
+    if unseal_line(name, keys, &sealed) != Some(*plain) {
+        push_word(&mut text, "stays sealed")?;
+    }
+    Ok(text)
+}
+
+fn open_run_line(args: &Args) -> Answer {
+    let name = run_name(args, 1)?;
+    let keys = run_keys(&args.key(0)?, args.number(1)?, args.number(2)?);
+    let sealed = SealedLine {
+        ct: args.array(5)?,
+        tag: args.array(6)?,
+    };
+    match unseal_line(&name, &keys, &sealed) {
+        Some(plain) => Ok(hex(args.alloc(), &plain)?),
+        None => Ok(word(args.alloc(), "refused")?),
+    }
+}
+
+// The name in the words from this place on.
+fn register_name(args: &Args, place: usize) -> Result<RegName, Fault>
+    requires { place ≤ 1 }
+{
+    Ok(RegName {
+        boot: args.number(place)?,
+        install: args.number(place + 1)?,
+        epoch: args.number(place + 2)?,
+        reg: args.number8(place + 3)?,
+    })
+}
+
+fn register(args: &Args) -> Answer {
+    let name = register_name(args, 1)?;
+    let keys = register_keys(&args.key(0)?, name.boot, name.install, name.epoch);
+    let value = args.value(5)?;
+    let sealed = seal_register(&name, &keys, value);
+    let mut text = hex(args.alloc(), &sealed.ct)?;
+    push_hex(&mut text, &sealed.tag)?;
+    if unseal_register(&name, &keys, &sealed) != Some(value) {
+        push_word(&mut text, "stays sealed")?;
+    }
+    Ok(text)
+}
+
+fn open_register(args: &Args) -> Answer {
+    let name = register_name(args, 1)?;
+    let keys = register_keys(&args.key(0)?, name.boot, name.install, name.epoch);
+    let sealed = SealedReg {
+        ct: args.array(5)?,
+        tag: args.array(6)?,
+    };
+    match unseal_register(&name, &keys, &sealed) {
+        Some(value) => Ok(hex(args.alloc(), &value.to_be_bytes())?),
+        None => Ok(word(args.alloc(), "refused")?),
+    }
+}
+
+fn envelope(args: &Args) -> Answer {
+    let machine = args.key(0)?;
+    let contents = Unwrapped {
+        id: args.id(1)?,
+        entry: args.value(2)?,
+        lines: args.number32(3)?,
+        key: args.key(4)?,
+    };
+    let envelope = wrap(&machine, &contents);
+    let mut text = hex(args.alloc(), &envelope)?;
+    if unwrap(&machine, &envelope) != Some(contents) {
+        push_word(&mut text, "stays sealed")?;
+    }
+    Ok(text)
+}
+
+fn open_envelope(args: &Args) -> Answer {
+    Ok(opened(args.alloc(), unwrap(&args.key(0)?, &args.array(1)?))?)
+}
+
+/// The text of what an envelope says, or that it was refused.
+pub fn opened(alloc: Global, contents: Option<Unwrapped>) -> Result<String, AllocError> {
+    let Some(contents) = contents else {
+        return word(alloc, "refused");
+    };
+    let mut text = hex(alloc, &contents.id.0)?;
+    push_value(&mut text, contents.entry)?;
+    push_number(&mut text, u64::from(contents.lines))?;
+    push_hex(&mut text, &contents.key.0)?;
+    Ok(text)
+}
+
+fn counter_block(args: &Args) -> Answer {
+    let block = register_counter(&register_name(args, 0)?);
+    Ok(hex(args.alloc(), &block)?)
+}
+
+fn length(args: &Args, message: &Short) -> Answer {
+    let mut text = String::new(args.alloc());
+    push_number(&mut text, message.len() as u64)?;
+    Ok(text)
+}
+
+fn image_line_message(args: &Args) -> Answer {
+    let name = LineName::Image {
+        id: args.id(0)?,
+        line: args.number32(1)?,
+    };
+    length(args, &line_message(&name, &args.array(2)?))
+}
+
+fn run_line_message(args: &Args) -> Answer {
+    let name = run_name(args, 0)?;
+    length(args, &line_message(&name, &args.array(4)?))
+}
+
+fn message_of_register(args: &Args) -> Answer {
+    let name = register_name(args, 0)?;
+    length(args, &register_message(&name, &args.array(4)?))
+}
+
+fn message_of_envelope(args: &Args) -> Answer {
+    length(args, &envelope_message(&args.array(0)?))
+}
