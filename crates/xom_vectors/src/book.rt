@@ -127,7 +127,7 @@ impl Book {
         let hold = vectors.saturating_sub(failed);
         let source = self.source.as_str();
         if vectors > 0 {
-            write!(&mut self.report, "  {source}: {hold} of {vectors}\n")?;
+            write!(&mut self.report, "  {source}: {hold} of {vectors} hold\n")?;
         }
         tally.add(self.of_source);
         self.of_source = NOTHING;

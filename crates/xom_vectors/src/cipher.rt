@@ -8,7 +8,7 @@
 
 use crate::args::Args;
 use crate::fault::{Answer, Fault};
-use crate::text::{hex, push_hex};
+use crate::line::{Line, hex};
 use aes_block::{Schedule, steps};
 use xom_base::Key128;
 
@@ -28,19 +28,20 @@ pub fn answer(kind: &str, args: &Args) -> Option<Answer> {
 
 fn blocks(args: &Args) -> Answer {
     let schedule = Schedule::new(&Key128(args.array(0)?));
-    let mut text = String::new(args.alloc());
+    let mut line = Line::new(args.alloc());
     for place in 1..args.len() {
         let block = args.array(place)?;
-        push_hex(&mut text, &schedule.encrypt(&block))?;
+        line.hex(&schedule.encrypt(&block));
     }
-    Ok(text)
+    line.end()
 }
 
 fn key_word(args: &Args) -> Answer {
     let words = steps::expanded(&args.array(0)?);
-    let word = words.get(usize::from(args.number8(1)?));
-    let word = word.ok_or(Fault::Unreadable)?;
-    Ok(hex(args.alloc(), word)?)
+    match words.get(usize::from(args.number8(1)?)) {
+        Some(word) => hex(args.alloc(), word),
+        None => Err(Fault::Unreadable),
+    }
 }
 
 fn add_round_key(args: &Args) -> Answer {
@@ -50,25 +51,25 @@ fn add_round_key(args: &Args) -> Answer {
         return Err(Fault::Unreadable);
     }
     let state = steps::add_round_key(&words, round, args.array(2)?);
-    Ok(hex(args.alloc(), &state)?)
+    hex(args.alloc(), &state)
 }
 
 fn sub_bytes(args: &Args) -> Answer {
     let state = steps::sub_bytes(args.array(0)?);
-    Ok(hex(args.alloc(), &state)?)
+    hex(args.alloc(), &state)
 }
 
 fn shift_rows(args: &Args) -> Answer {
     let state = steps::shift_rows(args.array(0)?);
-    Ok(hex(args.alloc(), &state)?)
+    hex(args.alloc(), &state)
 }
 
 fn mix_columns(args: &Args) -> Answer {
     let state = steps::mix_columns(args.array(0)?);
-    Ok(hex(args.alloc(), &state)?)
+    hex(args.alloc(), &state)
 }
 
 fn s_box(args: &Args) -> Answer {
     let [byte] = args.array::<1>(0)?;
-    Ok(hex(args.alloc(), &[steps::s_box(byte)])?)
+    hex(args.alloc(), &[steps::s_box(byte)])
 }

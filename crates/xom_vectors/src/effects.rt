@@ -1,30 +1,30 @@
 //! What instructions do. Words, addresses and values are eight hexadecimal digits.
 //!
-//! - `effect MODE PC NPC WORD FIRST SECOND THIRD = WRITES WISH PC NPC`, or the name of a fault. The mode
-//!   is `guest` or `null`. The three values are those of the cells that the instruction reads, in the
-//!   order of `sources`; `F` stands for a cell that isn't owned. Writes are `-`, `r10=00000007`, where
-//!   r32 is HI and r33 LO, or `hl=HI:LO`. Wishes are written as in `wishes`. The last two are the next
-//!   pair of addresses.
+//! - `effect MODE PC NPC WORD FIRST SECOND THIRD = WRITES WISH next PC NPC`, or the name of a fault. The
+//!   mode is `guest` or `null`. The three values are those of the cells that the instruction reads, in
+//!   the order of `sources`; `F` stands for a cell that isn't owned. Writes are nothing, `r10=00000007`,
+//!   where r32 is HI and r33 is LO, or `hi=00000000 lo=00000001`. Wishes are written as in `wishes`. The
+//!   last two are the next pair of addresses.
 //! - `sources WORD = CELL CELL CELL`
 //! - `merge KIND OLD ADDRESS WORD = VALUE`: what a load gives its register. The kind is `byte`, `byteu`,
 //!   `half`, `halfu`, `word`, `left` or `right`.
 
 use crate::args::Args;
 use crate::fault::{Answer, Fault};
-use crate::text::{push_number, push_value, push_word, word};
-use crate::wishes::{load_kind, wish_text};
+use crate::instructions::instruction;
+use crate::line::{Line, word};
+use crate::wishes::{load_kind, push_wish};
 use mips_effect::effects::Effect;
 use mips_effect::{LoadKind, Mode, Seen, effect, merge, sources};
-use mips_isa::{decode, fits};
-use std::alloc::{AllocError, Global};
+use mips_isa::fits;
 use step_text::fault_name;
 use xom_base::Writes;
 
 /// The result, or none where the kind isn't of this module.
 pub fn answer(kind: &str, args: &Args) -> Option<Answer> {
     match (kind, args.len()) {
-        ("effect", 7) => Some(effect_of(args)),
-        ("sources", 1) => Some(sources_of(args)),
+        ("effect", 7) => Some(effect_text(args)),
+        ("sources", 1) => Some(sources_text(args)),
         ("merge", 4) => Some(merged(args)),
         _ => None,
     }
@@ -46,47 +46,61 @@ fn seen(args: &Args, place: usize) -> Result<Seen, Fault> {
     }
 }
 
-fn effect_of(args: &Args) -> Answer {
+fn effect_text(args: &Args) -> Answer {
     let mode = mode(args.written(0)?)?;
     let (pc, npc) = (args.value(1)?, args.value(2)?);
-    let ins = decode(args.value(3)?).ok_or(Fault::Unreadable)?;
+    let ins = instruction(args, 3)?;
     let (first, second, third) = (seen(args, 4)?, seen(args, 5)?, seen(args, 6)?);
     if !fits(&ins) {
         return Err(Fault::Unreadable);
     }
     match effect(ins, mode, first, second, third, pc, npc) {
-        Ok(effect) => Ok(effect_text(args.alloc(), &effect)?),
-        Err(fault) => Ok(word(args.alloc(), fault_name(fault))?),
+        Ok(effect) => {
+            let mut line = Line::new(args.alloc());
+            push_effect(&mut line, &effect);
+            line.end()
+        }
+        Err(fault) => word(args.alloc(), fault_name(fault)),
     }
 }
 
-fn effect_text(alloc: Global, effect: &Effect) -> Result<String, AllocError> {
-    let mut text = writes_text(alloc, effect.writes)?;
-    push_word(&mut text, wish_text(alloc, effect.wish)?.as_str())?;
-    push_value(&mut text, effect.pc)?;
-    push_value(&mut text, effect.npc)?;
-    Ok(text)
+fn push_effect(line: &mut Line, effect: &Effect) {
+    push_writes(line, effect.writes);
+    push_wish(line, effect.wish);
+    line.word("next");
+    line.value(effect.pc);
+    line.value(effect.npc);
 }
 
-fn writes_text(alloc: Global, writes: Writes) -> Result<String, AllocError> {
+fn push_writes(line: &mut Line, writes: Writes) {
     match writes {
-        Writes::Nothing => format!(in alloc; "-"),
-        Writes::One { reg, value } => format!(in alloc; "r{reg}={value:08x}"),
-        Writes::Pair { hi, lo } => format!(in alloc; "hl={hi:08x}:{lo:08x}"),
+        Writes::Nothing => {}
+        Writes::One { reg, value } => {
+            line.word("r");
+            line.join_number(u64::from(reg));
+            line.join("=");
+            line.join_value(value);
+        }
+        Writes::Pair { hi, lo } => {
+            line.word("hi=");
+            line.join_value(hi);
+            line.word("lo=");
+            line.join_value(lo);
+        }
     }
 }
 
-fn sources_of(args: &Args) -> Answer {
-    let ins = decode(args.value(0)?).ok_or(Fault::Unreadable)?;
+fn sources_text(args: &Args) -> Answer {
+    let ins = instruction(args, 0)?;
     if !fits(&ins) {
         return Err(Fault::Unreadable);
     }
     let (first, second, third) = sources(ins);
-    let mut text = String::new(args.alloc());
-    push_number(&mut text, u64::from(first))?;
-    push_number(&mut text, u64::from(second))?;
-    push_number(&mut text, u64::from(third))?;
-    Ok(text)
+    let mut line = Line::new(args.alloc());
+    line.number(u64::from(first));
+    line.number(u64::from(second));
+    line.number(u64::from(third));
+    line.end()
 }
 
 fn merged(args: &Args) -> Answer {
@@ -100,7 +114,7 @@ fn merged(args: &Args) -> Answer {
     if !is_aligned {
         return Err(Fault::Unreadable);
     }
-    let mut text = String::new(args.alloc());
-    push_value(&mut text, merge(kind, old, address, loaded))?;
-    Ok(text)
+    let mut line = Line::new(args.alloc());
+    line.value(merge(kind, old, address, loaded));
+    line.end()
 }

@@ -1,143 +1,114 @@
 //! Sealed images and their files. Keys are 32 bytes, ids 16.
 //!
-//! - `seal MACHINE KEY ID ENTRY BYTES = FILE`: the file is read and written again; where that gives
-//!   another file, the result ends with `read otherwise`.
-//! - `sealed_for MACHINE OPENER KEY ID ENTRY BYTES = LINES CONTENTS`: the number of lines, and what the
-//!   opener's envelope says: `ID ENTRY LINES KEY`, or `refused`.
+//! - `seal_image MACHINE KEY ID ENTRY BYTES = FILE`: the file is read again; where that gives another
+//!   image, the result ends with `read otherwise`.
+//! - `open_image OPENER MACHINE KEY ID ENTRY BYTES = LINES CONTENTS`: sealed for one machine and opened
+//!   by one, gives the number of lines, and what the envelope says: `ID ENTRY LINES KEY`, or `refused`.
 //! - `sealed_file FILE = ENVELOPE CIPHERTEXT TAG ..`: the file is read, and written again; where that
-//!   gives another file, the result ends with `written otherwise`. A file that is off its form gives
-//!   its fault, as `byte 3: bad`.
-//! - `sealed_file_fault FILE = none`, or the fault.
-//! - `first_owner ID KEY ID .. = KEY` or `none`: the key of the first owner of the first id, among the
-//!   owners with these keys and ids.
+//!   gives another file, the result ends with `written otherwise`.
+//! - `sealed_file_fault FILE = none`, or the fault, as `byte 3: bad`.
 
 ghost use Rattle.std.specs.Prelude.{◌≤◌};
 
 use crate::args::Args;
 use crate::fault::{Answer, Fault};
-use crate::sealing::opened;
-use crate::text::{hex, push_hex, push_number, push_word, word};
-use image_sealer::{Owner, OwnerList, seal};
+use crate::line::{Line, word};
+use crate::sealing::push_contents;
+use image_sealer::{Owner, seal};
 use std::alloc::Global;
-use xom_base::{ByteList, NoMemory, PlainImage};
+use xom_base::{ByteList, PlainImage};
 use xom_image::{ImageFault, SealedImage, read_sealed, write_sealed};
 use xom_seal::unwrap;
-
-/// How many bytes private memory has.
-const PRIVATE: usize = 1 << 20;
 
 /// The result, or none where the kind isn't of this module.
 pub fn answer(kind: &str, args: &Args) -> Option<Answer> {
     match (kind, args.len()) {
-        ("seal", 5) => Some(sealed(args)),
-        ("sealed_for", 6) => Some(sealed_for(args)),
+        ("seal_image", 5) => Some(seal_image(args)),
+        ("open_image", 6) => Some(open_image(args)),
         ("sealed_file", 1) => Some(sealed_file(args)),
         ("sealed_file_fault", 1) => Some(sealed_file_fault(args)),
-        ("first_owner", 3..) => Some(first_owner(args)),
         _ => None,
     }
 }
 
-// The image of these bytes, where it may be one.
-fn image(alloc: Global, entry: u32, bytes: &[u8]) -> Result<PlainImage, Fault> {
-    if entry % 4 != 0 || entry >= 1 << 20 || bytes.len() > PRIVATE {
+/// The image of these bytes, where they may be one.
+pub fn image(alloc: Global, entry: u32, bytes: &[u8]) -> Result<PlainImage, Fault> {
+    if entry % 4 != 0 || entry >= 1 << 20 || bytes.len() > 1 << 20 {
         return Err(Fault::Unreadable);
     }
-    let bytes = ByteList::from_vec(Vec::from_slice(alloc, bytes)?);
+    let bytes = file(alloc, bytes)?;
     Ok(PlainImage { entry, bytes })
 }
 
-// The owner in the words from this place on: KEY ID ENTRY BYTES.
-fn owner(args: &Args, place: usize) -> Result<Owner, Fault>
-    requires { place ≤ 2 }
-{
-    let entry = args.value(place + 2)?;
-    Ok(Owner {
-        plain: image(args.alloc(), entry, args.bytes(place + 3)?)?,
-        key: args.key(place)?,
-        id: args.id(place + 1)?,
-    })
-}
-
-fn file(alloc: Global, bytes: &[u8]) -> Result<ByteList, NoMemory> {
+fn file(alloc: Global, bytes: &[u8]) -> Result<ByteList, Fault> {
     Ok(ByteList::from_vec(Vec::from_slice(alloc, bytes)?))
 }
 
-fn sealed(args: &Args) -> Answer {
-    let image = seal(args.alloc(), &owner(args, 1)?, &args.key(0)?)?;
-    let file = write_sealed(args.alloc(), &image)?;
-    let mut text = hex(args.alloc(), file.as_slice())?;
-    let is_same = match read_sealed(args.alloc(), &file) {
-        Ok(read) => same_image(&read, &image),
-        Err(_) => false,
-    };
-    if !is_same {
-        push_word(&mut text, "read otherwise")?;
-    }
-    Ok(text)
+// The image that is sealed by the words from this place on: MACHINE KEY ID ENTRY BYTES.
+fn sealed(args: &Args, place: usize) -> Result<SealedImage, Fault>
+    requires { place ≤ 1 }
+{
+    let machine = args.key(place)?;
+    let key = args.key(place + 1)?;
+    let id = args.id(place + 2)?;
+    let entry = args.value(place + 3)?;
+    let plain = image(args.alloc(), entry, args.bytes(place + 4)?)?;
+    Ok(seal(args.alloc(), &Owner { plain, key, id }, &machine)?)
 }
 
-fn same_image(a: &SealedImage, b: &SealedImage) -> bool {
+fn seal_image(args: &Args) -> Answer {
+    let image = sealed(args, 0)?;
+    let file = write_sealed(args.alloc(), &image)?;
+    let read = read_sealed(args.alloc(), &file);
+    let mut line = Line::new(args.alloc());
+    line.hex(file.as_slice());
+    if !read.is_ok_and(|read| is_same(&read, &image)) {
+        line.word("read otherwise");
+    }
+    line.end()
+}
+
+fn is_same(a: &SealedImage, b: &SealedImage) -> bool {
     a.envelope.as_slice() == b.envelope.as_slice() && a.lines.as_slice() == b.lines.as_slice()
 }
 
-fn sealed_for(args: &Args) -> Answer {
-    let image = seal(args.alloc(), &owner(args, 2)?, &args.key(0)?)?;
-    let mut text = String::new(args.alloc());
-    push_number(&mut text, image.lines.len() as u64)?;
-    let contents = opened(args.alloc(), unwrap(&args.key(1)?, &image.envelope))?;
-    push_word(&mut text, contents.as_str())?;
-    Ok(text)
+fn open_image(args: &Args) -> Answer {
+    let opener = args.key(0)?;
+    let image = sealed(args, 1)?;
+    let mut line = Line::new(args.alloc());
+    line.number(image.lines.len() as u64);
+    push_contents(&mut line, unwrap(&opener, &image.envelope));
+    line.end()
 }
 
 fn sealed_file(args: &Args) -> Answer {
-    let bytes = args.bytes(0)?;
-    match read_sealed(args.alloc(), &file(args.alloc(), bytes)?) {
-        Ok(image) => image_text(args.alloc(), &image, bytes),
-        Err(fault) => fault_text(args.alloc(), fault),
+    let file = file(args.alloc(), args.bytes(0)?)?;
+    match read_sealed(args.alloc(), &file) {
+        Ok(image) => image_text(args.alloc(), &image, &file),
+        Err(_) => Err(Fault::Unreadable),
     }
 }
 
-// The text of an image that was read from these bytes.
-fn image_text(alloc: Global, image: &SealedImage, bytes: &[u8]) -> Answer {
-    let mut text = hex(alloc, &image.envelope)?;
-    for line in image.lines.as_slice() {
-        push_hex(&mut text, &line.ct)?;
-        push_hex(&mut text, &line.tag)?;
+// The text of an image that was read from this file.
+fn image_text(alloc: Global, image: &SealedImage, file: &ByteList) -> Answer {
+    let again = write_sealed(alloc, image)?;
+    let mut line = Line::new(alloc);
+    line.hex(&image.envelope);
+    for sealed in image.lines.as_slice() {
+        line.hex(&sealed.ct);
+        line.hex(&sealed.tag);
     }
-    if write_sealed(alloc, image)?.as_slice() != bytes {
-        push_word(&mut text, "written otherwise")?;
+    if again.as_slice() != file.as_slice() {
+        line.word("written otherwise");
     }
-    Ok(text)
-}
-
-fn fault_text(alloc: Global, fault: ImageFault) -> Answer {
-    match fault {
-        ImageFault::Bad(_) => Ok(format!(in alloc; "{fault}")?),
-        ImageFault::NoMemory => Err(Fault::NoMemory),
-    }
+    line.end()
 }
 
 fn sealed_file_fault(args: &Args) -> Answer {
-    match read_sealed(args.alloc(), &file(args.alloc(), args.bytes(0)?)?) {
-        Ok(_) => Ok(word(args.alloc(), "none")?),
-        Err(fault) => fault_text(args.alloc(), fault),
-    }
-}
-
-fn first_owner(args: &Args) -> Answer {
-    let mut owners = OwnerList::new(args.alloc());
-    for place in 1..args.len() {
-        if place % 2 == 0 {
-            owners.push(Owner {
-                plain: image(args.alloc(), 0, &[])?,
-                key: args.key(place - 1)?,
-                id: args.id(place)?,
-            })?;
-        }
-    }
-    match owners.of_id(&args.id(0)?) {
-        Some(owner) => Ok(hex(args.alloc(), &owner.key.0)?),
-        None => Ok(word(args.alloc(), "none")?),
+    let file = file(args.alloc(), args.bytes(0)?)?;
+    match read_sealed(args.alloc(), &file) {
+        Ok(_) => word(args.alloc(), "none"),
+        Err(ImageFault::NoMemory) => Err(Fault::NoMemory),
+        Err(fault) => Ok(format!(in args.alloc(); "{fault}")?),
     }
 }

@@ -12,15 +12,12 @@
 
 use crate::args::Args;
 use crate::fault::{Answer, Fault};
-use crate::operands::{kind_name, operand, push_operand};
-use crate::text::{push_quoted, push_value, push_word, word, yes_or_no};
+use crate::images::image;
+use crate::line::{Line, word, yes_or_no};
+use crate::operands::{kind_name, operand, push_operands};
 use mips_isa::{Ins, decode, encode, fits};
-use mips_text::{Operands, build, form, kinds, listing, print};
+use mips_text::{build, form, kinds, listing, print};
 use std::alloc::Global;
-use xom_base::{ByteList, PlainImage};
-
-/// How many bytes private memory has.
-const PRIVATE: usize = 1 << 20;
 
 /// The result, or none where the kind isn't of this module.
 pub fn answer(kind: &str, args: &Args) -> Option<Answer> {
@@ -45,94 +42,83 @@ fn word_text_at(args: &Args) -> Answer {
 }
 
 fn text_at(alloc: Global, address: u32, number: u32) -> Answer {
-    let Some(ins) = decode(number) else {
-        return Ok(word(alloc, "reserved")?);
-    };
-    if !fits(&ins) {
-        return Ok(word(alloc, "unfit")?);
+    match decode(number) {
+        Some(ins) if fits(&ins) => {
+            let printed = print(alloc, ins, address)?;
+            let mut line = Line::new(alloc);
+            line.word(str::from_utf8(printed.as_slice()).unwrap_or(""));
+            if encode(ins) != number {
+                line.word("encoded as");
+                line.value(encode(ins));
+            }
+            line.end()
+        }
+        Some(_) => word(alloc, "unfit"),
+        None => word(alloc, "reserved"),
     }
-    let printed = print(alloc, ins, address)?;
-    let mut text = String::new(alloc);
-    push_word(&mut text, str::from_utf8(printed.as_slice()).unwrap_or(""))?;
-    let again = encode(ins);
-    if again != number {
-        push_word(&mut text, "encoded as")?;
-        push_value(&mut text, again)?;
-    }
-    Ok(text)
+}
+
+/// The instruction of the word at a place.
+pub fn instruction(args: &Args, place: usize) -> Result<Ins, Fault> {
+    decode(args.value(place)?).ok_or(Fault::Unreadable)
 }
 
 fn form_text(args: &Args) -> Answer {
-    let ins = decode(args.value(0)?).ok_or(Fault::Unreadable)?;
-    let form = form(ins);
-    let alloc = args.alloc();
-    let mut text = word(alloc, form.name)?;
-    match form.operands {
-        Operands::Empty => {}
-        Operands::One(a) => push_operand(alloc, &mut text, a)?,
-        Operands::Two(a, b) => {
-            push_operand(alloc, &mut text, a)?;
-            push_operand(alloc, &mut text, b)?;
-        }
-        Operands::Three(a, b, c) => {
-            push_operand(alloc, &mut text, a)?;
-            push_operand(alloc, &mut text, b)?;
-            push_operand(alloc, &mut text, c)?;
-        }
-    }
-    Ok(text)
+    let form = form(instruction(args, 0)?);
+    let mut line = Line::new(args.alloc());
+    line.word(form.name);
+    push_operands(&mut line, form.operands);
+    line.end()
 }
 
 // The instruction of the mnemonic and the operands of a vector, if there is one.
 fn built(args: &Args) -> Result<Option<Ins>, Fault> {
+    let name = args.written(0)?;
     let mut operands = Vec::new(args.alloc());
     for place in 1..args.len() {
         let operand = operand(args.written(place)?).ok_or(Fault::Unreadable)?;
         operands.push(operand)?;
     }
-    Ok(build(args.written(0)?.as_bytes(), operands.as_slice()))
+    Ok(build(name.as_bytes(), operands.as_slice()))
 }
 
 fn built_word(args: &Args) -> Answer {
-    let mut text = String::new(args.alloc());
-    match built(args)? {
-        None => push_word(&mut text, "none")?,
-        Some(ins) if fits(&ins) => push_value(&mut text, encode(ins))?,
-        Some(_) => push_word(&mut text, "unfit")?,
+    let built = built(args)?;
+    let mut line = Line::new(args.alloc());
+    match built {
+        Some(ins) if fits(&ins) => line.value(encode(ins)),
+        Some(_) => line.word("unfit"),
+        None => line.word("none"),
     }
-    Ok(text)
+    line.end()
 }
 
 fn built_fits(args: &Args) -> Answer {
-    let ins = built(args)?.ok_or(Fault::Unreadable)?;
-    Ok(yes_or_no(args.alloc(), fits(&ins))?)
+    match built(args)? {
+        Some(ins) => yes_or_no(args.alloc(), fits(&ins)),
+        None => Err(Fault::Unreadable),
+    }
 }
 
 fn kinds_text(args: &Args) -> Answer {
-    let Some(kinds) = kinds(args.written(0)?.as_bytes()) else {
-        return Ok(word(args.alloc(), "none")?);
-    };
-    if kinds.is_empty() {
-        return Ok(word(args.alloc(), "no operands")?);
+    let kinds = kinds(args.written(0)?.as_bytes());
+    let mut line = Line::new(args.alloc());
+    match kinds {
+        None => line.word("none"),
+        Some([]) => line.word("no operands"),
+        Some(kinds) => {
+            for kind in kinds {
+                line.word(kind_name(*kind));
+            }
+        }
     }
-    let mut text = String::new(args.alloc());
-    for kind in kinds {
-        push_word(&mut text, kind_name(*kind))?;
-    }
-    Ok(text)
+    line.end()
 }
 
 fn listing_text(args: &Args) -> Answer {
-    let bytes = args.bytes(0)?;
-    if bytes.len() > PRIVATE {
-        return Err(Fault::Unreadable);
-    }
-    let image = PlainImage {
-        entry: 0,
-        bytes: ByteList::from_vec(Vec::from_slice(args.alloc(), bytes)?),
-    };
-    let mut text = String::new(args.alloc());
+    let image = image(args.alloc(), 0, args.bytes(0)?)?;
     let printed = listing(args.alloc(), &image)?;
-    push_quoted(&mut text, printed.as_slice())?;
-    Ok(text)
+    let mut line = Line::new(args.alloc());
+    line.quoted(printed.as_slice());
+    line.end()
 }

@@ -7,7 +7,7 @@
 
 use crate::args::Args;
 use crate::fault::Answer;
-use crate::text::{hex, yes_or_no};
+use crate::line::{hex, yes_or_no};
 use keyed_mac::{BLOCK, digest, matches, tag};
 
 /// The result, or none where the kind isn't of this module.
@@ -27,14 +27,14 @@ fn hmac(args: &Args) -> Answer {
     } else {
         tag(&digest(key), text)
     };
-    Ok(hex(args.alloc(), &tag)?)
+    hex(args.alloc(), &tag)
 }
 
 fn sha256(args: &Args) -> Answer {
-    Ok(hex(args.alloc(), &digest(args.bytes(0)?))?)
+    hex(args.alloc(), &digest(args.bytes(0)?))
 }
 
 fn same_tag(args: &Args) -> Answer {
     let holds = matches(&args.array(0)?, &args.array(1)?);
-    Ok(yes_or_no(args.alloc(), holds)?)
+    yes_or_no(args.alloc(), holds)
 }

@@ -3,7 +3,7 @@
 //! The words of the command line name files of vectors. For each file the program prints its name
 //! and a line for each source, with the number of its vectors that hold. Above a source's line stands
 //! each of its vectors that doesn't hold, with what came instead. The closing line counts all. The
-//! status is 1 where a vector failed. A vector that can't be read has failed.
+//! status is 1 where a vector failed. A line that can't be read counts as a vector that failed.
 //!
 //! # The form of a file
 //!
@@ -37,12 +37,12 @@ mod fault;
 mod images;
 mod instructions;
 mod kinds;
+mod line;
 mod mac;
 mod names;
 mod numbers;
 mod operands;
 mod sealing;
-mod text;
 mod tokens;
 mod wishes;
 

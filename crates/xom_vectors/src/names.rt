@@ -92,16 +92,16 @@ fn repeated(alloc: Global, digits: &str, count: &str) -> Result<Option<Vec<u8>>,
 // Makes a change, `..N`, `N=HH` or `N^HH`, if it is one.
 fn change_bytes(bytes: &mut Vec<u8>, change: &str) -> Option<()> {
     if let Some(length) = change.strip_prefix("..") {
-        let length = number_below(length.as_bytes(), LIMIT)?;
-        bytes.truncate(length as usize);
+        bytes.truncate(number_below(length.as_bytes(), LIMIT)? as usize);
         return Some(());
     }
-    if let Some((place, byte)) = change.split_once('=') {
-        *byte_at(bytes, place)? = hex_byte(byte)?;
-        return Some(());
+    match change.split_once('^') {
+        Some((place, flips)) => *byte_at(bytes, place)? ^= hex_byte(flips)?,
+        None => {
+            let (place, byte) = change.split_once('=')?;
+            *byte_at(bytes, place)? = hex_byte(byte)?;
+        }
     }
-    let (place, flips) = change.split_once('^')?;
-    *byte_at(bytes, place)? ^= hex_byte(flips)?;
     Some(())
 }
 

@@ -7,8 +7,8 @@
 
 use crate::args::Args;
 use crate::fault::Answer;
-use crate::text::{hex, push_quoted, word};
-use std::alloc::{AllocError, Global};
+use crate::line::{Line, hex, number_or_none, word};
+use std::alloc::Global;
 use xom_base::{cut, hex16, hex32, number, number_below, split_lines, words};
 
 /// The result, or none where the kind isn't of this module.
@@ -25,61 +25,54 @@ pub fn answer(kind: &str, args: &Args) -> Option<Answer> {
     }
 }
 
-fn number_or_none(alloc: Global, number: Option<u64>) -> Result<String, AllocError> {
-    match number {
-        Some(number) => format!(in alloc; "{number}"),
-        None => word(alloc, "none"),
-    }
-}
-
 fn number_text(args: &Args) -> Answer {
-    Ok(number_or_none(args.alloc(), number(args.bytes(0)?))?)
+    number_or_none(args.alloc(), number(args.bytes(0)?))
 }
 
 fn bounded_text(args: &Args) -> Answer {
     let number = number_below(args.bytes(0)?, args.number(1)?);
-    Ok(number_or_none(args.alloc(), number)?)
+    number_or_none(args.alloc(), number)
 }
 
 fn hex16_text(args: &Args) -> Answer {
     match hex16(args.bytes(0)?) {
-        Some(bytes) => Ok(hex(args.alloc(), &bytes)?),
-        None => Ok(word(args.alloc(), "none")?),
+        Some(bytes) => hex(args.alloc(), &bytes),
+        None => word(args.alloc(), "none"),
     }
 }
 
 fn hex32_text(args: &Args) -> Answer {
     match hex32(args.bytes(0)?) {
-        Some(bytes) => Ok(hex(args.alloc(), &bytes)?),
-        None => Ok(word(args.alloc(), "none")?),
+        Some(bytes) => hex(args.alloc(), &bytes),
+        None => word(args.alloc(), "none"),
     }
 }
 
-fn texts(alloc: Global, found: &[&[u8]]) -> Result<String, AllocError> {
+fn texts(alloc: Global, found: &[&[u8]]) -> Answer {
+    let mut line = Line::new(alloc);
     if found.is_empty() {
-        return word(alloc, "none");
+        line.word("none");
     }
-    let mut text = String::new(alloc);
     for bytes in found {
-        push_quoted(&mut text, bytes)?;
+        line.quoted(bytes);
     }
-    Ok(text)
+    line.end()
 }
 
 fn words_text(args: &Args) -> Answer {
     let found = words(args.alloc(), args.bytes(0)?)?;
-    Ok(texts(args.alloc(), found.as_slice())?)
+    texts(args.alloc(), found.as_slice())
 }
 
 fn lines_text(args: &Args) -> Answer {
     let found = split_lines(args.alloc(), args.bytes(0)?)?;
-    Ok(texts(args.alloc(), found.as_slice())?)
+    texts(args.alloc(), found.as_slice())
 }
 
 fn cut_text(args: &Args) -> Answer {
     let [byte] = args.array::<1>(1)?;
     match cut(args.bytes(0)?, byte) {
-        Some((front, behind)) => Ok(texts(args.alloc(), &[front, behind])?),
-        None => Ok(word(args.alloc(), "none")?),
+        Some((front, behind)) => texts(args.alloc(), &[front, behind]),
+        None => word(args.alloc(), "none"),
     }
 }

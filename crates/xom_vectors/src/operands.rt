@@ -1,9 +1,8 @@
 //! Operands as words: `$8`, `shift:5`, `signed:0xffff`, `unsigned:1`, `code:7`, `branch:1`, `jump:2`, and
 //! `offset:4:8` for 4 from the address in `$8`. The numbers are those that stand in the instruction.
 
-use crate::text::push_word;
-use mips_text::{Operand, OperandKind};
-use std::alloc::{AllocError, Global};
+use crate::line::Line;
+use mips_text::{Operand, OperandKind, Operands};
 use xom_base::number_below;
 
 /// The operand that a word stands for.
@@ -47,19 +46,43 @@ fn number32(digits: &str) -> Option<u32> {
     Some(number as u32)
 }
 
-/// Adds the word of an operand.
-pub fn push_operand(alloc: Global, text: &mut String, operand: Operand) -> Result<(), AllocError> {
-    let word = match operand {
-        Operand::Register(number) => format!(in alloc; "${number}")?,
-        Operand::Shift(amount) => format!(in alloc; "shift:{amount}")?,
-        Operand::Signed(imm) => format!(in alloc; "signed:{imm}")?,
-        Operand::Unsigned(imm) => format!(in alloc; "unsigned:{imm}")?,
-        Operand::Code(code) => format!(in alloc; "code:{code}")?,
-        Operand::Branch(imm) => format!(in alloc; "branch:{imm}")?,
-        Operand::Jump(index) => format!(in alloc; "jump:{index}")?,
-        Operand::Offset { imm, base } => format!(in alloc; "offset:{imm}:{base}")?,
-    };
-    push_word(text, word.as_str())
+/// Adds the words of operands.
+pub fn push_operands(line: &mut Line, operands: Operands) {
+    match operands {
+        Operands::Empty => {}
+        Operands::One(a) => push_operand(line, a),
+        Operands::Two(a, b) => {
+            push_operand(line, a);
+            push_operand(line, b);
+        }
+        Operands::Three(a, b, c) => {
+            push_operand(line, a);
+            push_operand(line, b);
+            push_operand(line, c);
+        }
+    }
+}
+
+fn push_operand(line: &mut Line, operand: Operand) {
+    match operand {
+        Operand::Register(number) => push_number(line, "$", u32::from(number)),
+        Operand::Shift(amount) => push_number(line, "shift:", u32::from(amount)),
+        Operand::Signed(imm) => push_number(line, "signed:", u32::from(imm)),
+        Operand::Unsigned(imm) => push_number(line, "unsigned:", u32::from(imm)),
+        Operand::Code(code) => push_number(line, "code:", code),
+        Operand::Branch(imm) => push_number(line, "branch:", u32::from(imm)),
+        Operand::Jump(index) => push_number(line, "jump:", index),
+        Operand::Offset { imm, base } => {
+            push_number(line, "offset:", u32::from(imm));
+            line.join(":");
+            line.join_number(u64::from(base));
+        }
+    }
+}
+
+fn push_number(line: &mut Line, name: &str, number: u32) {
+    line.word(name);
+    line.join_number(u64::from(number));
 }
 
 /// The name of a kind of operands.

@@ -4,10 +4,10 @@
 //! A vector that seals opens what came, too: where it doesn't open to what was sealed, the result ends
 //! with `stays sealed`.
 //!
-//! - `image_line KEY ID LINE PLAIN = CIPHERTEXT TAG`
-//! - `run_line KEY BOOT INSTALL LINE VERSION PLAIN = CIPHERTEXT TAG`
-//! - `register KEY BOOT INSTALL EPOCH REGISTER VALUE = CIPHERTEXT TAG`
-//! - `envelope MACHINE ID ENTRY LINES KEY = ENVELOPE`
+//! - `seal_image_line KEY ID LINE PLAIN = CIPHERTEXT TAG`
+//! - `seal_run_line KEY BOOT INSTALL LINE VERSION PLAIN = CIPHERTEXT TAG`
+//! - `seal_register KEY BOOT INSTALL EPOCH REGISTER VALUE = CIPHERTEXT TAG`
+//! - `seal_envelope MACHINE ID ENTRY LINES KEY = ENVELOPE`
 //! - `open_run_line KEY BOOT INSTALL LINE VERSION CIPHERTEXT TAG = PLAIN` or `refused`
 //! - `open_register KEY BOOT INSTALL EPOCH REGISTER CIPHERTEXT TAG = VALUE` or `refused`
 //! - `open_envelope MACHINE ENVELOPE = ID ENTRY LINES KEY` or `refused`
@@ -20,8 +20,8 @@ ghost use Rattle.std.specs.Prelude.{◌≤◌};
 
 use crate::args::Args;
 use crate::fault::{Answer, Fault};
-use crate::text::{hex, push_hex, push_number, push_value, push_word, word};
-use std::alloc::{AllocError, Global};
+use crate::line::{Line, hex, number_or_none, word};
+use std::alloc::Global;
 use xom_base::Short;
 use xom_seal::{
     LineKeys, LineName, RegName, SealedLine, SealedReg, Unwrapped, envelope_message, image_keys,
@@ -32,10 +32,10 @@ use xom_seal::{
 /// The result, or none where the kind isn't of this module.
 pub fn answer(kind: &str, args: &Args) -> Option<Answer> {
     match (kind, args.len()) {
-        ("image_line", 4) => Some(image_line(args)),
-        ("run_line", 6) => Some(run_line(args)),
-        ("register", 6) => Some(register(args)),
-        ("envelope", 5) => Some(envelope(args)),
+        ("seal_image_line", 4) => Some(image_line(args)),
+        ("seal_run_line", 6) => Some(run_line(args)),
+        ("seal_register", 6) => Some(register(args)),
+        ("seal_envelope", 5) => Some(envelope(args)),
         ("open_run_line", 7) => Some(open_run_line(args)),
         ("open_register", 7) => Some(open_register(args)),
         ("open_envelope", 2) => Some(open_envelope(args)),
@@ -62,13 +62,24 @@ fn image_line(args: &Args) -> Answer {
         line: args.number32(2)?,
     };
     let keys = image_keys(&args.key(0)?, &id);
-    Ok(sealed(args.alloc(), &name, &keys, &args.array(3)?)?)
+    sealed_line(args.alloc(), &name, &keys, &args.array(3)?)
 }
 
 fn run_line(args: &Args) -> Answer {
     let name = run_name(args, 1)?;
     let keys = run_keys(&args.key(0)?, args.number(1)?, args.number(2)?);
-    Ok(sealed(args.alloc(), &name, &keys, &args.array(5)?)?)
+    sealed_line(args.alloc(), &name, &keys, &args.array(5)?)
+}
+
+fn sealed_line(alloc: Global, name: &LineName, keys: &LineKeys, plain: &[u8; 32]) -> Answer {
+    let sealed = seal_line(name, keys, plain);
+    let mut line = Line::new(alloc);
+    line.hex(&sealed.ct);
+    line.hex(&sealed.tag);
+    if unseal_line(name, keys, &sealed) != Some(*plain) {
+        line.word("stays sealed");
+    }
+    line.end()
 }
 
 // The name in the words from this place on.
@@ -83,21 +94,6 @@ fn run_name(args: &Args, place: usize) -> Result<LineName, Fault>
     })
 }
 
-fn sealed(
-    alloc: Global,
-    name: &LineName,
-    keys: &LineKeys,
-    plain: &[u8; 32],
-) -> Result<String, AllocError> {
-    let sealed = seal_line(name, keys, plain);
-    let mut text = hex(alloc, &sealed.ct)?;
-    push_hex(&mut text, &sealed.tag)?;
-    if unseal_line(name, keys, &sealed) != Some(*plain) {
-        push_word(&mut text, "stays sealed")?;
-    }
-    Ok(text)
-}
-
 fn open_run_line(args: &Args) -> Answer {
     let name = run_name(args, 1)?;
     let keys = run_keys(&args.key(0)?, args.number(1)?, args.number(2)?);
@@ -106,8 +102,8 @@ fn open_run_line(args: &Args) -> Answer {
         tag: args.array(6)?,
     };
     match unseal_line(&name, &keys, &sealed) {
-        Some(plain) => Ok(hex(args.alloc(), &plain)?),
-        None => Ok(word(args.alloc(), "refused")?),
+        Some(plain) => hex(args.alloc(), &plain),
+        None => word(args.alloc(), "refused"),
     }
 }
 
@@ -128,12 +124,13 @@ fn register(args: &Args) -> Answer {
     let keys = register_keys(&args.key(0)?, name.boot, name.install, name.epoch);
     let value = args.value(5)?;
     let sealed = seal_register(&name, &keys, value);
-    let mut text = hex(args.alloc(), &sealed.ct)?;
-    push_hex(&mut text, &sealed.tag)?;
+    let mut line = Line::new(args.alloc());
+    line.hex(&sealed.ct);
+    line.hex(&sealed.tag);
     if unseal_register(&name, &keys, &sealed) != Some(value) {
-        push_word(&mut text, "stays sealed")?;
+        line.word("stays sealed");
     }
-    Ok(text)
+    line.end()
 }
 
 fn open_register(args: &Args) -> Answer {
@@ -144,8 +141,8 @@ fn open_register(args: &Args) -> Answer {
         tag: args.array(6)?,
     };
     match unseal_register(&name, &keys, &sealed) {
-        Some(value) => Ok(hex(args.alloc(), &value.to_be_bytes())?),
-        None => Ok(word(args.alloc(), "refused")?),
+        Some(value) => hex(args.alloc(), &value.to_be_bytes()),
+        None => word(args.alloc(), "refused"),
     }
 }
 
@@ -158,38 +155,41 @@ fn envelope(args: &Args) -> Answer {
         key: args.key(4)?,
     };
     let envelope = wrap(&machine, &contents);
-    let mut text = hex(args.alloc(), &envelope)?;
+    let mut line = Line::new(args.alloc());
+    line.hex(&envelope);
     if unwrap(&machine, &envelope) != Some(contents) {
-        push_word(&mut text, "stays sealed")?;
+        line.word("stays sealed");
     }
-    Ok(text)
+    line.end()
 }
 
 fn open_envelope(args: &Args) -> Answer {
-    Ok(opened(args.alloc(), unwrap(&args.key(0)?, &args.array(1)?))?)
+    let contents = unwrap(&args.key(0)?, &args.array(1)?);
+    let mut line = Line::new(args.alloc());
+    push_contents(&mut line, contents);
+    line.end()
 }
 
-/// The text of what an envelope says, or that it was refused.
-pub fn opened(alloc: Global, contents: Option<Unwrapped>) -> Result<String, AllocError> {
-    let Some(contents) = contents else {
-        return word(alloc, "refused");
-    };
-    let mut text = hex(alloc, &contents.id.0)?;
-    push_value(&mut text, contents.entry)?;
-    push_number(&mut text, u64::from(contents.lines))?;
-    push_hex(&mut text, &contents.key.0)?;
-    Ok(text)
+/// Adds what an envelope says, or that it was refused.
+pub fn push_contents(line: &mut Line, contents: Option<Unwrapped>) {
+    match contents {
+        Some(contents) => {
+            line.hex(&contents.id.0);
+            line.value(contents.entry);
+            line.number(u64::from(contents.lines));
+            line.hex(&contents.key.0);
+        }
+        None => line.word("refused"),
+    }
 }
 
 fn counter_block(args: &Args) -> Answer {
     let block = register_counter(&register_name(args, 0)?);
-    Ok(hex(args.alloc(), &block)?)
+    hex(args.alloc(), &block)
 }
 
 fn length(args: &Args, message: &Short) -> Answer {
-    let mut text = String::new(args.alloc());
-    push_number(&mut text, message.len() as u64)?;
-    Ok(text)
+    number_or_none(args.alloc(), Some(message.len() as u64))
 }
 
 fn image_line_message(args: &Args) -> Answer {

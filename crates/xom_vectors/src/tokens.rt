@@ -8,9 +8,8 @@
 
 use crate::args::Args;
 use crate::fault::{Answer, Fault};
-use crate::text::{push_quoted, push_word, word};
+use crate::line::{Line, number_or_none};
 use mips_text::{Token, TokenFault, TokenKind, integer, register, tokens, unquoted};
-use std::alloc::{AllocError, Global};
 
 /// The result, or none where the kind isn't of this module.
 pub fn answer(kind: &str, args: &Args) -> Option<Answer> {
@@ -24,26 +23,28 @@ pub fn answer(kind: &str, args: &Args) -> Option<Answer> {
 }
 
 fn tokens_text(args: &Args) -> Answer {
-    let line = args.bytes(0)?;
-    match tokens(args.alloc(), line) {
-        Ok(found) => Ok(listed(args.alloc(), line, found.as_slice())?),
+    let source = args.bytes(0)?;
+    match tokens(args.alloc(), source) {
+        Ok(found) => {
+            let mut line = Line::new(args.alloc());
+            push_tokens(&mut line, source, found.as_slice());
+            line.end()
+        }
         Err(TokenFault::NoMemory) => Err(Fault::NoMemory),
         Err(fault) => Ok(format!(in args.alloc(); "{fault}")?),
     }
 }
 
-// The kinds and texts of the tokens of a line.
-fn listed(alloc: Global, line: &[u8], tokens: &[Token]) -> Result<String, AllocError> {
+// Adds the kinds and texts of the tokens of a source line.
+fn push_tokens(line: &mut Line, source: &[u8], tokens: &[Token]) {
     if tokens.is_empty() {
-        return word(alloc, "no tokens");
+        line.word("no tokens");
     }
-    let mut text = String::new(alloc);
     for token in tokens {
-        let bytes = line.get(token.start as usize..token.end as usize);
-        push_word(&mut text, kind_name(token.kind))?;
-        push_quoted(&mut text, bytes.unwrap_or(&[]))?;
+        let bytes = source.get(token.start as usize..token.end as usize);
+        line.word(kind_name(token.kind));
+        line.quoted(bytes.unwrap_or(&[]));
     }
-    Ok(text)
 }
 
 fn kind_name(kind: TokenKind) -> &'static str {
@@ -60,26 +61,29 @@ fn kind_name(kind: TokenKind) -> &'static str {
 }
 
 fn register_text(args: &Args) -> Answer {
-    match register(args.bytes(0)?) {
-        Some(number) => Ok(format!(in args.alloc(); "{number}")?),
-        None => Ok(word(args.alloc(), "none")?),
-    }
+    let number = register(args.bytes(0)?);
+    number_or_none(args.alloc(), number.map(|number| u64::from(number)))
 }
 
 fn integer_text(args: &Args) -> Answer {
-    let Some(integer) = integer(args.bytes(0)?) else {
-        return Ok(word(args.alloc(), "none")?);
-    };
-    let sign = if integer.negative { "-" } else { "" };
-    let magnitude = integer.magnitude;
-    Ok(format!(in args.alloc(); "{sign}{magnitude}")?)
+    let integer = integer(args.bytes(0)?);
+    let mut line = Line::new(args.alloc());
+    match integer {
+        Some(integer) => {
+            line.word(if integer.negative { "-" } else { "" });
+            line.join_number(integer.magnitude);
+        }
+        None => line.word("none"),
+    }
+    line.end()
 }
 
 fn unquoted_text(args: &Args) -> Answer {
-    let Some(bytes) = unquoted(args.alloc(), args.bytes(0)?)? else {
-        return Ok(word(args.alloc(), "none")?);
-    };
-    let mut text = String::new(args.alloc());
-    push_quoted(&mut text, bytes.as_slice())?;
-    Ok(text)
+    let found = unquoted(args.alloc(), args.bytes(0)?)?;
+    let mut line = Line::new(args.alloc());
+    match &found {
+        Some(bytes) => line.quoted(bytes.as_slice()),
+        None => line.word("none"),
+    }
+    line.end()
 }

@@ -1,47 +1,80 @@
-//! What an instruction wishes, as one word: `-` for nothing, else as in this table.
+//! What an instruction wishes, as words:
 //!
-//! - `load=r10:word:000ffffc:00000000`: the register, the kind of load, the address, and what the
+//! - `load r10 word 000ffffc 00000000`: the register, the kind of load, the address, and what the
 //!   register had where the load keeps a part of it, else 0.
-//! - `store=000fffff+1=00000044`: the address, the number of bytes, and the bytes as one value.
-//! - `release=r8:00000007`, `receive=r6:r7`, `exit`, `call=3`
-//! - `ask=r10:who`, and `do=install:00000131:00000002:00000003`: an operation and its values.
+//! - `store 000fffff 1 00000044`: the address, the number of bytes, and the bytes as one value.
+//! - `release r8 00000007`, `receive r6 r7`, `exit`, `call 3`, `ask r10 who`
+//! - `do install 00000131 00000002 00000003`: an operation and its values.
 
+use crate::line::Line;
 use mips_effect::{Asked, LoadKind, Wish};
-use std::alloc::{AllocError, Global};
 use xom_base::Op;
 
-/// The word of a wish.
-pub fn wish_text(alloc: Global, wish: Wish) -> Result<String, AllocError> {
+/// Adds the words of a wish. One for nothing has none.
+pub fn push_wish(line: &mut Line, wish: Wish) {
     match wish {
-        Wish::Nothing => format!(in alloc; "-"),
+        Wish::Nothing => {}
         Wish::Load {
             reg,
             address,
             kind,
             old,
         } => {
-            let kind = load_name(kind);
-            format!(in alloc; "load=r{reg}:{kind}:{address:08x}:{old:08x}")
+            push_register(line, "load", reg);
+            line.word(load_name(kind));
+            line.value(address);
+            line.value(old);
         }
         Wish::Store {
             address,
             count,
             value,
-        } => format!(in alloc; "store={address:08x}+{count}={value:08x}"),
-        Wish::Release { reg, value } => format!(in alloc; "release=r{reg}:{value:08x}"),
-        Wish::Receive { reg, from } => format!(in alloc; "receive=r{reg}:r{from}"),
-        Wish::Exit => format!(in alloc; "exit"),
-        Wish::Call(code) => format!(in alloc; "call={code}"),
-        Wish::Do(op) => op_text(alloc, op),
+        } => {
+            line.word("store");
+            line.value(address);
+            line.number(u64::from(count));
+            line.value(value);
+        }
+        _ => push_request(line, wish),
+    }
+}
+
+fn push_register(line: &mut Line, name: &str, reg: u8) {
+    line.word(name);
+    line.word("r");
+    line.join_number(u64::from(reg));
+}
+
+// Adds the words of a wish that isn't of memory.
+fn push_request(line: &mut Line, wish: Wish) {
+    match wish {
+        Wish::Nothing | Wish::Load { .. } | Wish::Store { .. } => {}
+        Wish::Release { reg, value } => {
+            push_register(line, "release", reg);
+            line.value(value);
+        }
+        Wish::Receive { reg, from } => {
+            push_register(line, "receive", reg);
+            line.word("r");
+            line.join_number(u64::from(from));
+        }
+        Wish::Exit => line.word("exit"),
+        Wish::Call(code) => {
+            line.word("call");
+            line.number(u64::from(code));
+        }
+        Wish::Do(op) => {
+            line.word("do");
+            push_operation(line, op);
+        }
         Wish::Ask { reg, what } => {
-            let what = asked_name(what);
-            format!(in alloc; "ask=r{reg}:{what}")
+            push_register(line, "ask", reg);
+            line.word(asked_name(what));
         }
     }
 }
 
-/// The name of a kind of load.
-pub fn load_name(kind: LoadKind) -> &'static str {
+fn load_name(kind: LoadKind) -> &'static str {
     match kind {
         LoadKind::Byte => "byte",
         LoadKind::ByteU => "byteu",
@@ -76,34 +109,29 @@ fn asked_name(what: Asked) -> &'static str {
     }
 }
 
-fn op_text(alloc: Global, op: Op) -> Result<String, AllocError> {
+fn push_operation(line: &mut Line, op: Op) {
     match op {
         Op::Install {
             slot,
             envelope,
             area,
-        } => three(alloc, "install", slot, envelope, area),
-        Op::Enter { slot } => one(alloc, "enter", slot),
-        Op::Resume { slot, signal } => two(alloc, "resume", slot, signal),
-        Op::Save { slot, reg, address } => three(alloc, "save", slot, reg, address),
-        Op::Restore { slot, reg, address } => three(alloc, "restore", slot, reg, address),
-        Op::Map { slot, page, frame } => three(alloc, "map", slot, page, frame),
-        Op::Unmap { slot, page } => two(alloc, "unmap", slot, page),
-        Op::SetReg { reg, value } => two(alloc, "setreg", reg, value),
-        Op::Kill { slot } => one(alloc, "kill", slot),
-        Op::Out { byte } => format!(in alloc; "do=out:{byte:02x}"),
-        Op::Halt => format!(in alloc; "do=halt"),
+        } => push_values(line, "install", &[slot, envelope, area]),
+        Op::Enter { slot } => push_values(line, "enter", &[slot]),
+        Op::Resume { slot, signal } => push_values(line, "resume", &[slot, signal]),
+        Op::Save { slot, reg, address } => push_values(line, "save", &[slot, reg, address]),
+        Op::Restore { slot, reg, address } => push_values(line, "restore", &[slot, reg, address]),
+        Op::Map { slot, page, frame } => push_values(line, "map", &[slot, page, frame]),
+        Op::Unmap { slot, page } => push_values(line, "unmap", &[slot, page]),
+        Op::SetReg { reg, value } => push_values(line, "setreg", &[reg, value]),
+        Op::Kill { slot } => push_values(line, "kill", &[slot]),
+        Op::Out { byte } => push_values(line, "out", &[u32::from(byte)]),
+        Op::Halt => push_values(line, "halt", &[]),
     }
 }
 
-fn one(alloc: Global, name: &str, a: u32) -> Result<String, AllocError> {
-    format!(in alloc; "do={name}:{a:08x}")
-}
-
-fn two(alloc: Global, name: &str, a: u32, b: u32) -> Result<String, AllocError> {
-    format!(in alloc; "do={name}:{a:08x}:{b:08x}")
-}
-
-fn three(alloc: Global, name: &str, a: u32, b: u32, c: u32) -> Result<String, AllocError> {
-    format!(in alloc; "do={name}:{a:08x}:{b:08x}:{c:08x}")
+fn push_values(line: &mut Line, name: &str, values: &[u32]) {
+    line.word(name);
+    for value in values {
+        line.value(*value);
+    }
 }
