@@ -36,7 +36,7 @@ pub fn image(alloc: Global, entry: u32, bytes: &[u8]) -> Result<PlainImage, Faul
     if entry % 4 != 0 || entry >= 1 << 20 || bytes.len() > 1 << 20 {
         return Err(Fault::Unreadable);
     }
-    let bytes = file(alloc, bytes)?;
+    let bytes = ByteList::from_vec(Vec::from_slice(alloc, bytes)?);
     Ok(PlainImage { entry, bytes })
 }
 
