@@ -2,6 +2,7 @@
 
 use std::alloc::{AllocError, AllocFailed};
 use xom_base::NoMemory;
+use xom_image::ImageFault;
 
 /// What a vector gives: the text of its result.
 pub type Answer = Result<String, Fault>;
@@ -30,5 +31,14 @@ impl From<AllocError> for Fault {
 impl<T: Drop> From<AllocFailed<T>> for Fault {
     fn from(_: AllocFailed<T>) -> Fault {
         Fault::NoMemory
+    }
+}
+
+impl From<ImageFault> for Fault {
+    fn from(fault: ImageFault) -> Fault {
+        match fault {
+            ImageFault::Bad(_) => Fault::Unreadable,
+            ImageFault::NoMemory => Fault::NoMemory,
+        }
     }
 }

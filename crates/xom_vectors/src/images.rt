@@ -59,10 +59,10 @@ fn sealed(args: &Args, place: usize) -> Result<SealedImage, Fault>
 fn seal_image(args: &Args) -> Answer {
     let image = sealed(args, 0)?;
     let file = write_sealed(args.alloc(), &image)?;
-    let read = read_sealed(args.alloc(), &file);
+    let read = read_sealed(args.alloc(), &file)?;
     let mut line = Line::new(args.alloc());
     line.hex(file.as_slice());
-    if !read.is_ok_and(|read| is_same(&read, &image)) {
+    if !is_same(&read, &image) {
         line.word("read otherwise");
     }
     line.end()
@@ -83,10 +83,8 @@ fn open_image(args: &Args) -> Answer {
 
 fn sealed_file(args: &Args) -> Answer {
     let file = file(args.alloc(), args.bytes(0)?)?;
-    match read_sealed(args.alloc(), &file) {
-        Ok(image) => image_text(args.alloc(), &image, &file),
-        Err(_) => Err(Fault::Unreadable),
-    }
+    let image = read_sealed(args.alloc(), &file)?;
+    image_text(args.alloc(), &image, &file)
 }
 
 // The text of an image that was read from this file.

@@ -43,23 +43,27 @@ impl Line {
         }
     }
 
-    /// Adds a word as it is.
-    pub fn word(&mut self, word: &str) {
+    fn begin_word(&mut self) {
         if !self.text.is_empty() {
             self.join(" ");
         }
+    }
+
+    /// Adds a word as it is.
+    pub fn word(&mut self, word: &str) {
+        self.begin_word();
         self.join(word);
     }
 
     /// Adds a number in decimal.
     pub fn number(&mut self, number: u64) {
-        self.word("");
+        self.begin_word();
         self.join_number(number);
     }
 
     /// Adds a value of 32 bits in eight hexadecimal digits.
     pub fn value(&mut self, value: u32) {
-        self.word("");
+        self.begin_word();
         self.join_value(value);
     }
 

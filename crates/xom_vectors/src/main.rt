@@ -10,19 +10,20 @@
 //! A file goes line by line. Empty lines and lines that begin with `#` say nothing.
 //!
 //! - `source TEXT`: the vectors below come from there.
-//! - `bytes NAME WORD ..`: `@NAME` stands for the bytes of these words, behind those of earlier lines of
-//!   that name.
-//! - `KIND WORD .. = RESULT`: a vector. What stands behind ` # ` is a comment. The result is compared as
-//!   text.
+//! - `bytes NAME WORD ..`: `@NAME` stands for the bytes of these words, behind those of earlier lines
+//!   with that name.
+//! - `KIND WORD .. = RESULT`: a vector. The first ` = ` stands before its result, and the first ` # `
+//!   behind that before a comment. The result is compared as text, without blanks at its end.
 //!
-//! A word is a run of letters, digits and signs, or a text between bars, which may hold blanks: in
-//! `|a%0a|`, `%` and two hexadecimal digits stand for a byte. What a word means depends on its place:
+//! Blanks stand between words. A word has no blank and no bar, or it is a text between two bars, in
+//! which `%` and two hexadecimal digits stand for a byte: `|100%25%0a|` is 100, a percent sign and a
+//! line feed. What a word means depends on its place:
 //!
-//! - Bytes: hexadecimal digits, `DIGITS*COUNT` for bytes that are repeated, `@NAME`, or a text. Behind
-//!   bytes, except a text's, may stand changes: `/..N` keeps the first N bytes, `/N=HH` sets byte N,
-//!   and `/N^HH` flips its bits.
-//! - A value of 32 bits: eight hexadecimal digits. A number: decimal, or hexadecimal behind `0x`.
-//! - An instruction: its word, as eight hexadecimal digits.
+//! - Bytes are hexadecimal digits, `DIGITS*COUNT` for bytes that are repeated, `@NAME`, or a text.
+//!   Behind bytes, but not behind a text, may stand changes: `/..N` keeps the first N bytes, `/N=HH`
+//!   sets byte N, counted from 0, and `/N^HH` flips its bits.
+//! - A value of 32 bits is eight hexadecimal digits, and so are an address and an instruction's word.
+//! - A number is decimal, or hexadecimal behind `0x`.
 //!
 //! Results have bytes in hexadecimal digits, in lower case, and texts between bars. What the words and
 //! the result of a kind are is said at the module that computes it: `cipher`, `mac`, `sealing`,

@@ -1,9 +1,10 @@
 //! Bytes that have a name, and the bytes that a word stands for.
 
+use hex::FromHexError;
 use std::alloc::Global;
 use xom_base::{NoMemory, number_below};
 
-/// The longest repetition and the longest cut, which no file of the libraries exceeds.
+/// Above the longest file of the libraries, a sealed image of 2 megabytes.
 const LIMIT: u64 = 1 << 22;
 
 #[derive(Drop)]
@@ -69,9 +70,17 @@ impl Names {
             return self.bytes(name);
         }
         match base.split_once('*') {
-            None => Ok(hex::decode(self.alloc, base).ok()),
+            None => decoded(self.alloc, base),
             Some((digits, count)) => repeated(self.alloc, digits, count),
         }
+    }
+}
+
+fn decoded(alloc: Global, digits: &str) -> Result<Option<Vec<u8>>, NoMemory> {
+    match hex::decode(alloc, digits) {
+        Ok(bytes) => Ok(Some(bytes)),
+        Err(FromHexError::OutOfMemory) => Err(NoMemory),
+        Err(_) => Ok(None),
     }
 }
 
@@ -79,7 +88,7 @@ fn repeated(alloc: Global, digits: &str, count: &str) -> Result<Option<Vec<u8>>,
     let Some(count) = number_below(count.as_bytes(), LIMIT) else {
         return Ok(None);
     };
-    let Ok(once) = hex::decode(alloc, digits) else {
+    let Some(once) = decoded(alloc, digits)? else {
         return Ok(None);
     };
     let mut bytes = Vec::new(alloc);
