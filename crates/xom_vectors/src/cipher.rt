@@ -8,7 +8,7 @@
 
 use crate::args::Args;
 use crate::fault::{Answer, Fault};
-use crate::line::{Line, hex};
+use crate::line::{Line, digits};
 use aes_block::{Schedule, steps};
 use xom_base::Key128;
 
@@ -39,7 +39,7 @@ fn blocks(args: &Args) -> Answer {
 fn key_word(args: &Args) -> Answer {
     let words = steps::expanded(&args.array(0)?);
     match words.get(usize::from(args.number8(1)?)) {
-        Some(word) => hex(args.alloc(), word),
+        Some(word) => digits(args.alloc(), word),
         None => Err(Fault::Unreadable),
     }
 }
@@ -51,25 +51,25 @@ fn add_round_key(args: &Args) -> Answer {
         return Err(Fault::Unreadable);
     }
     let state = steps::add_round_key(&words, round, args.array(2)?);
-    hex(args.alloc(), &state)
+    digits(args.alloc(), &state)
 }
 
 fn sub_bytes(args: &Args) -> Answer {
     let state = steps::sub_bytes(args.array(0)?);
-    hex(args.alloc(), &state)
+    digits(args.alloc(), &state)
 }
 
 fn shift_rows(args: &Args) -> Answer {
     let state = steps::shift_rows(args.array(0)?);
-    hex(args.alloc(), &state)
+    digits(args.alloc(), &state)
 }
 
 fn mix_columns(args: &Args) -> Answer {
     let state = steps::mix_columns(args.array(0)?);
-    hex(args.alloc(), &state)
+    digits(args.alloc(), &state)
 }
 
 fn s_box(args: &Args) -> Answer {
     let [byte] = args.array::<1>(0)?;
-    hex(args.alloc(), &[steps::s_box(byte)])
+    digits(args.alloc(), &[steps::s_box(byte)])
 }

@@ -114,8 +114,8 @@ pub fn word(alloc: Global, word: &str) -> Answer {
     Ok(String::from_str(alloc, word)?)
 }
 
-/// The text of bytes.
-pub fn hex(alloc: Global, bytes: &[u8]) -> Answer {
+/// The text of bytes, in hexadecimal digits.
+pub fn digits(alloc: Global, bytes: &[u8]) -> Answer {
     let mut line = Line::new(alloc);
     line.hex(bytes);
     line.end()

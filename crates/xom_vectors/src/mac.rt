@@ -7,7 +7,7 @@
 
 use crate::args::Args;
 use crate::fault::Answer;
-use crate::line::{hex, yes_or_no};
+use crate::line::{digits, yes_or_no};
 use keyed_mac::{BLOCK, digest, matches, tag};
 
 /// The result, or none where the kind isn't of this module.
@@ -27,11 +27,11 @@ fn hmac(args: &Args) -> Answer {
     } else {
         tag(&digest(key), text)
     };
-    hex(args.alloc(), &tag)
+    digits(args.alloc(), &tag)
 }
 
 fn sha256(args: &Args) -> Answer {
-    hex(args.alloc(), &digest(args.bytes(0)?))
+    digits(args.alloc(), &digest(args.bytes(0)?))
 }
 
 fn same_tag(args: &Args) -> Answer {

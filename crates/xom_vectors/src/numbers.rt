@@ -7,7 +7,7 @@
 
 use crate::args::Args;
 use crate::fault::Answer;
-use crate::line::{Line, hex, number_or_none, word};
+use crate::line::{Line, digits, number_or_none, word};
 use std::alloc::Global;
 use xom_base::{cut, hex16, hex32, number, number_below, split_lines, words};
 
@@ -36,14 +36,14 @@ fn bounded_text(args: &Args) -> Answer {
 
 fn hex16_text(args: &Args) -> Answer {
     match hex16(args.bytes(0)?) {
-        Some(bytes) => hex(args.alloc(), &bytes),
+        Some(bytes) => digits(args.alloc(), &bytes),
         None => word(args.alloc(), "none"),
     }
 }
 
 fn hex32_text(args: &Args) -> Answer {
     match hex32(args.bytes(0)?) {
-        Some(bytes) => hex(args.alloc(), &bytes),
+        Some(bytes) => digits(args.alloc(), &bytes),
         None => word(args.alloc(), "none"),
     }
 }

@@ -20,7 +20,7 @@ ghost use Rattle.std.specs.Prelude.{◌≤◌};
 
 use crate::args::Args;
 use crate::fault::{Answer, Fault};
-use crate::line::{Line, hex, number_or_none, word};
+use crate::line::{Line, digits, number_or_none, word};
 use std::alloc::Global;
 use xom_base::Short;
 use xom_seal::{
@@ -102,7 +102,7 @@ fn open_run_line(args: &Args) -> Answer {
         tag: args.array(6)?,
     };
     match unseal_line(&name, &keys, &sealed) {
-        Some(plain) => hex(args.alloc(), &plain),
+        Some(plain) => digits(args.alloc(), &plain),
         None => word(args.alloc(), "refused"),
     }
 }
@@ -141,7 +141,7 @@ fn open_register(args: &Args) -> Answer {
         tag: args.array(6)?,
     };
     match unseal_register(&name, &keys, &sealed) {
-        Some(value) => hex(args.alloc(), &value.to_be_bytes()),
+        Some(value) => digits(args.alloc(), &value.to_be_bytes()),
         None => word(args.alloc(), "refused"),
     }
 }
@@ -185,7 +185,7 @@ pub fn push_contents(line: &mut Line, contents: Option<Unwrapped>) {
 
 fn counter_block(args: &Args) -> Answer {
     let block = register_counter(&register_name(args, 0)?);
-    hex(args.alloc(), &block)
+    digits(args.alloc(), &block)
 }
 
 fn length(args: &Args, message: &Short) -> Answer {
