@@ -11,6 +11,7 @@ mod field;
 mod laws;
 mod schedule;
 mod state;
+pub mod steps;
 mod table;
 
 pub use laws::inverses_are_inverse;

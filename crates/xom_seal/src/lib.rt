@@ -17,6 +17,7 @@ mod names;
 mod register;
 mod text;
 
+pub use counter::register_counter;
 pub use envelope::{Unwrapped, unwrap, wrap};
 pub use keys::{LineKeys, RegisterKeys, image_keys, register_keys, run_keys};
 pub use law::{
