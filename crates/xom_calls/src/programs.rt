@@ -1,0 +1,92 @@
+//! Instructions as text, and sources that are read, assembled and listed.
+
+use crate::inputs::{PRIVATE, repeated};
+use asm_source::Items;
+use asm_syntax::read_source;
+use mips_asm::assemble;
+use mips_isa::{Ins, fits};
+use mips_text::{Operand, Operands, form, listing, print, tokens, unquoted};
+use std::test::Fail;
+
+#[test]
+fn operands_have_their_ranges(rt: HostRuntime) {
+    assert!(rt; fits(&Ins::Xmvtn { rs: 31 }));
+    assert!(rt; !fits(&Ins::Xmvtn { rs: 0 }));
+    assert!(rt; !fits(&Ins::Jr { rs: 32 }));
+    assert!(rt; fits(&Ins::J { index: 0x3ff_ffff }));
+    assert!(rt; !fits(&Ins::J { index: 0x400_0000 }));
+    assert!(rt; !fits(&Ins::Break { code: 0x10_0000 }));
+}
+
+#[test]
+fn an_instruction_has_a_form_and_a_text(rt: HostRuntime) -> Result<(), Fail> {
+    let load = Ins::Lw {
+        rt: 9,
+        imm: 4,
+        rs: 8,
+    };
+    let form = form(load);
+    assert_eq!(rt; form.name, "lw");
+    assert!(rt;
+        matches!(
+            form.operands,
+            Operands::Two(Operand::Register(9), Operand::Offset { imm: 4, base: 8 })
+        )
+    );
+    let text = print(rt.alloc(), load, 0)?;
+    assert_eq!(rt; text.as_slice(), b"lw $9, 4($8)".as_slice());
+    Ok(())
+}
+
+// Each line has 1,048,576 bytes or a little more.
+#[test]
+fn long_lines_have_tokens(rt: HostRuntime) -> Result<(), Fail> {
+    let line = repeated(rt.alloc(), b"$8, ", 262_144)?;
+    let mut tokens = tokens(rt.alloc(), &line)?;
+    assert_eq!(rt; tokens.len(), 524_288);
+    let Some(last) = tokens.get(524_287).copied() else {
+        panic!(rt; "no last token");
+    };
+    assert_eq!(rt; (last.start, last.end), (1_048_574, 1_048_575));
+    tokens.push(last)?;
+    let mut text = repeated(rt.alloc(), b"\"", 1)?;
+    text.extend_from_slice(&repeated(rt.alloc(), b"\\n", 524_288)?)?;
+    text.push(b'"')?;
+    let bytes = unquoted(rt.alloc(), &text)?.ok_or("no quoted text")?;
+    assert!(rt; bytes.as_slice() == repeated(rt.alloc(), b"\n", 524_288)?.as_slice());
+    Ok(())
+}
+
+#[test]
+fn the_largest_source_is_read_assembled_and_listed(rt: HostRuntime) -> Result<(), Fail> {
+    let source = repeated(rt.alloc(), b"nop\n", 262_144)?;
+    let mut parts = read_source(rt.alloc(), &source)?.into_vec();
+    assert_eq!(rt; parts.len(), 262_144);
+    let mut lasts = Items::new(rt.alloc());
+    lasts.push(parts.pop().ok_or("no part")?)?;
+    assert_eq!(rt;
+        (lasts.as_slice().len(), lasts.as_slice()[0].line),
+        (1, 262_144)
+    );
+    let image = assemble(rt.alloc(), &source)?;
+    assert_eq!(rt; (image.entry, image.bytes.len()), (0, PRIVATE));
+    let text = listing(rt.alloc(), &image)?;
+    let first = b"00000000 00000000 sll $0, $0, 0\n";
+    assert_eq!(rt; text.len(), 32 * 262_144);
+    assert!(rt; text.as_slice().starts_with(first));
+    Ok(())
+}
+
+// The last word of private memory is the entry, which is as far behind as one can be.
+#[test]
+fn the_last_entry_is_assembled(rt: HostRuntime) -> Result<(), Fail> {
+    let image = assemble(rt.alloc(), b".org 0xffffc\nlast: xexit\n.entry last\n")?;
+    assert_eq!(rt; (image.entry, image.bytes.len()), (0xffffc, PRIVATE));
+    assert!(rt;
+        image
+            .bytes
+            .as_slice()
+            .ends_with(&[0, 0, 0, 0, 0x48, 0, 0, 3])
+    );
+    Ok(())
+}
