@@ -5,10 +5,7 @@ use xom_base::NoMemory;
 
 /// Whether a line belongs to a body.
 pub fn is_body(line: &str) -> bool {
-    line.starts_with('|')
-        || line.starts_with('+')
-        || line.starts_with('=')
-        || line.starts_with('*')
+    line.starts_with('|') || line.starts_with('+') || line.starts_with('=') || line.starts_with('*')
 }
 
 /// Appends what a line of a body says, and answers whether it says something.
