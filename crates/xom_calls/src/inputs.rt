@@ -1,8 +1,8 @@
 //! What several tests begin with: long texts, images of words, and owners.
 
-use image_sealer::Owner;
 use std::alloc::Global;
 use xom_base::{ByteList, ImageId, Key256, NoMemory, PlainImage};
+use xom_owners::Owner;
 
 /// How many bytes the private memory of a guest has.
 pub const PRIVATE: usize = 1 << 20;

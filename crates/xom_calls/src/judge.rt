@@ -1,13 +1,13 @@
 //! Journals, and what is judged of them.
 
 use crate::inputs::{TWELVE, image_of, owner_of};
-use image_sealer::OwnerList;
 use std::test::Fail;
 use trace_judge::{GuestEnd, GuestLine, GuestLineList, Report, Verdict, judge, print_report};
 use xom_base::{
     Block, Entry, ImageId, NoMemory, Received, Released, Rule, Short, Step, StepEnd, Stored, Writes,
 };
 use xom_journal::{Journal, cost};
+use xom_owners::OwnerList;
 
 const MINE: ImageId = ImageId([0xab; 16]);
 

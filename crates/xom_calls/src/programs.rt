@@ -3,9 +3,12 @@
 use crate::inputs::{PRIVATE, repeated};
 use asm_source::Items;
 use asm_syntax::read_source;
+use asm_tokens::{tokens, unquoted};
 use mips_asm::assemble;
-use mips_isa::{Ins, fits};
-use mips_text::{Operand, Operands, form, listing, print, tokens, unquoted};
+use mips_forms::{Operand, Operands, form};
+use mips_instruction::Ins;
+use mips_isa::fits;
+use mips_text::{listing, print};
 use std::test::Fail;
 
 #[test]

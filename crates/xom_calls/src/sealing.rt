@@ -1,10 +1,11 @@
 //! Image files, owners, and sealed images.
 
 use crate::inputs::{PRIVATE, image_of, owner_of};
-use image_sealer::{OwnerList, seal};
+use image_sealer::seal;
 use std::test::Fail;
 use xom_base::{ByteList, ImageId, Key256, PlainImage};
 use xom_image::{ImageFault, SealedLineList, read_plain, read_sealed, write_plain, write_sealed};
+use xom_owners::OwnerList;
 use xom_seal::{LineName, SealedLine, Unwrapped, image_keys, unseal_line, unwrap};
 
 /// The key of the machine that images are sealed for.

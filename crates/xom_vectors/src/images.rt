@@ -14,10 +14,11 @@ use crate::args::Args;
 use crate::fault::{Answer, Fault};
 use crate::line::{Line, word};
 use crate::sealing::push_contents;
-use image_sealer::{Owner, seal};
+use image_sealer::seal;
 use std::alloc::Global;
 use xom_base::{ByteList, PlainImage};
 use xom_image::{ImageFault, SealedImage, read_sealed, write_sealed};
+use xom_owners::Owner;
 use xom_seal::unwrap;
 
 /// The result, or none where the kind isn't of this module.

@@ -15,8 +15,10 @@ use crate::fault::{Answer, Fault};
 use crate::images::image;
 use crate::line::{Line, word, yes_or_no};
 use crate::operands::{kind_name, operand, push_operands};
-use mips_isa::{Ins, decode, encode, fits};
-use mips_text::{build, form, kinds, listing, print};
+use mips_forms::{build, form, kinds};
+use mips_instruction::Ins;
+use mips_isa::{decode, encode, fits};
+use mips_text::{listing, print};
 use std::alloc::Global;
 
 /// The result, or none where the kind isn't of this module.

@@ -2,7 +2,7 @@
 //! `offset:4:8` for 4 from the address in `$8`. The numbers are those that stand in the instruction.
 
 use crate::line::Line;
-use mips_text::{Operand, OperandKind, Operands};
+use mips_forms::{Operand, OperandKind, Operands};
 use xom_base::number_below;
 
 /// The operand that a word stands for.

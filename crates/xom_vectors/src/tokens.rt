@@ -9,7 +9,7 @@
 use crate::args::Args;
 use crate::fault::{Answer, Fault};
 use crate::line::{Line, number_or_none};
-use mips_text::{Token, TokenFault, TokenKind, integer, register, tokens, unquoted};
+use asm_tokens::{Token, TokenFault, TokenKind, integer, register, tokens, unquoted};
 
 /// The result, or none where the kind isn't of this module.
 pub fn answer(kind: &str, args: &Args) -> Option<Answer> {
