@@ -6,8 +6,8 @@ ghost use Rattle.asm_syntax.specs.Lines.{align_of, ascii_of, b_of, byte_of, code
 use crate::arguments::ZERO;
 use crate::copies::{copy_bytes, copy_value};
 use asm_source::{Argument, Content, Items, Value};
-use mips_forms::{OperandKind, kinds};
 use asm_tokens::Integer;
+use mips_forms::{OperandKind, kinds};
 use std::alloc::Global;
 use xom_base::{ByteList, LineFault, NoMemory};
 

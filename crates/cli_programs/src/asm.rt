@@ -12,8 +12,7 @@ use std::alloc::Global;
 use text_pieces::{push_bytes, push_decimal, push_hex8};
 use xom_base::{ByteList, NoMemory, PlainImage};
 use xom_image::write_plain;
-use xom_io::Files;
-use xom_io::Name;
+use xom_io::{Files, Name};
 
 /// `asm SOURCE IMAGE`: the image that a source stands for, as the plain image file IMAGE.
 pub fn asm<F: Files>(

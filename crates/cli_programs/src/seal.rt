@@ -4,12 +4,11 @@ ghost use Rattle.cli_programs.specs.Programs.{seal_of, sealed_text as sealed_tex
 ghost use Rattle.cli_base.specs.Readings.{Gives};
 
 use cli_base::{Answer, Stop, image as read_image};
-use xom_owners::Owner;
 use std::alloc::Global;
 use xom_base::{ByteList, ImageId, Key256, NoMemory};
 use xom_image::write_sealed;
-use xom_io::Files;
-use xom_io::Name;
+use xom_io::{Files, Name};
+use xom_owners::Owner;
 
 /// `seal IMAGE KEY ID MACHINE SEALED`: a plain image, sealed under its owner's key and id for a
 /// machine, as the file SEALED.

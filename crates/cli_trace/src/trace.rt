@@ -7,15 +7,15 @@ ghost use Rattle.xom_model.specs.Run.{IsSchedule};
 
 use crate::reading::{run_file, script};
 use cli_base::{Answer, Stop, image};
-use xom_owners::{Owner, OwnerList};
 use mips_plain::Verdict;
+use script_kernel::ScriptKernel;
 use std::alloc::Global;
 use trace_judge::{GuestLine, Report, judge, print_report};
 use xom_base::{ByteList, Entry, NoMemory, PlainImage, RunEnd, Schedule};
 use xom_io::Files;
 use xom_machine::{Machine, run};
+use xom_owners::{Owner, OwnerList};
 use xom_script::{RunFile, Script};
-use script_kernel::ScriptKernel;
 
 /// All that a run is made of.
 #[derive(Drop)]

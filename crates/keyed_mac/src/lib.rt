@@ -8,7 +8,6 @@ ghost use Rattle.sha2.specs.Sha256.{sha256};
 ghost use Rattle.keyed_mac.specs.Hmac.{block_key, hmac_sha256, masked as masked_of};
 ghost use Rattle.keyed_mac.specs.Laws.{TagsHaveTheirLength};
 
-
 use sha2::{Digest, Sha256};
 
 /// The size of a block of SHA-256 in bytes, and of the longest key (FIPS 198-1, section 2.3).

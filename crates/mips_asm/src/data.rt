@@ -9,8 +9,8 @@ use crate::instructions::{instruction_at, load_address, load_number, one, words}
 use crate::labels::Labels;
 use crate::layout::{in_range, padding};
 use asm_source::{Argument, Content, Items, Value};
-use mips_instruction::Ins;
 use asm_tokens::Integer;
+use mips_instruction::Ins;
 use std::alloc::Global;
 use xom_base::{ByteList, NoMemory};
 

@@ -5,8 +5,8 @@ ghost use Rattle.mips_asm.specs.Encoding.{address_of, branch_field, distance, fi
 use crate::labels::Labels;
 use crate::layout::in_range;
 use asm_source::{Argument, Value};
-use mips_forms::{Operand, OperandKind};
 use asm_tokens::Integer;
+use mips_forms::{Operand, OperandKind};
 
 /// What a value stands for.
 pub fn number_of(labels: &Labels, value: &Value) -> Option<Integer>

@@ -6,10 +6,10 @@ use crate::fields::{operand_of, wrapped};
 use crate::labels::Labels;
 use crate::layout::in_range;
 use asm_source::{Argument, Items};
-use mips_isa::{encode, fits};
-use mips_instruction::Ins;
-use mips_forms::{Operand, OperandKind, build, kinds};
 use asm_tokens::Integer;
+use mips_forms::{Operand, OperandKind, build, kinds};
+use mips_instruction::Ins;
+use mips_isa::{encode, fits};
 use std::alloc::Global;
 use xom_base::{ByteList, NoMemory};
 

@@ -7,8 +7,8 @@ ghost use Rattle.mips_plain.specs.Inside.{IsInside};
 use crate::Memory;
 use mips_effect::effects::Effect;
 use mips_effect::{Wish, merge};
-use mips_isa::decode;
 use mips_instruction::Ins;
+use mips_isa::decode;
 use xom_base::{OwnFault, Received, Released, Step, StepEnd, Stored, Writes};
 
 /// The instruction at an address of private memory. Faults are Address off a multiple of 4 or

@@ -12,7 +12,6 @@ ghost use Rattle.text_pieces.specs.Pieces.{Begins, hex8 as hex8_of};
 use itoa::Buffer;
 use xom_base::NoMemory;
 
-
 /// Adds these bytes.
 pub fn push_bytes(text: &mut Vec<u8>, bytes: &[u8]) -> Result<(), NoMemory>
     ensures ok { OnOk result (text.new.items ≡ text.old.items ++ bytes.now) }

@@ -5,10 +5,10 @@ ghost use Rattle.mips_plain.specs.Machine.{plain as plain_of};
 ghost use Rattle.trace_judge.specs.Judgement.{end_in as end_by, end_of as first_end, guest_lines as lines_of, line_in, verdict_of};
 
 use crate::{GuestEnd, GuestLine, GuestLineList, Verdict};
-use xom_owners::OwnerList;
 use mips_plain::{Given, Plain, PlainStep};
 use std::alloc::Global;
 use xom_base::{Entry, ImageId, NoMemory, Received, Step, StepEnd, step_eq};
+use xom_owners::OwnerList;
 
 /// A line for each Install entry, in their order.
 pub fn guest_lines(

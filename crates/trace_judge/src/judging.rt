@@ -4,10 +4,10 @@ ghost use Rattle.trace_judge.specs.Judgement.{judgement};
 use crate::Report;
 use crate::guests::guest_lines;
 use crate::searches::{collision, forged};
-use xom_owners::OwnerList;
 use std::alloc::Global;
 use xom_base::NoMemory;
 use xom_journal::Journal;
+use xom_owners::OwnerList;
 
 /// Judges a journal by the owners' programs. Goes over the journal once for each install, with one
 /// plain machine at a time.

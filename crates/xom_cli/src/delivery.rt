@@ -6,8 +6,7 @@ ghost use Rattle.cli_base.specs.Refusals.{fault_text as fault_text_of, line_of, 
 use crate::ending::Ending;
 use cli_base::{Answer, InputFault, OutputFile, Refusal, SourceFault, Stop};
 use std::alloc::{AllocError, Global};
-use xom_io::{FileFault, Files, Sink, SinkFault, put_all};
-use xom_io::Name;
+use xom_io::{FileFault, Files, Name, Sink, SinkFault, put_all};
 
 /// Delivers what was answered: the file and the text of an answer, or the line of a refusal.
 pub fn finish<F: Files, O: Sink>(
