@@ -45,7 +45,7 @@ fn files_hold_what_is_put(rt: HostRuntime) -> Result<(), Fail> {
         assert!(rt; kept.as_slice() == bytes.as_slice());
     }
     fs::remove_file(&rt, file.as_str())?;
-    assert_eq!(rt; memory.held(&file), Some(short.as_slice()));
+    assert!(rt; memory.held(&file) == Some(short.as_slice()));
     Ok(())
 }
 
@@ -55,8 +55,8 @@ fn files_in_memory_fail_where_they_are_told_to(rt: HostRuntime) -> Result<(), Fa
     let mut files = MemFiles::new(rt.alloc());
     files.fail(2)?;
     files.put(&file, &list(rt.alloc(), b"new")?)?;
-    assert_eq!(rt; files.get(&file, 3).err(), Some(FileFault::Failed));
-    assert_eq!(rt; files.get(&file, 2).err(), Some(FileFault::TooLong));
+    assert!(rt; files.get(&file, 3).err() == Some(FileFault::Failed));
+    assert!(rt; files.get(&file, 2).err() == Some(FileFault::TooLong));
     Ok(())
 }
 
@@ -70,9 +70,9 @@ fn files_of_the_system_are_too_long_or_fail(rt: HostRuntime) -> Result<(), Fail>
     fs::remove_file(&rt, file.as_str())?;
     let gone = disk.get(&file, 3).err();
     let nowhere = disk.put(&name(rt.alloc(), "xom_calls_no_folder/file")?, &text);
-    assert_eq!(rt; long, Some(FileFault::TooLong));
-    assert_eq!(rt; gone, Some(FileFault::Failed));
-    assert_eq!(rt; nowhere, Err(FileFault::Failed));
+    assert!(rt; long == Some(FileFault::TooLong));
+    assert!(rt; gone == Some(FileFault::Failed));
+    assert!(rt; nowhere == Err(FileFault::Failed));
     Ok(())
 }
 
@@ -98,7 +98,7 @@ fn a_file_without_permission_fails(rt: HostRuntime) -> Result<(), Fail> {
     let read = disk.get(&file, 4).err();
     let written = disk.put(&file, &text).err();
     fs::remove_file(&rt, file.as_str())?;
-    assert_eq!(rt; (read, written), (fault(is_read), fault(is_written)));
+    assert!(rt; read == fault(is_read) && written == fault(is_written));
     Ok(())
 }
 
@@ -150,11 +150,11 @@ fn a_device_that_takes_nothing_is_a_fault(rt: HostRuntime) {
     let mut sink = StdSink::new(Worn {
         writes: Cell::new(0),
     });
-    assert_eq!(rt; sink.put(b"abc"), Ok(2));
-    assert_eq!(rt; sink.put(b"c"), Err(SinkFault::Failed));
-    assert_eq!(rt; put_all(&mut sink, b"c"), Err(SinkFault::Failed));
+    assert!(rt; sink.put(b"abc") == Ok(2));
+    assert!(rt; sink.put(b"c") == Err(SinkFault::Failed));
+    assert!(rt; put_all(&mut sink, b"c") == Err(SinkFault::Failed));
     let mut sink = StdSink::new(Worn {
         writes: Cell::new(0),
     });
-    assert_eq!(rt; put_all(&mut sink, b"abc"), Err(SinkFault::Failed));
+    assert!(rt; put_all(&mut sink, b"abc") == Err(SinkFault::Failed));
 }

@@ -16,17 +16,17 @@ const STRANGE: ImageId = ImageId([1; 16]);
 #[test]
 fn entries_are_kept_and_paid_for(rt: HostRuntime) -> Result<(), Fail> {
     let mut journal = Journal::new(rt.alloc());
-    assert_eq!(rt; journal.is_empty(), true);
+    assert!(rt; journal.is_empty());
     journal.reserve(1000)?;
     let seal = Entry::Seal {
         key: Short::new(&[1, 2, 3]),
         message: Short::new(&[4, 5]),
     };
-    assert_eq!(rt; cost(&seal), 53);
+    assert!(rt; cost(&seal) == 53);
     journal.push(&seal);
-    assert_eq!(rt; journal.len(), 1);
-    assert_eq!(rt; matches!(journal.get(0), Some(Entry::Seal { .. })), true);
-    assert_eq!(rt; journal.get(1).is_none(), true);
+    assert!(rt; journal.len() == 1);
+    assert!(rt; matches!(journal.get(0), Some(Entry::Seal { .. })));
+    assert!(rt; journal.get(1).is_none());
     Ok(())
 }
 
@@ -141,7 +141,7 @@ fn a_journal_is_judged(rt: HostRuntime) -> Result<(), Fail> {
         "forged at entry 15\n",
         "collision of entries 17 and 19\n",
     );
-    assert_eq!(rt; text.as_slice(), told.as_bytes());
+    assert!(rt; text.as_slice() == told.as_bytes());
     Ok(())
 }
 
@@ -175,9 +175,6 @@ fn each_end_and_rule_is_printed(rt: HostRuntime) -> Result<(), Fail> {
         "forged none\n",
         "collision none\n",
     );
-    assert_eq!(rt;
-        print_report(rt.alloc(), &report)?.as_slice(),
-        told.as_bytes()
-    );
+    assert!(rt; print_report(rt.alloc(), &report)?.as_slice() == told.as_bytes());
     Ok(())
 }

@@ -26,46 +26,46 @@ fn what_belongs_to_a_slot_is_scrubbed(rt: HostRuntime) {
     cells.set(1, 5, 2);
     cells.set(33, 6, 3);
     cells.scrub(2);
-    assert_eq!(rt; cells.get(1), Cell::EMPTY);
-    assert_eq!(rt; cells.get(33), Cell { value: 6, tag: 3 });
-    assert_eq!(rt; (with_cell(1, 3), without_cell(9, 3)), (9, 1));
-    assert_eq!(rt; (owns(9, 3), owns(9, 2)), (true, false));
+    assert!(rt; cells.get(1) == Cell::EMPTY);
+    assert!(rt; cells.get(33).value == 6 && cells.get(33).tag == 3);
+    assert!(rt; with_cell(1, 3) == 9 && without_cell(9, 3) == 1);
+    assert!(rt; owns(9, 3) && !owns(9, 2));
 }
 
 #[test]
 fn a_guest_is_installed_and_started(rt: HostRuntime) -> Result<(), Fail> {
     let mut table = Table::new(rt.alloc())?;
-    assert_eq!(rt; table.running(), None);
-    assert_eq!(rt; table.install(3, ID, KEY, 64, 1), 1);
+    assert!(rt; table.running() == None);
+    assert!(rt; table.install(3, ID, KEY, 64, 1) == 1);
     let started = table.session(3).entered();
     table.set(3, &started);
-    assert_eq!(rt; table.running(), Some(3));
-    assert_eq!(rt; (started.pc, started.npc), (64, 68));
-    assert_eq!(rt; started.state, SlotState::Running);
+    assert!(rt; table.running() == Some(3));
+    assert!(rt; started.pc == 64 && started.npc == 68);
+    assert!(rt; started.state == SlotState::Running);
     Ok(())
 }
 
 #[test]
 #[tactic(auto, using(mips_plain::proofs::Sizes::private_size_is))]
 fn a_guest_is_given_and_stopped(rt: HostRuntime) -> Result<(), Fail> {
-    assert_eq!(rt; Memories::new(rt.alloc())?.at(16).byte(0xfffff), 0);
+    assert!(rt; Memories::new(rt.alloc())?.at(16).byte(0xfffff) == 0);
     let mut core = Core::new(rt.alloc())?;
     core.journal.reserve(200)?;
     core.give(ID, KEY, &image_of(rt.alloc(), &TWELVE)?);
     assert!(rt; core.table.session(1).state.is_live());
-    assert_eq!(rt; core.memories.at(1).byte(0), 0x24);
+    assert!(rt; core.memories.at(1).byte(0) == 0x24);
     let word = Stored::Bytes {
         address: 4,
         count: 4,
         value: 0x0102_0304,
     };
     core.memories.store(1, word);
-    assert_eq!(rt; core.memories.at(1).byte(7), 4);
+    assert!(rt; core.memories.at(1).byte(7) == 4);
     core.journal.reserve(100)?;
     let rule = Rule::RegisterMissing(5);
     core.stop(1, rule);
-    assert_eq!(rt; core.table.session(1).state, SlotState::Stopped(rule));
-    assert_eq!(rt; core.journal.len(), 2);
+    assert!(rt; core.table.session(1).state == SlotState::Stopped(rule));
+    assert!(rt; core.journal.len() == 2);
     Ok(())
 }
 
@@ -86,7 +86,7 @@ fn operations_answer_their_status(rt: HostRuntime) -> Result<(), Fail> {
         core.journal.reserve(EVENT_ROOM)?;
         assert_eq!(rt; operate(&mut core, op), status);
     }
-    assert_eq!(rt; core.cells.get(5).value, 9);
+    assert!(rt; core.cells.get(5).value == 9);
     Ok(())
 }
 
@@ -102,7 +102,7 @@ fn a_word_of_ones_is_reserved(rt: HostRuntime) -> Result<(), Fail> {
     assert!(rt; session.epoch < 9);
     assert!(rt; matches!(session.state, SlotState::Running));
     let cause = guest_event(&mut core, 1, false);
-    assert_eq!(rt; cause, Some(Cause::Fault(OwnFault::Reserved)));
+    assert!(rt; cause == Some(Cause::Fault(OwnFault::Reserved)));
     Ok(())
 }
 
@@ -145,11 +145,11 @@ fn a_guest_runs_to_its_end(rt: HostRuntime) -> Result<(), Fail> {
     };
     let end = run(&mut machine, &mut Patient { resumes: 0 }, &schedule, 100);
     assert!(rt; matches!(end, RunEnd::Halted));
-    assert_eq!(rt; machine.journal().len(), 5);
+    assert!(rt; machine.journal().len() == 5);
     let view = machine.view();
-    assert_eq!(rt; view.events(), 6);
-    assert_eq!(rt; view.cell(9), Some(12));
-    assert_eq!(rt; view.who(), 1);
+    assert!(rt; view.events() == 6);
+    assert!(rt; view.cell(9) == Some(12));
+    assert!(rt; view.who() == 1);
     Ok(())
 }
 
@@ -162,8 +162,8 @@ fn an_interrupted_guest_goes_on(rt: HostRuntime) -> Result<(), Fail> {
         interrupts: Interrupts::At(numbers),
     };
     let _end = run(&mut machine, &mut Patient { resumes: 1 }, &schedule, 100);
-    assert_eq!(rt; machine.events(), 7);
-    assert_eq!(rt; machine.journal().len(), 6);
+    assert!(rt; machine.events() == 7);
+    assert!(rt; machine.journal().len() == 6);
     Ok(())
 }
 

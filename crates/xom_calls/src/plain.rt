@@ -54,8 +54,8 @@ fn twelve_is_released_and_then_the_program_is_over(rt: HostRuntime) -> Result<()
     }
     assert!(rt; matches!(plain.step(Given::Nothing), PlainStep::Over));
     assert!(rt; plain.is_over());
-    assert_eq!(rt; plain.cell(8), PlainCell::Own(7));
-    assert_eq!(rt; plain.cell(9), PlainCell::Lent);
+    assert!(rt; plain.cell(8) == PlainCell::Own(7));
+    assert!(rt; plain.cell(9) == PlainCell::Lent);
     Ok(())
 }
 
@@ -82,8 +82,8 @@ fn what_is_given_is_received_or_unfit(rt: HostRuntime) -> Result<(), Fail> {
         ..quiet(4)
     };
     assert_did(&rt, plain.step(Given::Nothing), &stored);
-    assert_eq!(rt; (plain.byte(64), plain.byte(67)), (0x11, 0x44));
-    assert_eq!(rt; plain.pair(), (8, 12));
+    assert!(rt; plain.byte(64) == 0x11 && plain.byte(67) == 0x44);
+    assert!(rt; plain.pair() == (8, 12));
     assert!(rt; matches!(plain.step(Given::Signal(1)), PlainStep::Unfit));
     let fault = plain.step(Given::Value(1));
     assert!(rt; matches!(fault, PlainStep::Fault(OwnFault::Foreign)));
@@ -98,13 +98,10 @@ fn the_largest_image_is_loaded(rt: HostRuntime) -> Result<(), Fail> {
         bytes: ByteList::from_vec(vec![in rt.alloc(); 7; PRIVATE]?),
     };
     let mut memory = Memory::new(rt.alloc())?;
-    assert_eq!(rt; memory.byte(0xfffff), 0);
+    assert!(rt; memory.byte(0xfffff) == 0);
     memory.load(&image);
-    assert_eq!(rt; memory.word(0xffffc), 0x0707_0707);
-    assert_eq!(rt;
-        Plain::new(rt.alloc(), &image)?.pair(),
-        (0xffffc, 0x10_0000)
-    );
+    assert!(rt; memory.word(0xffffc) == 0x0707_0707);
+    assert!(rt; Plain::new(rt.alloc(), &image)?.pair() == (0xffffc, 0x10_0000));
     Ok(())
 }
 
@@ -113,7 +110,7 @@ fn a_long_run_is_printed_whole(rt: HostRuntime) -> Result<(), Fail> {
     // again: beq $0, $0, again; addiu $8, $0, 1
     let image = image_of(rt.alloc(), &[0x1000_ffff, 0x2408_0001])?;
     let text = run_alone(rt.alloc(), &image, 1_048_576, &[])?;
-    assert_eq!(rt; text.len(), 524_288 * (31 + 41) + 6);
+    assert!(rt; text.len() == 524_288 * (31 + 41) + 6);
     Ok(())
 }
 
@@ -121,8 +118,8 @@ fn a_long_run_is_printed_whole(rt: HostRuntime) -> Result<(), Fail> {
 fn a_long_received_file_is_read(rt: HostRuntime) -> Result<(), Fail> {
     let text = repeated(rt.alloc(), b"0000000f\n", 116_508)?;
     let values = read_received(rt.alloc(), &text)?;
-    assert_eq!(rt; values.as_slice().len(), 116_508);
-    assert_eq!(rt; ReceivedList::new(rt.alloc()).as_slice().len(), 0);
+    assert!(rt; values.as_slice().len() == 116_508);
+    assert!(rt; ReceivedList::new(rt.alloc()).as_slice().len() == 0);
     Ok(())
 }
 

@@ -15,17 +15,17 @@ fn lists_chunks_and_payloads_hold_what_is_put(rt: HostRuntime) -> Result<(), Fai
     let mut bytes = ByteList::new(rt.alloc());
     bytes.push(7)?;
     bytes.push(9)?;
-    assert_eq!(rt; bytes.as_slice(), [7, 9].as_slice());
-    assert_eq!(rt; bytes.get(2).is_none(), true);
+    assert!(rt; bytes.as_slice() == [7, 9].as_slice());
+    assert!(rt; bytes.get(2).is_none());
     let mut numbers = NumberList::new(rt.alloc());
     numbers.push(5)?;
-    assert_eq!(rt; numbers.as_slice(), [5].as_slice());
+    assert!(rt; numbers.as_slice() == [5].as_slice());
     let mut chunk = Chunk::new(rt.alloc())?;
     chunk.set(8191, 3);
-    assert_eq!(rt; (chunk.get(8191), chunk.get(0)), (3, 0));
-    assert_eq!(rt; Short::new(&[1, 2, 3]).bytes(), [1, 2, 3].as_slice());
-    assert_eq!(rt; Block::new(&[0; 260]).bytes().len(), 260);
-    assert_eq!(rt; Payload::<2>::new(&[]).is_empty(), true);
+    assert!(rt; chunk.get(8191) == 3 && chunk.get(0) == 0);
+    assert!(rt; Short::new(&[1, 2, 3]).bytes() == [1, 2, 3].as_slice());
+    assert!(rt; Block::new(&[0; 260]).bytes().len() == 260);
+    assert!(rt; Payload::<2>::new(&[]).is_empty());
     Ok(())
 }
 
@@ -37,8 +37,8 @@ fn pieces_stand_one_behind_the_other(rt: HostRuntime) -> Result<(), Fail> {
     push_decimal(&mut text, 0)?;
     push_bytes(&mut text, b" ")?;
     push_hex8(&mut text, 0x00ab_cd09)?;
-    assert_eq!(rt; text.as_slice(), b"4294967295 0 00abcd09".as_slice());
-    assert_eq!(rt; hex8(16).as_slice(), b"00000010".as_slice());
+    assert!(rt; text.as_slice() == b"4294967295 0 00abcd09".as_slice());
+    assert!(rt; hex8(16).as_slice() == b"00000010".as_slice());
     Ok(())
 }
 
@@ -66,9 +66,9 @@ impl LineReader for Lengths {
 #[test]
 fn the_first_bad_line_is_answered(rt: HostRuntime) -> Result<(), Fail> {
     let values = read_lines(rt.alloc(), b"ab\n\nabc", &mut Lengths)?;
-    assert_eq!(rt; values.as_slice(), [2, 3].as_slice());
+    assert!(rt; values.as_slice() == [2, 3].as_slice());
     let fault = read_lines(rt.alloc(), b"ab\n\nabcd\nabcde\n", &mut Lengths).err();
-    assert_eq!(rt; fault, Some(TextFault::Line(3)));
+    assert!(rt; fault == Some(TextFault::Line(3)));
     Ok(())
 }
 
@@ -76,10 +76,10 @@ fn the_first_bad_line_is_answered(rt: HostRuntime) -> Result<(), Fail> {
 #[test]
 fn long_texts_are_cut(rt: HostRuntime) -> Result<(), Fail> {
     let text = repeated(rt.alloc(), b"a ", 524_288)?;
-    assert_eq!(rt; words(rt.alloc(), &text)?.len(), 524_288);
+    assert!(rt; words(rt.alloc(), &text)?.len() == 524_288);
     let text = repeated(rt.alloc(), b"enter 1\n", 131_072)?;
-    assert_eq!(rt; split_lines(rt.alloc(), &text)?.len(), 131_072);
-    assert_eq!(rt; read_script(rt.alloc(), &text)?.ops().len(), 131_072);
+    assert!(rt; split_lines(rt.alloc(), &text)?.len() == 131_072);
+    assert!(rt; read_script(rt.alloc(), &text)?.ops().len() == 131_072);
     Ok(())
 }
 
@@ -117,17 +117,14 @@ fn the_fields_of_a_run_file_are_read(rt: HostRuntime) -> Result<(), Fail> {
         text.push_str(format!(in rt.alloc(); " {number}")?.as_str())?;
     }
     let run = read_run(rt.alloc(), text.as_bytes())?;
-    assert_eq!(rt;
-        (run.machine.0[31], run.boot, run.frames, run.budget),
-        (31, 7, 16, 1000)
-    );
-    assert_eq!(rt; run.owner.plain.as_str(), "one.plain");
-    assert_eq!(rt; (run.owner.key.0[0], run.owner.id.0[15]), (0x11, 0x22));
-    assert_eq!(rt; run.kernel.as_string().as_str(), "one.script");
+    assert!(rt; run.machine.0[31] == 31 && run.boot == 7 && run.frames == 16 && run.budget == 1000);
+    assert!(rt; run.owner.plain.as_str() == "one.plain");
+    assert!(rt; run.owner.key.0[0] == 0x11 && run.owner.id.0[15] == 0x22);
+    assert!(rt; run.kernel.as_string().as_str() == "one.script");
     let Interrupts::At(times) = &run.schedule.interrupts else {
         panic!(rt; "no guest events are listed");
     };
-    assert_eq!(rt; times.len(), 9986);
+    assert!(rt; times.len() == 9986);
     assert!(rt; times.as_slice().starts_with(&[1, 16, 17]));
     Ok(())
 }
