@@ -42,7 +42,7 @@ expansion_done key words i last all begun =
     let forty : i - 4 ≡ 40 = omega arith in
     sym (take_all i words (omega arith)) ∙ begun ∙ ap (words_of key) forty
 
-length-words_of : (key : List ℕ) (n : ℕ) → length (words_of key n) ≡ n + 4
+pub length-words_of : (key : List ℕ) (n : ℕ) → length (words_of key n) ≡ n + 4
 unfolding words_of
 length-words_of key zero = refl
 length-words_of key (suc n) =

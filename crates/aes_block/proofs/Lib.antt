@@ -6,3 +6,4 @@ pub mod Inverses
 pub mod Constants
 pub mod Growth
 pub mod Sizes
+pub mod Bytes

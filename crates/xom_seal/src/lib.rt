@@ -24,8 +24,10 @@ pub use counter::register_counter;
 pub use envelope::{Unwrapped, unwrap, wrap};
 pub use keys::{LineKeys, RegisterKeys, image_keys, register_keys, run_keys};
 pub use law::{
-    counter_blocks_tell_their_names, messages_tell_their_names, run_lines_are_told,
-    sealings_have_their_form, sealings_open,
+    counter_blocks_serve_one_name, counter_blocks_tell_their_names,
+    envelope_messages_tell_contents, fields_are_told, heads_tell_their_names, kinds_are_told,
+    messages_tell_their_names, openings_are_sealings, run_lines_are_told, sealings_have_their_form,
+    sealings_open,
 };
 pub use line::{LineOpening, LineSealing, SealedLine, seal_line, unseal_line};
 pub use line_sealer::LineSealer;
