@@ -1,5 +1,5 @@
 -- What one turn of each loop adds: a word of the key schedule, a round of the cipher.
-use Rattle.std.proofs.Common.{◌≡◌, ℕ, zero, suc, ◌<◌, ◌≤◌, ◌-◌, ◌+◌, List, [], ◌∷◌, ◌++◌, length, take, set, get_or, refl, sym, ◌∙◌, ap, arith, lit<, map}
+use Rattle.std.proofs.Common.{◌≡◌, ℕ, zero, suc, ◌<◌, ◌≤◌, ◌-◌, ◌+◌, List, [], ◌∷◌, ◌++◌, length, take, set, get_or, refl, sym, ◌∙◌, add-one, ap, arith, lit<, map}
 use Rattle.std.proofs.Math.Seq.{take-suc-set, take_all}
 use Rattle.std.proofs.lemmas.List.{get_or-take, length-append, take-append-le}
 use Rattle.std.proofs.lemmas.List.FromFn.{fill_by_all}
@@ -31,12 +31,9 @@ expansion_grows key words i later within begun =
     rw (← next, ← more) (word_added key words (i - 4) i (omega arith) within begun)
 
 -- one more round
-pub rounds_grow : (words : List (List ℕ)) (block : List ℕ) (round : ℕ) → 1 ≤ round → round_of words round (rounds_of words (round - 1) block) ≡ rounds_of words (round + 1 - 1) block
+pub rounds_grow : (words : List (List ℕ)) (start : List ℕ) (done : ℕ) → round_of words (done + 1) (rounds_of words done start) ≡ rounds_of words (done + 1) start
 unfolding rounds_of
-rounds_grow words block round first =
-    let this : suc (round - 1) ≡ round = omega arith in
-    let next : round + 1 - 1 ≡ suc (round - 1) = omega arith in
-    rw next (ap (λ n. round_of words n (rounds_of words (round - 1) block)) (sym this))
+rounds_grow words start done = rw add-one refl
 
 -- when the place is 44 all words are there
 pub expansion_done : (key : List ℕ) (words : List (List ℕ)) (i : ℕ) → i ≡ 44 → length words ≡ 44 → take i words ≡ words_of key (i - 4) → words ≡ key_expansion key
@@ -45,7 +42,7 @@ expansion_done key words i last all begun =
     let forty : i - 4 ≡ 40 = omega arith in
     sym (take_all i words (omega arith)) ∙ begun ∙ ap (words_of key) forty
 
-length-words_of : (key : List ℕ) (n : ℕ) → length (words_of key n) ≡ n + 4
+pub length-words_of : (key : List ℕ) (n : ℕ) → length (words_of key n) ≡ n + 4
 unfolding words_of
 length-words_of key zero = refl
 length-words_of key (suc n) =

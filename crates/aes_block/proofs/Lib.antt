@@ -1,6 +1,9 @@
+pub mod Words
 pub mod Entries
+pub mod Tables
+pub mod Rounds
 pub mod Inverses
-pub mod Multiples
 pub mod Constants
 pub mod Growth
 pub mod Sizes
+pub mod Bytes

@@ -4,3 +4,4 @@ pub mod State
 pub mod Keys
 pub mod Cipher
 pub mod Laws
+pub mod Columns

@@ -1,26 +1,124 @@
-//! The rounds, FIPS 197, 5.1.
+//! The rounds, FIPS 197, 5.1, on a state of four words: its columns, the first byte of each the highest.
 
 ghost use Rattle.std.specs.Prelude.{◌≡◌, ◌<◌};
-ghost use Rattle.aes_block.specs.Cipher.{cipher, round_of};
+ghost use Rattle.std.specs.Int.{w32, to_be_bytes};
+ghost use Rattle.aes_block.specs.Cipher.{cipher, round_of, rounds_of};
+ghost use Rattle.aes_block.specs.Columns.{bytes_of, mixed_column as mixed_column_of, shifted_column as shifted_column_of, words_in};
+ghost use Rattle.aes_block.specs.Keys.{add_words};
+ghost use Rattle.aes_block.specs.State.{add_round_key, shift_rows, sub_bytes};
 
-use crate::state::{add_round_key, mix_columns, shift_rows, sub_bytes};
+use crate::columns::{from_row_0, from_row_1, from_row_2, from_row_3};
+use crate::table::s_box;
+use crate::word::word_of;
 
 /// CIPHER: the block after ten rounds under the words of a key.
-pub fn encrypted(words: &[[u8; 4]; 44], block: &[u8; 16]) -> [u8; 16]
-    ensures { result ≡ cipher words.now block.now }
+pub fn encrypted(words: &[u32; 44], block: &[u8; 16]) -> [u8; 16]
+    ensures { result ≡ cipher (words_in words.now) block.now }
 {
-    let mut state = add_round_key(words, 0, *block);
-    for round in 1..10 {
-        let next = round_of(words, round, state);
-        state = next;
-    }
-    add_round_key(words, 10, shift_rows(sub_bytes(state)))
+    block_of(last_round(words, after_rounds(words, 9, columns_of(block))))
 }
 
-#[tactic(auto, unfolding(crate::specs::Cipher::round_of))]
-fn round_of(words: &[[u8; 4]; 44], round: usize, state: [u8; 16]) -> [u8; 16]
-    requires { round < 10 }
-    ensures { result ≡ round_of words.now round state }
+/// The state after so many rounds, of at most 9.
+#[inline(always)]
+pub fn after_rounds(words: &[u32; 44], rounds: usize, start: [u32; 4]) -> [u32; 4]
+    requires { rounds < 10 }
+    ensures { bytes_of result ≡ rounds_of (words_in words.now) rounds (bytes_of start) }
 {
-    add_round_key(words, round, mix_columns(shift_rows(sub_bytes(state))))
+    let mut state = first_key_added(words, start);
+    for done in 0..rounds {
+        let next = round_of(words, done + 1, state);
+        state = next;
+    }
+    state
+}
+
+/// ADDROUNDKEY before the first round.
+#[inline(always)]
+fn first_key_added(words: &[u32; 44], start: [u32; 4]) -> [u32; 4]
+    ensures { bytes_of result ≡ add_round_key (words_in words.now) 0 (bytes_of start) }
+{
+    let [a, b, c, d] = start;
+    [a ^ words[0], b ^ words[1], c ^ words[2], d ^ words[3]]
+}
+
+/// One of the rounds 1 to 9.
+#[inline(always)]
+fn round_of(words: &[u32; 44], round: usize, state: [u32; 4]) -> [u32; 4]
+    requires { round < 10 }
+    ensures { bytes_of result ≡ round_of (words_in words.now) round (bytes_of state) }
+{
+    let [a, b, c, d] = state;
+    [
+        mixed_column(words[4 * round], a, b, c, d),
+        mixed_column(words[4 * round + 1], b, c, d, a),
+        mixed_column(words[4 * round + 2], c, d, a, b),
+        mixed_column(words[4 * round + 3], d, a, b, c),
+    ]
+}
+
+/// Round 10, which mixes no columns.
+#[inline(always)]
+fn last_round(words: &[u32; 44], state: [u32; 4]) -> [u32; 4]
+    ensures { bytes_of result ≡ add_round_key (words_in words.now) 10 (shift_rows (sub_bytes (bytes_of state))) }
+{
+    let [a, b, c, d] = state;
+    [
+        shifted_column(words[40], a, b, c, d),
+        shifted_column(words[41], b, c, d, a),
+        shifted_column(words[42], c, d, a, b),
+        shifted_column(words[43], d, a, b, c),
+    ]
+}
+
+/// One column of a round: SUBBYTES, SHIFTROWS, which takes each row from a column of its own, MIXCOLUMNS
+/// and ADDROUNDKEY.
+#[inline(always)]
+fn mixed_column(key: u32, a: u32, b: u32, c: u32, d: u32) -> u32
+    ensures { to_be_bytes w32 result ≡ add_words (mixed_column_of a b c d) (to_be_bytes w32 key) }
+{
+    let [row_0, _, _, _] = a.to_be_bytes();
+    let [_, row_1, _, _] = b.to_be_bytes();
+    let [_, _, row_2, _] = c.to_be_bytes();
+    let [_, _, _, row_3] = d.to_be_bytes();
+    key ^ from_row_0(row_0) ^ from_row_1(row_1) ^ from_row_2(row_2) ^ from_row_3(row_3)
+}
+
+/// One column of the last round.
+#[inline(always)]
+fn shifted_column(key: u32, a: u32, b: u32, c: u32, d: u32) -> u32
+    ensures { to_be_bytes w32 result ≡ add_words (shifted_column_of a b c d) (to_be_bytes w32 key) }
+{
+    let [row_0, _, _, _] = a.to_be_bytes();
+    let [_, row_1, _, _] = b.to_be_bytes();
+    let [_, _, row_2, _] = c.to_be_bytes();
+    let [_, _, _, row_3] = d.to_be_bytes();
+    word_of([s_box(row_0), s_box(row_1), s_box(row_2), s_box(row_3)]) ^ key
+}
+
+/// The columns of a block.
+#[inline(always)]
+pub fn columns_of(block: &[u8; 16]) -> [u32; 4]
+    ensures { bytes_of result ≡ block.now }
+{
+    [
+        word_of([block[0], block[1], block[2], block[3]]),
+        word_of([block[4], block[5], block[6], block[7]]),
+        word_of([block[8], block[9], block[10], block[11]]),
+        word_of([block[12], block[13], block[14], block[15]]),
+    ]
+}
+
+/// The bytes of four columns.
+#[inline(always)]
+pub fn block_of(columns: [u32; 4]) -> [u8; 16]
+    ensures { result ≡ bytes_of columns }
+{
+    let a = columns[0].to_be_bytes();
+    let b = columns[1].to_be_bytes();
+    let c = columns[2].to_be_bytes();
+    let d = columns[3].to_be_bytes();
+    [
+        a[0], a[1], a[2], a[3], b[0], b[1], b[2], b[3], c[0], c[1], c[2], c[3], d[0], d[1], d[2],
+        d[3],
+    ]
 }

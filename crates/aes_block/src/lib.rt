@@ -1,18 +1,19 @@
 //! AES-128, the block cipher of FIPS 197: a schedule of round keys made once from a key, and the
 //! encryption of one block of 16 bytes under it.
 //!
-//! Nothing here takes memory or fails. No claim is made of the time that a block takes, which may
-//! depend on key and block.
+//! A round looks each byte of the state up in one of four tables of 256 words, which hold SUBBYTES and
+//! MIXCOLUMNS together. Nothing here takes memory or fails. No claim is made of the time that a block
+//! takes, which may depend on key and block.
 #![tactic(auto)]
 
 mod cipher;
+mod columns;
 mod expansion;
-mod field;
 mod laws;
 mod schedule;
-mod state;
-pub mod steps;
 mod table;
+mod word;
 
-pub use laws::inverses_are_inverse;
+pub use laws::{blocks_are_bytes, inverses_are_inverse};
 pub use schedule::Schedule;
+pub use table::s_box;

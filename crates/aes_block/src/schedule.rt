@@ -1,7 +1,8 @@
-ghost use Rattle.std.specs.Prelude.{◌≡◌};
-ghost use Rattle.aes_block.specs.Cipher.{aes128};
+ghost use Rattle.std.specs.Prelude.{◌≡◌, ◌<◌, [], slice_index_or};
+ghost use Rattle.aes_block.specs.Cipher.{aes128, rounds_of};
+ghost use Rattle.aes_block.specs.Keys.{key_expansion};
 
-use crate::cipher::encrypted;
+use crate::cipher::{after_rounds, block_of, columns_of, encrypted};
 use crate::expansion::expanded;
 use std::marker::Model;
 use xom_base::Key128;
@@ -10,18 +11,19 @@ use xom_base::Key128;
 /// seen as the 16 bytes of its key.
 #[derive(Drop)]
 pub struct Schedule {
-    words: [[u8; 4]; 44],
+    words: [u32; 44],
 }
 
 impl Model for Schedule {
     ghost use Rattle.std.specs.Prelude.{◌≡◌, List, ℕ};
+    ghost use Rattle.aes_block.specs.Columns.{words_in};
     ghost use Rattle.aes_block.specs.Keys.{key_expansion, key_of};
 
     ghost Value = { List ℕ };
 
-    ghost view = { λ s. key_of s.words };
+    ghost view = { λ s. key_of (words_in s.words) };
 
-    ghost invariant = { λ s. s.words ≡ key_expansion (key_of s.words) };
+    ghost invariant = { λ s. words_in s.words ≡ key_expansion (key_of (words_in s.words)) };
 }
 
 impl Schedule {
@@ -41,5 +43,22 @@ impl Schedule {
         ensures { result ≡ aes128 self.now block.now }
     {
         encrypted(&self.words, block)
+    }
+
+    /// A word of the key schedule, 0 to 43.
+    pub fn word(&self, i: usize) -> [u8; 4]
+        requires { i < 44 }
+        ensures { result ≡ slice_index_or (key_expansion self.now) i [] }
+    {
+        self.words[i].to_be_bytes()
+    }
+
+    /// The state after so many rounds, 0 to 9: where the next round starts. Before the first, round
+    /// key 0 is added. `encrypt` is nine of them and the last round.
+    pub fn after_rounds(&self, rounds: usize, block: &[u8; 16]) -> [u8; 16]
+        requires { rounds < 10 }
+        ensures { result ≡ rounds_of (key_expansion self.now) rounds block.now }
+    {
+        block_of(after_rounds(&self.words, rounds, columns_of(block)))
     }
 }

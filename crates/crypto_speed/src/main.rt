@@ -1,9 +1,11 @@
-//! How fast blocks are encrypted and tags are taken: `blocks N` and `tags N` make so many, each of
-//! the one before it, and print the last. The benchmark of sealing times them.
+//! How fast blocks are encrypted, tags are taken and blocks are hashed: `blocks N`, `tags N` and
+//! `compressions N` make so many, each of the one before it, and print what comes out. The benchmark of
+//! sealing times them.
 #![tactic(auto)]
 
 use aes_block::Schedule;
-use keyed_mac::tag;
+use keyed_mac::MacKey;
+use sha2::{Digest, Sha256};
 use std::process::ExitCode;
 use std::{env, io};
 use xom_base::{Key128, number};
@@ -30,12 +32,13 @@ fn main(rt: HostRuntime) -> io::Result<ExitCode> {
     match what.as_str() {
         "blocks" => show(&rt, last_block(count).as_slice()),
         "tags" => show(&rt, last_tag(count).as_slice()),
+        "compressions" => show(&rt, digest_of_blocks(count).as_slice()),
         _ => usage(&rt),
     }
 }
 
 fn usage(rt: &HostRuntime) -> io::Result<ExitCode> {
-    println!(rt; "crypto_speed: words are `blocks N` or `tags N`")?;
+    println!(rt; "crypto_speed: words are `blocks N`, `tags N` or `compressions N`")?;
     Ok(ExitCode::from(1))
 }
 
@@ -56,12 +59,26 @@ fn last_block(count: u64) -> [u8; 16] {
     block
 }
 
-/// The last of so many tags, each of the one before, 32 bytes.
+/// The last of so many tags under one key. Each is of 61 bytes, as the message of a run line has, which
+/// begin with the tag before.
 fn last_tag(count: u64) -> [u8; 32] {
+    let key = MacKey::new(&KEY);
     let mut last = [0; 32];
     for _ in 0..count {
-        let next = tag(&KEY, &last);
+        let mut text = [0; 61];
+        text[..32].copy_from_slice(&last);
+        let next = key.tag(&text);
         last = next;
     }
     last
+}
+
+/// The digest of so many blocks of 64 bytes, which has one compression for each, and one for the end.
+fn digest_of_blocks(count: u64) -> [u8; 32] {
+    let block = [0u8; 64];
+    let mut hasher = Sha256::new();
+    for _ in 0..count {
+        hasher.update(&block);
+    }
+    hasher.finalize()
 }

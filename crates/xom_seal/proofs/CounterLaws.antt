@@ -1,5 +1,5 @@
--- Equal counter blocks have the same fields, so no pad serves two names of one image or one install.
-use Rattle.std.proofs.Common.{◌≢◌, ℕ, ◌^◌, ◌<◌, ap, arith, drop, get_or}
+-- Equal counter blocks have the same fields, so none serves two names of one image or one install.
+use Rattle.std.proofs.Common.{◌≢◌, ℕ, ◌^◌, ◌<◌, ap, arith, drop, get_or, ◌∙◌}
 use Rattle.std.specs.Int.{w64, to_be_bytes}
 use Rattle.xom_base.specs.declared.key.ImageId.{ImageId}
 use Rattle.xom_seal.specs.declared.names.LineName.{LineName}
@@ -7,6 +7,7 @@ use Rattle.xom_seal.specs.declared.names.LineName.TheVariants.{Image, Run}
 use Rattle.xom_seal.specs.declared.names.RegName.{RegName}
 use Rattle.xom_seal.specs.Counters.{counter_block, envelope_counter, line_counter, register_counter}
 use Rattle.xom_seal.specs.Laws.{CounterBlocksTell, CounterKindsDiffer, LineCountersTell, RegisterCountersTell}
+use Rattle.xom_seal.specs.NameLaws.{EnvelopeCountersServeOne, LineCountersServeOne, RegisterCountersServeOne}
 use Rattle.xom_seal.proofs.Fields.{front_4, same_numbers_8}
 
 -- blocks of two domains differ whatever the other fields are
@@ -70,3 +71,27 @@ counter_kinds_differ = record {
   line_envelope = line_envelope_differ;
   register_envelope = register_envelope_differ;
 }
+
+pub line_counters_serve_one : LineCountersServeOne
+line_counters_serve_one (Image id line) (Image id' line') i j named named' shared same =
+    let told = line_counters_tell (Image id line) (Image id' line') i j named named' same in
+    (ap (λ n. Image n line) shared ∙ ap (λ n. Image id' n) told.0, told.1)
+line_counters_serve_one (Image id line) (Run boot install line' version) i j named named' shared same = absurd shared
+line_counters_serve_one (Run boot install line version) (Image id line') i j named named' shared same = absurd shared
+line_counters_serve_one (Run boot install line version) (Run boot' install' line' version') i j named named' shared same =
+    let told = line_counters_tell (Run boot install line version) (Run boot' install' line' version') i j named named' same in (
+      ap (λ n. Run n install line version) shared.0 ∙ ap (λ n. Run boot' n line version) shared.1
+          ∙ ap (λ n. Run boot' install' n version) told.0.0 ∙ ap (λ n. Run boot' install' line' n) told.0.1,
+      told.1,
+    )
+
+pub register_counters_serve_one : RegisterCountersServeOne
+register_counters_serve_one a b named named' boots installs same =
+    let told = register_counters_tell a b named named' same in
+    ap (λ n. record a { boot = n }) boots ∙ ap (λ n. record a { boot = b.boot; install = n }) installs
+    ∙ ap (λ n. record a { boot = b.boot; install = b.install; epoch = n }) told.1
+    ∙ ap (λ n. record b { reg = n }) told.0
+
+pub envelope_counters_serve_one : EnvelopeCountersServeOne
+envelope_counters_serve_one i j same =
+    (counter_blocks_tell 4 4 i j 0 0 0 0 (omega arith) (omega arith) (omega arith) (omega arith) same).1

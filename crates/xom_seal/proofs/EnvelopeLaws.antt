@@ -5,6 +5,7 @@ use Rattle.std.specs.Str.{bytes_eq}
 use Rattle.std.proofs.Math.Seq.{drop-append-add, take-append_seam, take-length}
 use Rattle.std.proofs.lemmas.Nat.{from_be_bytes-to_be_bytes_4}
 use Rattle.std.proofs.lemmas.List.{length-append, take-append-le}
+use Rattle.aes_block.proofs.Sizes.{length-aes128}
 use Rattle.keyed_mac.specs.Hmac.{hmac_sha256}
 use Rattle.keyed_mac.proofs.Lengths.{tags_have_their_length}
 use Rattle.xom_base.specs.declared.key.Key256.{Key256}
@@ -13,7 +14,7 @@ use Rattle.xom_seal.specs.Envelopes.{contents_of, entry_in, envelope_fields, env
 use Rattle.xom_seal.specs.Laws.{EnvelopesOpen, EnvelopesShow, IsUnwrapped, Shows}
 use Rattle.xom_seal.specs.Messages.{envelope_message}
 use Rattle.xom_seal.proofs.Masks.{length-xored, xored_twice}
-use Rattle.xom_seal.proofs.SealLaws.{length-aes128, lets_through}
+use Rattle.xom_seal.proofs.SealLaws.{lets_through}
 
 -- ---- The parts of a text that is made of the fields and a tag
 
@@ -68,7 +69,7 @@ length-envelope_pad : (machine : Key256) (id : List ℕ) → length (envelope_pa
 unfolding envelope_pad
 length-envelope_pad machine id = simp (length-append, length-aes128)
 
-key_masked-twice : (machine : Key256) (id key : List ℕ) → length key ≡ 32 → key_masked machine id (key_masked machine id key) ≡ key
+pub key_masked-twice : (machine : Key256) (id key : List ℕ) → length key ≡ 32 → key_masked machine id (key_masked machine id key) ≡ key
 unfolding key_masked
 key_masked-twice machine id key sized =
     let room : length (envelope_pad machine id) ≡ 32 = length-envelope_pad machine id in
@@ -91,7 +92,7 @@ envelope_tag-append machine fields tag sized =
     ap (λ text. hmac_sha256 machine.0 (4 ∷ text)) (take-append-le 56 fields tag (omega arith))
 
 -- a wrapped image key is what stands before a tag, and the tag
-wrapped-parts : (machine : Key256) (plain : Unwrapped) → wrapped machine plain ≡ fields_of machine plain ++ envelope_tag machine (fields_of machine plain)
+pub wrapped-parts : (machine : Key256) (plain : Unwrapped) → wrapped machine plain ≡ fields_of machine plain ++ envelope_tag machine (fields_of machine plain)
 unfolding wrapped
 wrapped-parts machine plain = refl
 

@@ -5,3 +5,6 @@ pub mod CounterLaws
 pub mod SealLaws
 pub mod EnvelopeLaws
 pub mod NamingLaws
+pub mod KindLaws
+pub mod HeadLaws
+pub mod OpeningLaws

@@ -6,8 +6,8 @@ use Rattle.std.proofs.lemmas.Bool.{cases_Bool}
 use Rattle.std.proofs.lemmas.Nat.{from_be_bytes-to_be_bytes_4}
 use Rattle.std.proofs.lemmas.Slice.Eq.{bytes_eq-Decides}
 use Rattle.std.proofs.lemmas.List.{length-append, length-take-le}
-use Rattle.aes_block.specs.Cipher.{aes128, cipher}
-use Rattle.aes_block.specs.State.{add_round_key}
+use Rattle.aes_block.specs.Cipher.{aes128}
+use Rattle.aes_block.proofs.Sizes.{length-aes128}
 use Rattle.keyed_mac.proofs.Lengths.{tags_have_their_length}
 use Rattle.xom_seal.specs.declared.keys.LineKeys.{LineKeys}
 use Rattle.xom_seal.specs.declared.keys.RegisterKeys.{RegisterKeys}
@@ -26,7 +26,7 @@ pub lets_through : {X : Type 0} (tag : List ℕ) (value : X) → (if bytes_eq ta
 lets_through tag value = ap (λ same. if same then Some value else None) ((bytes_eq-Decides tag tag).1 refl)
 
 -- what is let through has the tag, and is that value
-let_through : {X : Type 0} (tag other : List ℕ) (value found : X) → (if bytes_eq tag other then Some value else None) ≡ Some found → (tag ≡ other) × (value ≡ found)
+pub let_through : {X : Type 0} (tag other : List ℕ) (value found : X) → (if bytes_eq tag other then Some value else None) ≡ Some found → (tag ≡ other) × (value ≡ found)
 let_through tag other value found through =
     elim (cases_Bool (bytes_eq tag other)) [
       | inl same ↦ (
@@ -37,11 +37,6 @@ let_through tag other value found through =
     ]
 
 -- ---- Pads
-
--- a block has 16 bytes
-pub length-aes128 : (key block : List ℕ) → length (aes128 key block) ≡ 16
-unfolding aes128 cipher add_round_key
-length-aes128 key block = refl
 
 -- a line's pad has 32
 length-line_pad : (name : LineName) (keys : LineKeys) → length (line_pad name keys) ≡ 32
@@ -63,11 +58,17 @@ length-register_pad name keys =
     length-take-le 4 (aes128 keys.aes.0 (register_counter name)) (omega arith)
 
 -- a register that is masked twice is what it was
-register_masked-twice : (name : RegName) (keys : RegisterKeys) (bytes : List ℕ) → length bytes ≡ 4 → register_masked name keys (register_masked name keys bytes) ≡ bytes
+pub register_masked-twice : (name : RegName) (keys : RegisterKeys) (bytes : List ℕ) → length bytes ≡ 4 → register_masked name keys (register_masked name keys bytes) ≡ bytes
 unfolding register_masked
 register_masked-twice name keys bytes sized =
     let room : length (register_pad name keys) ≡ 4 = length-register_pad name keys in
     xored_twice bytes (register_pad name keys) (omega arith)
+
+pub length-register_masked : (name : RegName) (keys : RegisterKeys) (bytes : List ℕ) → length bytes ≡ 4 → length (register_masked name keys bytes) ≡ 4
+unfolding register_masked
+length-register_masked name keys bytes sized =
+    let room : length (register_pad name keys) ≡ 4 = length-register_pad name keys in
+    length-xored bytes (register_pad name keys) (omega arith) ∙ sized
 
 -- ---- Lines and registers
 

@@ -1,4 +1,4 @@
--- What whoever rests on seals may know of them: each message tells its kind, its name and its ciphertext, no pad serves two names of one image or one install, and what was sealed opens.
+-- What whoever rests on seals may know of them: each message tells its kind, its name and its ciphertext, no counter block serves two names of one image or one install, and what was sealed opens.
 use Rattle.std.specs.Prelude.{ℕ, ◌≡◌, ◌≢◌, ◌^◌, ◌<◌, ◌==◌, ◌&&◌, false, List, length, Some, take}
 use Rattle.xom_base.specs.declared.key.ImageId.{ImageId}
 use Rattle.xom_base.specs.declared.key.Key256.{Key256}
@@ -85,7 +85,7 @@ SharesCounters (Image id line) (Image id' line') = line ≡ line'
 SharesCounters (Run boot install line version) (Run boot' install' line' version') = (line ≡ line') × (version ≡ version')
 SharesCounters a b = ⊥
 
--- So no pad serves two lines of an image, two lines or versions of an install, or both halves of a line.
+-- So no counter block serves two lines of an image, two lines or versions of an install, or both halves of a line.
 abbrev pub LineCountersTell : Type 0
 LineCountersTell =
     (a b : LineName) (i j : ℕ) → IsLineName a → IsLineName b

@@ -4,3 +4,6 @@ pub mod Counters
 pub mod Sealing
 pub mod Envelopes
 pub mod Laws
+pub mod Readers
+pub mod NameLaws
+pub mod OpeningLaws

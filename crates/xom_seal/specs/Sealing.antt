@@ -8,7 +8,9 @@ use Rattle.xom_seal.specs.declared.keys.LineKeys.{LineKeys}
 use Rattle.xom_seal.specs.declared.keys.RegisterKeys.{RegisterKeys}
 use Rattle.xom_seal.specs.declared.names.LineName.{LineName}
 use Rattle.xom_seal.specs.declared.names.RegName.{RegName}
+use Rattle.xom_seal.specs.declared.line.LineOpening.{LineOpening}
 use Rattle.xom_seal.specs.declared.line.SealedLine.{SealedLine}
+use Rattle.xom_seal.specs.declared.register.RegisterOpening.{RegisterOpening}
 use Rattle.xom_seal.specs.declared.register.SealedReg.{SealedReg}
 use Rattle.xom_seal.specs.Counters.{line_counter, register_counter}
 use Rattle.xom_seal.specs.Messages.{line_message, register_message}
@@ -44,6 +46,10 @@ abbrev pub unsealed_line : LineName → LineKeys → SealedLine → Option (List
 unsealed_line name keys sealed =
     if bytes_eq sealed.tag (line_tag name keys sealed.ct) then Some (line_masked name keys sealed.ct) else None
 
+-- what a line with this ciphertext gives where it opens: its plain bytes and its message
+abbrev pub line_opening : LineName → LineKeys → List ℕ → LineOpening
+line_opening name keys ct = record { plain = line_masked name keys ct; message = line_message name ct }
+
 -- ---- Registers
 
 -- the 4 bytes that a register is masked with: the first of the result of block 0
@@ -69,3 +75,7 @@ sealed_register name keys value = record {
 abbrev pub unsealed_register : RegName → RegisterKeys → SealedReg → Option ℕ
 unsealed_register name keys sealed =
     if bytes_eq sealed.tag (register_tag name keys sealed.ct) then Some (from_be_bytes w32 (register_masked name keys sealed.ct)) else None
+
+-- what a register with this ciphertext gives where it opens: its value and its message
+abbrev pub register_opening : RegName → RegisterKeys → List ℕ → RegisterOpening
+register_opening name keys ct = record { value = from_be_bytes w32 (register_masked name keys ct); message = register_message name ct }

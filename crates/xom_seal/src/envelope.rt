@@ -6,6 +6,7 @@ use crate::keys::envelope_key;
 use crate::mask::{masked, pad_of_two};
 use crate::message::{envelope_message, message_of_fields};
 use crate::text::{Text, part};
+use aes_block::Schedule;
 use keyed_mac::{matches, tag};
 use xom_base::{ImageId, Key256};
 
@@ -79,7 +80,7 @@ fn contents(machine: &Key256, envelope: &[u8; 88]) -> Unwrapped
 fn masked_key(machine: &Key256, id: &ImageId, key: &[u8; 32]) -> [u8; 32]
     ensures { result ≡ key_masked machine.now id.now.0 key.now }
 {
-    let aes = envelope_key(machine, id);
+    let aes = Schedule::new(&envelope_key(machine, id));
     let pad = pad_of_two(&aes, &envelope_counter(0), &envelope_counter(1));
     masked(key, &pad)
 }

@@ -4,7 +4,6 @@ ghost use Rattle.aes_block.specs.Cipher.{aes128};
 
 use crate::text::Text;
 use aes_block::Schedule;
-use xom_base::Key128;
 
 /// These bytes, each xor one of the pad.
 pub fn masked<const N: usize>(bytes: &[u8; N], pad: &[u8; N]) -> [u8; N]
@@ -18,10 +17,9 @@ pub fn masked<const N: usize>(bytes: &[u8; N], pad: &[u8; N]) -> [u8; N]
 }
 
 /// What AES-128 makes of two blocks under one key, joined.
-pub fn pad_of_two(key: &Key128, first: &[u8; 16], second: &[u8; 16]) -> [u8; 32]
-    ensures { result ≡ aes128 key.now.0 first.now ++ aes128 key.now.0 second.now }
+pub fn pad_of_two(schedule: &Schedule, first: &[u8; 16], second: &[u8; 16]) -> [u8; 32]
+    ensures { result ≡ aes128 schedule.now first.now ++ aes128 schedule.now second.now }
 {
-    let schedule = Schedule::new(key);
     Text::new()
         .and(&schedule.encrypt(first))
         .and(&schedule.encrypt(second))

@@ -1,15 +1,14 @@
-//! AES-128 and its steps. Keys, blocks and states are 16 bytes.
+//! AES-128, its rounds and words. Keys, blocks and states are 16 bytes.
 //!
 //! - `aes128 KEY BLOCK .. = BLOCK ..`: all blocks under one schedule.
 //! - `key_word KEY N = BYTES`: the word of this number, 0 to 43, of the expanded key.
-//! - `add_round_key KEY ROUND STATE = STATE`, `sub_bytes STATE = STATE`, `shift_rows STATE = STATE`,
-//!   `mix_columns STATE = STATE`
+//! - `after_rounds KEY N BLOCK = STATE`: the state after so many rounds, 0 to 9, where the next one starts.
 //! - `s_box BYTE = BYTE`
 
 use crate::args::Args;
 use crate::fault::{Answer, Fault};
 use crate::line::{Line, digits};
-use aes_block::{Schedule, steps};
+use aes_block::{Schedule, s_box};
 use xom_base::Key128;
 
 /// The result, or none where the kind isn't of this module.
@@ -17,11 +16,8 @@ pub fn answer(kind: &str, args: &Args) -> Option<Answer> {
     match (kind, args.len()) {
         ("aes128", 2..) => Some(blocks(args)),
         ("key_word", 2) => Some(key_word(args)),
-        ("add_round_key", 3) => Some(add_round_key(args)),
-        ("sub_bytes", 1) => Some(sub_bytes(args)),
-        ("shift_rows", 1) => Some(shift_rows(args)),
-        ("mix_columns", 1) => Some(mix_columns(args)),
-        ("s_box", 1) => Some(s_box(args)),
+        ("after_rounds", 3) => Some(after_rounds(args)),
+        ("s_box", 1) => Some(substituted(args)),
         _ => None,
     }
 }
@@ -37,39 +33,25 @@ fn blocks(args: &Args) -> Answer {
 }
 
 fn key_word(args: &Args) -> Answer {
-    let words = steps::expanded(&args.array(0)?);
-    match words.get(usize::from(args.number8(1)?)) {
-        Some(word) => digits(args.alloc(), word),
-        None => Err(Fault::Unreadable),
-    }
-}
-
-fn add_round_key(args: &Args) -> Answer {
-    let words = steps::expanded(&args.array(0)?);
-    let round = usize::from(args.number8(1)?);
-    if round >= 11 {
+    let schedule = Schedule::new(&Key128(args.array(0)?));
+    let place = usize::from(args.number8(1)?);
+    if place >= 44 {
         return Err(Fault::Unreadable);
     }
-    let state = steps::add_round_key(&words, round, args.array(2)?);
+    digits(args.alloc(), &schedule.word(place))
+}
+
+fn after_rounds(args: &Args) -> Answer {
+    let schedule = Schedule::new(&Key128(args.array(0)?));
+    let rounds = usize::from(args.number8(1)?);
+    if rounds >= 10 {
+        return Err(Fault::Unreadable);
+    }
+    let state = schedule.after_rounds(rounds, &args.array(2)?);
     digits(args.alloc(), &state)
 }
 
-fn sub_bytes(args: &Args) -> Answer {
-    let state = steps::sub_bytes(args.array(0)?);
-    digits(args.alloc(), &state)
-}
-
-fn shift_rows(args: &Args) -> Answer {
-    let state = steps::shift_rows(args.array(0)?);
-    digits(args.alloc(), &state)
-}
-
-fn mix_columns(args: &Args) -> Answer {
-    let state = steps::mix_columns(args.array(0)?);
-    digits(args.alloc(), &state)
-}
-
-fn s_box(args: &Args) -> Answer {
+fn substituted(args: &Args) -> Answer {
     let [byte] = args.array::<1>(0)?;
-    digits(args.alloc(), &[steps::s_box(byte)])
+    digits(args.alloc(), &[s_box(byte)])
 }

@@ -3,7 +3,7 @@ use Rattle.std.proofs.Common.{arith, get_or, sym}
 use Rattle.std.specs.Int.Bits.{bit_xor}
 use Rattle.std.proofs.lemmas.Grind.{get_or_default_zero}
 use Rattle.std.proofs.lemmas.List.Edits.{map_over_more}
-use Rattle.keyed_mac.proofs.masked.Goals as goal
+use Rattle.keyed_mac.proofs.pads.masked.Goals as goal
 
 pub loop-byte-preserved : goal.loop-byte-preserved
 loop-byte-preserved c =
