@@ -5,7 +5,7 @@ use asm_source::Items;
 use asm_syntax::read_source;
 use mips_asm::assemble;
 use mips_isa::{Ins, fits};
-use mips_text::{Operand, Operands, form, listing, print, tokens, unquoted};
+use mips_text::{Operand, Operands, Token, TokenKind, form, listing, print, tokens, unquoted};
 use std::test::Fail;
 
 #[test]
@@ -44,11 +44,12 @@ fn long_lines_have_tokens(rt: HostRuntime) -> Result<(), Fail> {
     let line = repeated(rt.alloc(), b"$8, ", 262_144)?;
     let mut tokens = tokens(rt.alloc(), &line)?;
     assert!(rt; tokens.len() == 524_288);
-    let Some(last) = tokens.get(524_287).copied() else {
-        panic!(rt; "no last token");
-    };
-    assert!(rt; last.start == 1_048_574 && last.end == 1_048_575);
-    tokens.push(last)?;
+    assert!(rt; matches!(tokens.get(524_287), Some(Token { end: 1_048_575, .. })));
+    tokens.push(Token {
+        kind: TokenKind::Comma,
+        start: 0,
+        end: 1,
+    })?;
     let mut text = repeated(rt.alloc(), b"\"", 1)?;
     text.extend_from_slice(&repeated(rt.alloc(), b"\\n", 524_288)?)?;
     text.push(b'"')?;
@@ -79,11 +80,6 @@ fn the_largest_source_is_read_assembled_and_listed(rt: HostRuntime) -> Result<()
 fn the_last_entry_is_assembled(rt: HostRuntime) -> Result<(), Fail> {
     let image = assemble(rt.alloc(), b".org 0xffffc\nlast: xexit\n.entry last\n")?;
     assert!(rt; image.entry == 0xffffc && image.bytes.len() == PRIVATE);
-    assert!(rt;
-        image
-            .bytes
-            .as_slice()
-            .ends_with(&[0, 0, 0, 0, 0x48, 0, 0, 3])
-    );
+    assert!(rt; matches!(image.bytes.get(0xfffff), Some(3)));
     Ok(())
 }
