@@ -1,4 +1,5 @@
 ghost use Rattle.image_sealer.specs.Laws.{EnvelopesOpen, LinesOpen, TagsAreOfTheSealing};
+ghost use Rattle.image_sealer.specs.MemberLaws.{MembersAreNoRunsOwn, MembersAreOfTheImage};
 
 /// Laws and no code: what an owner sealed for a machine opens there to what the owner put in, and
 /// the tags in it are of the messages of the owner's sealing.
@@ -7,4 +8,13 @@ pub fn sealed_images_open()
     ensures envelopes { EnvelopesOpen }
     ensures lines { LinesOpen }
     ensures tags { TagsAreOfTheSealing }
+{}
+
+/// Laws and no code: what an owner takes a tag of is the message of the envelope under the machine's
+/// key, or that of one line of the image, with just that line's ciphertext, under the image key. So it is
+/// never the message of a run line or of a register, which machines seal by themselves.
+#[tactic(auto, using(crate::proofs::Members::members_are_of_the_image, crate::proofs::Members::members_are_no_runs_own))]
+pub fn sealings_are_of_the_image()
+    ensures members { MembersAreOfTheImage }
+    ensures apart { MembersAreNoRunsOwn }
 {}

@@ -7,5 +7,5 @@
 mod law;
 mod sealing;
 
-pub use law::sealed_images_open;
+pub use law::{sealed_images_open, sealings_are_of_the_image};
 pub use sealing::seal;

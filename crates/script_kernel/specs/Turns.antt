@@ -1,5 +1,5 @@
 -- The turns of a kernel that follows a script.
-use Rattle.std.specs.Prelude.{List, [], ◌∷◌, Option, Some, None}
+use Rattle.std.specs.Prelude.{List, [], ◌∷◌, Option, Some}
 use Rattle.xom_base.specs.declared.event.Op.{Op}
 use Rattle.xom_base.specs.declared.event.Op.TheVariants.{Halt}
 use Rattle.xom_base.specs.declared.event.Turn.{Turn}

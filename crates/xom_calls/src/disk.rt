@@ -50,17 +50,6 @@ fn files_hold_what_is_put(rt: HostRuntime) -> Result<(), Fail> {
 }
 
 #[test]
-fn files_in_memory_fail_where_they_are_told_to(rt: HostRuntime) -> Result<(), Fail> {
-    let file = name(rt.alloc(), "a")?;
-    let mut files = MemFiles::new(rt.alloc());
-    files.fail(2)?;
-    files.put(&file, &list(rt.alloc(), b"new")?)?;
-    assert!(rt; files.get(&file, 3).err() == Some(FileFault::Failed));
-    assert!(rt; files.get(&file, 2).err() == Some(FileFault::TooLong));
-    Ok(())
-}
-
-#[test]
 fn files_of_the_system_are_too_long_or_fail(rt: HostRuntime) -> Result<(), Fail> {
     let file = name(rt.alloc(), "xom_calls_another_file")?;
     let text = list(rt.alloc(), b"text")?;

@@ -5,7 +5,7 @@ use mips_plain::{Given, Memory, Plain, PlainCell, PlainStep};
 use plain_run::{ReceivedList, read_received, run_alone};
 use std::process::Abort;
 use std::test::Fail;
-use step_text::{fault_name, push_step};
+use step_text::push_step;
 use xom_base::{
     ByteList, OwnFault, PlainImage, Received, Released, Step, StepEnd, Stored, Writes, step_eq,
 };
@@ -193,17 +193,4 @@ fn steps_have_their_lines(rt: HostRuntime) -> Result<(), Fail> {
         assert_eq!(rt; line.as_slice(), wanted.as_bytes());
     }
     Ok(())
-}
-
-#[test]
-fn faults_have_their_names(rt: HostRuntime) {
-    for (fault, name) in [
-        (OwnFault::Reserved, "Reserved"),
-        (OwnFault::Foreign, "Foreign"),
-        (OwnFault::Overflow, "Overflow"),
-        (OwnFault::Address, "Address"),
-        (OwnFault::Break, "Break"),
-    ] {
-        assert_eq!(rt; fault_name(fault), name);
-    }
 }
