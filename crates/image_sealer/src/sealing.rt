@@ -6,7 +6,7 @@ use std::alloc::Global;
 use xom_base::{ImageId, Key256, NoMemory};
 use xom_image::{SealedImage, SealedLineList};
 use xom_owners::Owner;
-use xom_seal::{LineName, Unwrapped, image_keys, seal_line, wrap};
+use xom_seal::{LineName, LineSealer, Unwrapped, image_keys, wrap};
 
 /// How many bytes a line has.
 const LINE: usize = 32;
@@ -52,12 +52,12 @@ fn sealed_lines(alloc: Global, owner: &Owner) -> Result<SealedLineList, NoMemory
     ensures { IfOk result (λ lines. lines ≡ sealed_lines_of owner.now) }
 {
     let bytes = owner.plain.bytes.as_slice();
-    let keys = image_keys(&owner.key, &owner.id);
+    let sealer = LineSealer::new(&image_keys(&owner.key, &owner.id));
     let count = line_count(bytes);
     let mut lines = Vec::with_capacity(alloc, count as usize)?;
     for line in 0..count {
         let name = LineName::Image { id: owner.id, line };
-        lines.push(seal_line(&name, &keys, &plain_line(bytes, line)))?;
+        lines.push(sealer.seal(&name, &plain_line(bytes, line)).sealed)?;
     }
     Ok(SealedLineList::from_vec(lines))
 }
