@@ -27,7 +27,7 @@ pub use image::PlainImage;
 pub use key::{ImageId, Key128, Key256};
 pub use line_words::{cut, words};
 pub use lines::{LineFault, LineReader, TextFault, read_lines, split_lines};
-pub use list::{ByteList, NoMemory, NumberList};
+pub use list::{ByteList, List, NoMemory, NumberList};
 pub use numbers::{number, number_below};
 pub use payload::{Block, Payload, Short};
 pub use schedule::{Interrupts, Schedule};
