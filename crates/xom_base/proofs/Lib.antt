@@ -3,3 +3,4 @@ pub mod CutLaws
 pub mod HexLaws
 pub mod LineLaws
 pub mod NumberLaws
+pub mod TextLaws

@@ -1,5 +1,6 @@
 pub mod Hex
 pub mod Lines
+pub mod Memory
 pub mod Numbers
 pub mod Padded
 pub mod Steps

@@ -2,7 +2,8 @@
 //! texts are read.
 //!
 //! The values say nothing of the machine: what they mean there is said in the crates above. A format
-//! that goes line by line is a `LineReader`, and `read_lines` is the one loop over lines.
+//! that goes line by line is a `LineFormat`, read by `read_lines`, or by `read_whole` where its text
+//! may end too early. `List` is the one list of items.
 #![tactic(auto)]
 
 mod chunk;
@@ -26,7 +27,9 @@ pub use hex_words::{hex16, hex32};
 pub use image::PlainImage;
 pub use key::{ImageId, Key128, Key256};
 pub use line_words::{cut, words};
-pub use lines::{LineFault, LineReader, TextFault, read_lines, split_lines};
+pub use lines::{
+    LineFault, LineFormat, TextFault, WholeFormat, read_lines, read_whole, split_lines,
+};
 pub use list::{ByteList, List, NoMemory, NumberList};
 pub use numbers::{number, number_below};
 pub use payload::{Block, Payload, Short};
