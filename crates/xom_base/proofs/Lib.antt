@@ -4,3 +4,4 @@ pub mod HexLaws
 pub mod LineLaws
 pub mod NumberLaws
 pub mod TextLaws
+pub mod NextLaws

@@ -26,7 +26,7 @@ pub use event::{Cause, Event, Op, Outcome, OwnFault, Rule, RunEnd, Turn};
 pub use hex_words::{hex16, hex32};
 pub use image::PlainImage;
 pub use key::{ImageId, Key128, Key256};
-pub use line_words::{cut, words};
+pub use line_words::{cut, few_words, next_word, words};
 pub use lines::{
     LineFault, LineFormat, TextFault, WholeFormat, read_lines, read_whole, split_lines,
 };
