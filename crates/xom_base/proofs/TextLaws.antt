@@ -103,8 +103,8 @@ module _ {S X A : Type 0} (step : LineStep S X) (format : Format S X) (tells : T
       (λ values last. Reads format first 1 (lines_of text) values last × Ends last)
       (IsFirstBadOf format Ends first text)
       (λ values last h.
-          let e = end_found given values last h in
-          (reads_from step format tells first 1 (lines_of text) values last e.0, (ends last).0 e.1))
+      let e = end_found given values last h in
+      (reads_from step format tells first 1 (lines_of text) values last e.0, (ends last).0 e.1))
       (λ values last h. rw (only_reads step format tells first 1 (lines_of text) values last h.0, (ends last).1 h.1) refl)
       (λ n h. end_bad given n refl h)
 

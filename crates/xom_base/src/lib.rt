@@ -23,7 +23,7 @@ mod step;
 pub use chunk::Chunk;
 pub use entry::Entry;
 pub use event::{Cause, Event, Op, Outcome, OwnFault, Rule, RunEnd, Turn};
-pub use hex_words::{hex16, hex32};
+pub use hex_words::{hex_into, hex_list, hex16, hex32};
 pub use image::PlainImage;
 pub use key::{ImageId, Key128, Key256};
 pub use line_words::{cut, few_words, next_word, words};
@@ -31,7 +31,7 @@ pub use lines::{
     LineFault, LineFormat, TextFault, WholeFormat, read_lines, read_whole, split_lines,
 };
 pub use list::{ByteList, List, NoMemory, NumberList};
-pub use numbers::{number, number_below};
+pub use numbers::{decimal, decimal_below, number, number_below};
 pub use payload::{Block, Payload, Short};
 pub use schedule::{Interrupts, Schedule};
 pub use step::{Received, Released, Step, StepEnd, Stored, Writes, step_eq};
