@@ -3,6 +3,7 @@ ghost use Rattle.std.specs.Borrow.{sem};
 ghost use Rattle.line_ram.specs.Bytes.{HoldsFrame, HoldsRange, bytes_at, ciphertext_place, frame_size, stored, tag_place, with_line};
 ghost use Rattle.line_ram.specs.Lending.{LendsRange, stored_through};
 
+use crate::line_of;
 use std::alloc::Global;
 use std::marker::Model;
 use xom_base::NoMemory;
@@ -86,6 +87,17 @@ impl LineRam {
         self.bytes.slice_mut(from..from + count as usize)
     }
 
+    /// Lends the bytes of a frame. `line_of` lends a line's ciphertext and tag out of them.
+    pub fn lend_frame(&mut self, frame: u32) -> &mut [u8]
+        requires { HoldsFrame self.old frame }
+        ensures* writes_back { sem 𝓛 (LendsRange self.entry (frame * frame_size) result) }
+        ensures value { result.now ≡ bytes_at self.old (frame * frame_size) frame_size }
+        ensures length { length result.now ≡ frame_size }
+    {
+        let _size = self.size();
+        self.lend(frame * LineRam::FRAME, LineRam::FRAME)
+    }
+
     /// Copies a frame's ciphertext and tag of its line of this index into two arrays.
     pub fn read_line(&self, frame: u32, index: u32, ciphertext: &mut [u8; 32], tag: &mut [u8; 32])
         requires frame { HoldsFrame self.now frame }
@@ -100,15 +112,15 @@ impl LineRam {
     }
 
     /// Puts a ciphertext and a tag at a frame's line of this index.
+    #[tactic(auto, using(crate::proofs::Frames::frame_with_line))]
     pub fn write_line(&mut self, frame: u32, index: u32, ciphertext: &[u8; 32], tag: &[u8; 32])
         requires frame { HoldsFrame self.old frame }
         requires index { index < 128 }
         ensures line { self.new ≡ with_line self.old frame index ciphertext.now tag.now }
         ensures size { length self.new ≡ length self.old }
     {
-        let _size = self.size();
-        let place = frame * LineRam::FRAME + 32 * index;
-        self.write(place, ciphertext);
-        self.write(place + 4096, tag);
+        let (ciphertext_there, tag_there) = line_of(self.lend_frame(frame), index);
+        ciphertext_there.copy_from_slice(ciphertext);
+        tag_there.copy_from_slice(tag);
     }
 }
