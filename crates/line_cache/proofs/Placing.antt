@@ -1,23 +1,23 @@
 -- What a new line does to the cache.
-use Rattle.std.proofs.Common.{◌≡◌, ◌≢◌, refl, ℕ, ◌+◌, ◌*◌, ◌/◌, ◌%◌, ◌^◌, ◌<◌, ◌≤◌, List, Option, Some, None, length, slice_set, sym, ◌∙◌, ap, subst, arith, IfSome, IsSome, ◌↔◌}
+use Rattle.std.proofs.Common.{◌≡◌, ◌≢◌, refl, ℕ, ◌+◌, ◌%◌, ◌^◌, ◌<◌, ◌≤◌, List, Option, Some, None, length, slice_set, sym, ◌∙◌, ap, subst, arith, IfSome, IsSome, ◌↔◌}
 use Rattle.std.proofs.lemmas.List.{length-set}
 use Rattle.line_cache.specs.declared.way.Victim.{Victim}
 use Rattle.line_cache.specs.declared.way.Way.{Way}
 use Rattle.line_cache.specs.Ways.{Cache, chosen, first_place, found, free_in_set, moved_on, new_way, place_for, pointed, pointers_after, pushed_out, victim_for, victim_of, way_at, with_line}
-use Rattle.line_cache.specs.Lines.{BringsIn, HandsOut, Holds, IsCache, IsFilled, IsFull, IsVictim, line_in, way_found}
+use Rattle.line_cache.specs.Lines.{BringsIn, HandsOut, Holds, IsCache, IsFilled, IsFull, IsVictim, way_found}
 use Rattle.line_cache.proofs.Search.{found-None, found_at, free-None, free-Some, none_free}
 use Rattle.line_cache.proofs.Changes.{Fits, IsCache-set, found-set, line_in-gone, line_in-other, line_in-set}
 
 -- the cache with a new line, where its set has a free way and where it is full
 pub line_in_free : (cache : Cache) (slot line : ℕ) (bytes : List ℕ) (free : ℕ)
-  → free_in_set cache.ways line ≡ Some free
-  → with_line cache slot line bytes
+    → free_in_set cache.ways line ≡ Some free
+    → with_line cache slot line bytes
     ≡ record { ways = slice_set cache.ways (first_place line + free) (new_way slot line bytes); pointers = cache.pointers }
 line_in_free cache slot line bytes free is = rw is refl
 
 pub line_in_full : (cache : Cache) (slot line : ℕ) (bytes : List ℕ)
-  → free_in_set cache.ways line ≡ None
-  → with_line cache slot line bytes
+    → free_in_set cache.ways line ≡ None
+    → with_line cache slot line bytes
     ≡ record {
       ways = slice_set cache.ways (first_place line + pointed cache.pointers line) (new_way slot line bytes);
       pointers = slice_set cache.pointers (line % 32) ((pointed cache.pointers line + 1) % 4);
@@ -25,11 +25,11 @@ pub line_in_full : (cache : Cache) (slot line : ℕ) (bytes : List ℕ)
 line_in_full cache slot line bytes is = rw is refl
 
 pub victim_of_free : (cache : Cache) (line free : ℕ) → free_in_set cache.ways line ≡ Some free
-  → victim_for cache line ≡ None
+    → victim_for cache line ≡ None
 victim_of_free cache line free is = rw is refl
 
 pub victim_of_full : (cache : Cache) (line : ℕ) → free_in_set cache.ways line ≡ None
-  → victim_for cache line
+    → victim_for cache line
     ≡ Some (victim_of (way_at cache.ways (first_place line + pointed cache.pointers line)))
 victim_of_full cache line is = rw is refl
 
@@ -76,8 +76,8 @@ module _ (cache : Cache) (sound : IsCache cache) (slot line : ℕ) (bytes : List
   not_there at = found-None cache.ways slot line some absent at
 
   handed_out : (free : Option ℕ) → free_in_set cache.ways line ≡ free → (at : ℕ)
-    → at ≡ first_place line + chosen free (pointed cache.pointers line) → at ≡ place
-    → IfSome (pushed_out free (way_at cache.ways at)) (HandsOut cache.ways (with_line cache slot line bytes).ways)
+      → at ≡ first_place line + chosen free (pointed cache.pointers line) → at ≡ place
+      → IfSome (pushed_out free (way_at cache.ways at)) (HandsOut cache.ways (with_line cache slot line bytes).ways)
   handed_out (Some free) is at place_is same = tt
   handed_out None is at place_is same =
       let old = way_at cache.ways at in
@@ -92,9 +92,9 @@ module _ (cache : Cache) (sound : IsCache cache) (slot line : ℕ) (bytes : List
       }
 
   others : (free : Option ℕ) → free_in_set cache.ways line ≡ free → (at : ℕ)
-    → at ≡ first_place line + chosen free (pointed cache.pointers line)
-    → (who other : ℕ) → who ≢ 0 → ¬ IsVictim (pushed_out free (way_at cache.ways at)) who other
-    → ¬ Holds (way_at cache.ways at) who other
+      → at ≡ first_place line + chosen free (pointed cache.pointers line)
+      → (who other : ℕ) → who ≢ 0 → ¬ IsVictim (pushed_out free (way_at cache.ways at)) who other
+      → ¬ Holds (way_at cache.ways at) who other
   others (Some free) is at place_is who other some_who not_victim holds =
       some_who (sym holds.its_slot ∙ ap (λ n. (way_at cache.ways n).slot) place_is ∙ (free-Some cache sound line free is).1)
   others None is at place_is who other some_who not_victim holds = not_victim (holds.its_slot, holds.its_line)
@@ -126,7 +126,7 @@ module _ (opened cache : Cache) (same : opened ≡ cache) (sound : IsCache opene
   not_null none = absurd (omega arith)
 
   placed_as : (new : Cache) (victim : Option Victim) → with_line cache slot line bytes ≡ new → victim_for cache line ≡ victim
-    → (IsSome victim ↔ IsFull cache.ways line) → Placed cache slot line bytes new victim
+      → (IsSome victim ↔ IsFull cache.ways line) → Placed cache slot line bytes new victim
   placed_as new victim new_is victim_is full = record {
     is_cache = subst IsCache new_is (with_line_is_cache cache whole slot line bytes not_null known inside absent);
     full = full;
@@ -138,7 +138,7 @@ module _ (opened cache : Cache) (same : opened ≡ cache) (sound : IsCache opene
   }
 
   pub placed_free : (free : ℕ) → Some free ≡ free_in_set cache.ways line
-    → Placed cache slot line bytes
+      → Placed cache slot line bytes
       (record { ways = slice_set opened.ways (first + free) way; pointers = opened.pointers }) None
   placed_free free is = placed_as _ None
       (rw (same, first_is, way_is) (line_in_free cache slot line bytes free (sym is)))
@@ -146,9 +146,9 @@ module _ (opened cache : Cache) (same : opened ≡ cache) (sound : IsCache opene
       ((λ some. absurd (let no = some in cc)), λ full. absurd (let none = none_free cache whole line full in let yes = is in cc))
 
   pub placed_full : (victim : Victim) (pointer : ℕ) → None ≡ free_in_set cache.ways line
-    → pointer ≡ pointed opened.pointers line
-    → victim ≡ victim_of (way_at opened.ways (first + pointer))
-    → Placed cache slot line bytes
+      → pointer ≡ pointed opened.pointers line
+      → victim ≡ victim_of (way_at opened.ways (first + pointer))
+      → Placed cache slot line bytes
       (record {
         ways = slice_set opened.ways (first + pointer) way;
         pointers = slice_set opened.pointers (line % 32) ((pointed opened.pointers line + 1) % 4);

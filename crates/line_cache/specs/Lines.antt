@@ -1,5 +1,5 @@
 -- The cache as a map from lines of slots to what is cached of them.
-use Rattle.std.specs.Prelude.{ℕ, ◌+◌, ◌/◌, ◌%◌, ◌^◌, ◌≡◌, ◌≢◌, ◌≤◌, ◌<◌, List, Option, Some, None, length, IfSome}
+use Rattle.std.specs.Prelude.{ℕ, ◌+◌, ◌/◌, ◌%◌, ◌^◌, ◌≡◌, ◌≢◌, ◌≤◌, ◌<◌, ◌==◌, ◌&&◌, Bool, true, false, List, Option, Some, None, length, IfSome}
 use Rattle.line_cache.specs.declared.way.Way.{Way}
 use Rattle.line_cache.specs.declared.way.Victim.{Victim}
 use Rattle.line_cache.specs.Ways.{Cache, first_place, found, free_way, new_way, victim_of, way_at, with_way}
@@ -17,10 +17,10 @@ pub record IsCache (cache : Cache) : Type 0 where
   pub places : length cache.ways ≡ 128
   pub sets : length cache.pointers ≡ 32
   pub in_set : (place : ℕ) → IsFilled cache.ways place
-    → place / 4 ≡ (way_at cache.ways place).line % 32
+      → place / 4 ≡ (way_at cache.ways place).line % 32
   pub once : (place other : ℕ) → IsFilled cache.ways place
-    → Holds (way_at cache.ways other) (way_at cache.ways place).slot (way_at cache.ways place).line
-    → other ≡ place
+      → Holds (way_at cache.ways other) (way_at cache.ways place).slot (way_at cache.ways place).line
+      → other ≡ place
   pub known : (place : ℕ) → (way_at cache.ways place).slot ≤ 16
   pub inside : (place : ℕ) → (way_at cache.ways place).line < 2 ^ 15
 
@@ -59,7 +59,24 @@ pub record BringsIn (old new : List Way) (slot line : ℕ) (bytes : List ℕ) (v
   pub this_line : line_in new slot line ≡ Some (new_way slot line bytes)
   pub victim_line : IfSome victim (HandsOut old new)
   pub other_lines : (who other : ℕ) → who ≢ 0 → (who ≡ slot → other ≢ line)
-    → ¬ IsVictim victim who other → line_in new who other ≡ line_in old who other
+      → ¬ IsVictim victim who other → line_in new who other ≡ line_in old who other
+
+-- the way holds a line of a page of 128 lines
+abbrev pub is_in_page : ℕ → ℕ → Way → Bool
+is_in_page slot page way = (way.slot == slot) && (way.line / 128 == page)
+
+-- of the first places, this one holds the least line of the page
+pub record HoldsLeast (ways : List Way) (slot page count place : ℕ) : Type 0 where
+  pub below : place < count
+  pub its_page : is_in_page slot page (way_at ways place) ≡ true
+  pub least : (other : ℕ) → other < count → is_in_page slot page (way_at ways other) ≡ true
+      → (way_at ways place).line ≤ (way_at ways other).line
+
+-- the place with the least line of the page among the first ones, or none where none has one
+abbrev pub IsLeastAmong : List Way → ℕ → ℕ → ℕ → Option ℕ → Type 0
+IsLeastAmong ways slot page count (Some place) = HoldsLeast ways slot page count place
+IsLeastAmong ways slot page count None =
+    (place : ℕ) → place < count → is_in_page slot page (way_at ways place) ≡ false
 
 -- no line of the page is cached
 abbrev pub HasNoLine : List Way → ℕ → ℕ → Type 0
@@ -76,10 +93,10 @@ pub record TakesLeast (old new : Cache) (slot page : ℕ) (victim : Victim) : Ty
   pub cache : new ≡ with_way old place free_way
   pub gone : line_in new.ways slot victim.line ≡ None
   pub other_lines : (who line : ℕ) → who ≢ 0 → (who ≡ slot → line ≢ victim.line)
-    → line_in new.ways who line ≡ line_in old.ways who line
+      → line_in new.ways who line ≡ line_in old.ways who line
 
 -- no line of the slot is cached, and every line of another is as before
 pub record DropsSlot (old new : List Way) (slot : ℕ) : Type 0 where
   pub none : (line : ℕ) → found new slot line ≡ None
   pub other_slots : (other line : ℕ) → other ≢ 0 → other ≢ slot
-    → line_in new other line ≡ line_in old other line
+      → line_in new other line ≡ line_in old other line

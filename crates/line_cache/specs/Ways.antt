@@ -1,6 +1,6 @@
 -- The cache of private lines: 128 places in 32 sets of 4 ways, where way w of set s is place
 -- 4 s + w, and for each set a pointer to the way that is taken next once the set is full.
-use Rattle.std.specs.Prelude.{ℕ, ◌+◌, ◌*◌, ◌/◌, ◌%◌, ◌^◌, ◌==◌, ◌&&◌, ◌≡◌, ◌≢◌, ◌≤◌, ◌<◌, Bool, true, false, List, Option, Some, None, length, map, position, replicate, slice_index_or, slice_range, slice_set, if◌then◌else◌}
+use Rattle.std.specs.Prelude.{ℕ, ◌+◌, ◌*◌, ◌%◌, ◌==◌, ◌&&◌, Bool, true, false, List, Option, Some, None, map, position, replicate, slice_index_or, slice_range, slice_set, if◌then◌else◌}
 use Rattle.line_cache.specs.declared.way.Way.{Way}
 use Rattle.line_cache.specs.declared.way.Victim.{Victim}
 

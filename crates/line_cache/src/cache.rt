@@ -1,6 +1,7 @@
-ghost use Rattle.std.specs.Prelude.{◌≡◌, ◌≢◌, ◌≤◌, ◌<◌, ◌^◌, ◌↔◌, IfOk, IfSome, IsSome, None, Some, position};
+ghost use Rattle.std.specs.Prelude.{◌≡◌, ◌≢◌, ◌≤◌, ◌<◌, ◌^◌, ◌↔◌, ◌+◌, IfNone, IfOk, IfSome, IsNone, IsSome, None, Some, length, position};
 ghost use Rattle.std.specs.Borrow.{sem};
-ghost use Rattle.line_cache.specs.Ways.{empty, first_place as first_of, found, free_in_set, first_pointers as first_pointers_of_sets, is_free, is_of, no_ways, place_for, victim_for, way_at, with_line};
+ghost use Rattle.line_cache.specs.Lines.{IsLeastAmong};
+ghost use Rattle.line_cache.specs.Ways.{empty, first_place as first_of, found, free_if, free_in_set, first_pointers as first_pointers_of_sets, is_free, is_of, no_ways, place_for, victim_for, way_at, with_line, without_slot};
 
 use crate::{Victim, Way};
 use std::alloc::Global;
@@ -27,7 +28,7 @@ impl Model for LineCache {
 }
 
 impl LineCache {
-    ghost use Rattle.line_cache.specs.Lines.{BringsIn, IsFull};
+    ghost use Rattle.line_cache.specs.Lines.{BringsIn, DropsSlot, HasNoLine, IsFull, TakesLeast};
     ghost use Rattle.line_cache.specs.Lending.{LendsBytes};
 
     /// No line is cached, and each pointer is at the first way.
@@ -110,6 +111,30 @@ impl LineCache {
             }
         }
     }
+
+    /// Takes the least line of a page of a slot, 1 to 16, out of the cache: page p has the 128 lines
+    /// from 128 p on. None where none is cached, and all is then as it was. Walks all places.
+    pub fn take_page(&mut self, slot: u8, page: u32) -> Option<Victim>
+        requires { 1 ≤ slot }
+        ensures none { IsNone result ↔ HasNoLine self.old.ways slot page }
+        ensures same { IfNone result (self.new ≡ self.old) }
+        ensures least { IfSome result (λ victim. TakesLeast self.old self.new slot page victim) }
+    {
+        let place = least_of_page(&self.ways, slot, page)?;
+        let victim = self.ways[place].victim();
+        self.ways[place] = Way::free();
+        Some(victim)
+    }
+
+    /// Takes all lines of a slot, 1 to 16, out of the cache, also those that are still to be written
+    /// back. Walks all places.
+    pub fn drop_slot(&mut self, slot: u8)
+        requires { 1 ≤ slot }
+        ensures cache { self.new ≡ record self.old { ways = without_slot slot self.old.ways } }
+        ensures lines { DropsSlot self.old.ways self.new.ways slot }
+    {
+        drop_lines(&mut self.ways, slot);
+    }
 }
 
 /// The first place of a line's set.
@@ -131,6 +156,51 @@ fn first_free(set: &[Way]) -> Option<usize>
     ensures { result ≡ position is_free set.now }
 {
     set.iter().position(|way| way.is_free())
+}
+
+/// The place with the least line of a page.
+fn least_of_page(ways: &[Way], slot: u8, page: u32) -> Option<usize>
+    ensures { IsLeastAmong ways.now slot page (length ways.now) result }
+{
+    let mut least = None;
+    for place in 0..ways.len() {
+        least = lesser(ways, slot, page, least, place);
+    }
+    least
+}
+
+/// The place with the least line of a page, where one more place is looked at.
+fn lesser(ways: &[Way], slot: u8, page: u32, least: Option<usize>, place: usize) -> Option<usize>
+    requires within { place < length ways.now }
+    requires least { IsLeastAmong ways.now slot page place least }
+    ensures { IsLeastAmong ways.now slot page (place + 1) result }
+{
+    if !ways[place].is_in_page(slot, page) {
+        return least;
+    }
+    match least {
+        Some(least) => Some(if ways[place].line < ways[least].line {
+            place
+        } else {
+            least
+        }),
+        None => Some(place),
+    }
+}
+
+#[tactic(auto, using(std::proofs::lemmas::List::Edits::map_over_more))]
+fn drop_lines(ways: &mut [Way], slot: u8)
+    ensures { ways.new ≡ without_slot slot ways.old }
+{
+    for way in ways.iter_mut() {
+        *way = without(slot, way);
+    }
+}
+
+fn without(slot: u8, way: &Way) -> Way
+    ensures { result ≡ free_if slot way.now }
+{
+    if way.slot == slot { Way::free() } else { *way }
 }
 
 #[tactic(auto, unfolding(crate::specs::Ways::no_ways))]

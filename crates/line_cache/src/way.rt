@@ -1,6 +1,7 @@
 ghost use Rattle.std.specs.Prelude.{◌≡◌};
 ghost use Rattle.std.specs.Borrow.{sem};
 ghost use Rattle.line_cache.specs.Lending.{LendsWay};
+ghost use Rattle.line_cache.specs.Lines.{is_in_page};
 ghost use Rattle.line_cache.specs.Ways.{free_way, is_free, is_of, new_way, victim_of};
 
 use crate::Held;
@@ -68,6 +69,13 @@ impl Way {
         ensures { result ≡ is_of slot line self.now }
     {
         self.slot == slot && self.line == line
+    }
+
+    /// Whether it holds a line of a page of a slot.
+    pub fn is_in_page(&self, slot: u8, page: u32) -> bool
+        ensures { result ≡ is_in_page slot page self.now }
+    {
+        self.slot == slot && self.line / 128 == page
     }
 
     /// The bytes, to be written, after which they are still to be written back.
