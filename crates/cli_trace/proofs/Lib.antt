@@ -4,3 +4,4 @@ pub mod Traced
 pub mod Headline
 pub mod Statuses
 pub mod Stopped
+pub mod Places

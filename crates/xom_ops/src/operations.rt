@@ -21,7 +21,7 @@ pub fn operate(core: &mut Core, op: Op) -> u32
     ensures status { result ≡ (operation (core_of core.old) op).1 }
     ensures kept { ((slot : ℕ) → ¬ IsRunning (core_of core.old) slot) → (owners : List Owner) → Holds owners (core_of core.old) → Holds owners (core_of core.new) }
     ensures refused { 1 ≤ result → result ≤ 7 → core_of core.new ≡ core_of core.old }
-    ensures stopped { (result ≡ 8) ↔ AddsStop (core_of core.old) (core_of core.new) }
+    ensures stopped { (result ≡ 8) ↔ AddsStop op (core_of core.old) (core_of core.new) }
     ensures room { core.old.journal.spare ≤ core.new.journal.spare + EVENT_ROOM }
 {
     carry_out(core, op)
