@@ -13,6 +13,7 @@ use std::alloc::Global;
 use trace_judge::{GuestLine, Report, judge, print_report};
 use xom_base::{ByteList, Entry, NoMemory, PlainImage, RunEnd, Schedule};
 use xom_io::Files;
+use xom_journal::Journal;
 use xom_machine::{Machine, run};
 use xom_owners::{Owner, OwnerList};
 use xom_script::{RunFile, Script};
@@ -140,7 +141,7 @@ fn status(report: &Report, machine: &Machine) -> u8
 {
     if is_suspect(report) {
         9
-    } else if has_stop(machine.journal().entries()) {
+    } else if has_stop(machine.journal()) {
         8
     } else if machine.is_halted() {
         0
@@ -167,10 +168,17 @@ fn is_doubted(verdict: Verdict) -> bool
     !matches!(verdict, Verdict::Follows(_))
 }
 
-fn has_stop(entries: &[Entry]) -> bool
-    ensures { result ≡ list_any is_stop_by entries.now }
+fn has_stop(journal: &Journal) -> bool
+    ensures { result ≡ list_any is_stop_by journal.now.entries }
 {
-    entries.iter().any(|entry| is_stop(entry))
+    for i in 0..journal.len() {
+        if let Some(entry) = journal.get(i) {
+            if is_stop(&entry) {
+                return true;
+            }
+        }
+    }
+    false
 }
 
 fn is_stop(entry: &Entry) -> bool
