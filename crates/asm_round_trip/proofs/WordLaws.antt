@@ -23,7 +23,7 @@ use Rattle.asm_source.specs.declared.content.Content.TheVariants.{Instruction, W
 use Rattle.asm_syntax.specs.declared.lexeme.Lexeme.{Lexeme}
 use Rattle.asm_syntax.specs.declared.lexeme.Lexeme.TheVariants.{Name, Number}
 use Rattle.asm_syntax.specs.Arguments.{argument_of, arguments_of}
-use Rattle.asm_syntax.specs.Forms.{◌>>=◌}
+use Rattle.xom_base.specs.Options.{◌>>=◌}
 use Rattle.asm_syntax.specs.Lines.{coded_of, instruction_of, jalr_of, last_of, line_parts, mnemonic_of, part, parts_of, statement_of, word_of as words_of}
 use Rattle.asm_round_trip.proofs.PrintedLaws.{printed_is_assembled}
 use Rattle.mips_asm.specs.Encoding.{Gives, join_some, word_value}

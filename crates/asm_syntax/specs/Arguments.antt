@@ -8,7 +8,8 @@ use Rattle.asm_source.specs.declared.argument.Value.{Value}
 use Rattle.asm_source.specs.declared.argument.Value.TheVariants as «value»
 use Rattle.asm_syntax.specs.declared.lexeme.Lexeme.{Lexeme}
 use Rattle.asm_syntax.specs.declared.lexeme.Lexeme.TheVariants.{Name, Number, Register, Text, Comma, Left, Right}
-use Rattle.asm_syntax.specs.Forms.{map_some, ◌>>=◌}
+use Rattle.asm_syntax.specs.Forms.{map_some}
+use Rattle.xom_base.specs.Options.{◌>>=◌}
 
 -- the number 0
 abbrev pub zero_integer : Integer

@@ -1,12 +1,8 @@
 -- How a form of one line is written and answered.
-use Rattle.std.specs.Prelude.{◌≡◌, List, [], ◌∷◌, ◌++◌, Option, Some, None, Result, Ok, Err, option_and_then}
+use Rattle.std.specs.Prelude.{◌≡◌, List, [], ◌∷◌, ◌++◌, Option, Some, None, Result, Ok, Err}
+use Rattle.xom_base.specs.Options.{◌>>=◌}
 use Rattle.xom_base.specs.declared.lines.LineFault.{LineFault}
 use Rattle.xom_base.specs.declared.lines.LineFault.TheVariants.{Bad, NoMemory}
-
--- one step and the next, where the first has a value
-infixl 10 ◌>>=◌
-abbrev pub ◌>>=◌ : {A B : Type 0} → Option A → (A → Option B) → Option B
-o >>= f = option_and_then f o
 
 -- what each element gives, where each gives something
 abbrev pub map_some : {X Y : Type 0} → (X → Option Y) → List X → Option (List Y)

@@ -16,7 +16,8 @@ use Rattle.asm_source.specs.declared.content.Part.{Part}
 use Rattle.asm_syntax.specs.declared.lexeme.Lexeme.{Lexeme}
 use Rattle.asm_syntax.specs.declared.lexeme.Lexeme.TheVariants as lexeme
 use Rattle.asm_syntax.specs.Arguments.{arguments_of, zero_argument}
-use Rattle.asm_syntax.specs.Forms.{map_some, ◌>>=◌}
+use Rattle.asm_syntax.specs.Forms.{map_some}
+use Rattle.xom_base.specs.Options.{◌>>=◌}
 use Rattle.asm_syntax.specs.Lexing.{lexemes_of}
 
 -- ---- what an operand must be

@@ -11,7 +11,7 @@ use crate::statement::statement;
 use asm_source::{Content, Items, Part};
 use std::alloc::Global;
 use std::marker::Model;
-use xom_base::{LineFault, LineReader, TextFault, read_lines};
+use xom_base::{LineFault, LineFormat, TextFault, read_lines};
 
 /// Reads the labels and statements of a source, in their order, or answers the first line that is off
 /// the grammar. It costs time linear in the text.
@@ -49,7 +49,7 @@ impl Source {
     }
 }
 
-impl LineReader for Source {
+impl LineFormat for Source {
     ghost use Rattle.asm_syntax.specs.Lines.{source_step};
 
     type Item = ();

@@ -1,11 +1,8 @@
-ghost use Rattle.std.specs.Prelude.{◌≡◌, ◌++◌, List, [], ◌∷◌, length, OnOk, OnErr, option_copied, slice_get};
-ghost use Rattle.asm_tokens.specs.declared.token.Token.{Token};
+ghost use Rattle.std.specs.Prelude.{◌≡◌};
 ghost use Rattle.asm_tokens.specs.declared.token.TokenFault.TheVariants as fault;
 
-use std::alloc::{AllocFailed, Global};
-use std::marker::Model;
 use thiserror::Error;
-use xom_base::NoMemory;
+use xom_base::{List, NoMemory};
 
 /// What a token is.
 #[derive(Clone, Copy, Debug, PartialEq, Eq)]
@@ -60,53 +57,4 @@ impl From<NoMemory> for TokenFault {
 }
 
 /// The tokens of a line, in their order.
-#[derive(Debug, Drop)]
-pub struct TokenList {
-    items: Vec<Token>,
-}
-
-impl Model for TokenList {
-    ghost Value = { List Token };
-
-    ghost view = { λ l. l.items.items };
-}
-
-impl TokenList {
-    /// The empty list. It takes no memory.
-    pub fn new(alloc: Global) -> TokenList
-        ensures { result ≡ [] }
-    {
-        TokenList {
-            items: Vec::new(alloc),
-        }
-    }
-
-    /// Adds a token at the end. Costs constant time on average.
-    pub fn push(&mut self, item: Token) -> Result<(), NoMemory>
-        ensures ok { OnOk result (self.new ≡ self.old ++ item ∷ []) }
-        ensures err { OnErr result (self.new ≡ self.old) }
-    {
-        Ok(self.items.push(item)?)
-    }
-
-    /// How many tokens there are.
-    pub fn len(&self) -> usize
-        ensures { result ≡ length self.now }
-    {
-        self.items.len()
-    }
-
-    /// The token at a place, counted from 0.
-    pub fn get(&self, i: usize) -> Option<&Token>
-        ensures { option_copied result ≡ slice_get self.now i }
-    {
-        self.items.get(i)
-    }
-
-    /// All the tokens.
-    pub fn as_slice(&self) -> &[Token]
-        ensures { result.now ≡ self.now }
-    {
-        self.items.as_slice()
-    }
-}
+pub type TokenList = List<Token>;

@@ -16,7 +16,8 @@ use Rattle.asm_source.specs.declared.argument.Value.{Value}
 use Rattle.asm_source.specs.declared.argument.Value.TheVariants as values
 use Rattle.asm_source.specs.declared.content.Content.{Content}
 use Rattle.asm_source.specs.declared.content.Content.TheVariants.{Label, Words, Bytes, Ascii, Space, Align, Org, Entry, LoadNumber, LoadAddress, Instruction}
-use Rattle.asm_syntax.specs.Forms.{map_some, ◌>>=◌}
+use Rattle.asm_syntax.specs.Forms.{map_some}
+use Rattle.xom_base.specs.Options.{◌>>=◌}
 use Rattle.mips_asm.specs.Layout.{in_range, padding}
 use Rattle.mips_asm.specs.Passes.{Labels}
 

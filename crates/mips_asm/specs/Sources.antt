@@ -4,7 +4,7 @@ use Rattle.xom_base.specs.declared.image.PlainImage.{PlainImage}
 use Rattle.asm_source.specs.declared.content.Content.{Content}
 use Rattle.asm_source.specs.declared.content.Content.TheVariants.{Entry}
 use Rattle.asm_source.specs.declared.content.Part.{Part}
-use Rattle.asm_syntax.specs.Forms.{◌>>=◌}
+use Rattle.xom_base.specs.Options.{◌>>=◌}
 use Rattle.asm_syntax.specs.Lines.{source_of}
 use Rattle.mips_asm.specs.declared.chunk.Chunk.{Chunk}
 use Rattle.mips_asm.specs.declared.fault.AsmFault.{AsmFault}

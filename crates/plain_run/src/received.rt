@@ -7,7 +7,7 @@ ghost use Rattle.plain_run.specs.Received.{AnswersValues, IsReceived, RefusesTex
 use hex::FromHex;
 use std::alloc::Global;
 use std::marker::Model;
-use xom_base::{LineFault, LineReader, TextFault, read_lines, words};
+use xom_base::{LineFault, LineFormat, TextFault, read_lines, words};
 
 /// The values that a program receives, in their order. Contracts see them as a list.
 #[derive(Debug, Drop)]
@@ -75,7 +75,7 @@ impl Model for ValueLines {
     ghost view = { λ _. tt };
 }
 
-impl LineReader for ValueLines {
+impl LineFormat for ValueLines {
     ghost use Rattle.plain_run.specs.Received.{value_step};
 
     type Item = u32;

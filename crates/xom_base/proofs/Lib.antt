@@ -3,3 +3,5 @@ pub mod CutLaws
 pub mod HexLaws
 pub mod LineLaws
 pub mod NumberLaws
+pub mod TextLaws
+pub mod NextLaws

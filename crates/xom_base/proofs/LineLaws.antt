@@ -35,10 +35,10 @@ module _ {S X : Type 0} (step : LineStep S X) where
       rw h (with_front-append values (option_to_list value) (read_from step next (n + 1) lines))
 
 -- equal answers have equal parts
-same_Ok : {A E : Type 0} (x y : A) → ◌≡◌ {A = Result A E} (Ok x) (Ok y) → x ≡ y
+pub same_Ok : {A E : Type 0} (x y : A) → ◌≡◌ {A = Result A E} (Ok x) (Ok y) → x ≡ y
 same_Ok x y h = cc
 
-same_Err : {A E : Type 0} (x y : E) → ◌≡◌ {A = Result A E} (Err x) (Err y) → x ≡ y
+pub same_Err : {A E : Type 0} (x y : E) → ◌≡◌ {A = Result A E} (Err x) (Err y) → x ≡ y
 same_Err x y h = cc
 
 ok_parts : {A B E : Type 0} (a x : A) (b y : B) → ◌≡◌ {A = Result (A × B) E} (Ok (a, b)) (Ok (x, y)) → (a ≡ x) × (b ≡ y)
@@ -46,7 +46,7 @@ ok_parts {A} {B} {E} a x b y h =
     let e : ◌≡◌ {A = A × B} (a, b) (x, y) = same_Ok (a, b) (x, y) h in
     (ap (λ (p : A × B). p.0) e, ap (λ (p : A × B). p.1) e)
 
-ok_err : {A E : Type 0} (x : A) (e : E) → ◌≡◌ {A = Result A E} (Ok x) (Err e) → ⊥
+pub ok_err : {A E : Type 0} (x : A) (e : E) → ◌≡◌ {A = Result A E} (Ok x) (Err e) → ⊥
 ok_err x e h = cc
 
 -- what stands in front of values that are read
@@ -68,6 +68,10 @@ with_front-nil (Err bad) = refl
 -- the number of a line behind another one
 place : (n k : ℕ) → n + 1 + k ≡ n + suc k
 place n k = omega arith
+
+-- the number behind lines, of which one is read
+pub one_behind : (n : ℕ) (all : List (List ℕ)) (line : List ℕ) (lines : List (List ℕ)) → all ≡ line ∷ lines → n + 1 + length lines ≡ n + length all
+one_behind n all line lines is = rw is (place n (length lines))
 
 module _ {S X : Type 0} (step : LineStep S X) (format : Format S X) (tells : Tells step format) where
   -- one line, and what is known of those behind it

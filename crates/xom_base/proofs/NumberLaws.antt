@@ -9,7 +9,7 @@ use Rattle.std.proofs.lemmas.Option.{cond_some, none-some, option_and_then_some}
 use Rattle.std.proofs.lemmas.Slice.Eq.{bytes_eq-Decides}
 use Rattle.std.proofs.lemmas.Str.{IsUtf8-from_ascii}
 use Rattle.std.proofs.lemmas.Str.Ascii.{IsAscii-nil, IsAscii-cons}
-use Rattle.std.specs.Prelude.{◌↔◌, IfSome, IsNone, codes}
+use Rattle.std.specs.Prelude.{◌↔◌, IfSome, IsNone, codes, option_and_then}
 use Rattle.std.proofs.lemmas.Str.Parse.{without_leading_plus_none}
 use Rattle.std.specs.Cmp.Lexicographic.{pointwise}
 use Rattle.std.specs.Char.{digit_value, is_digit}
@@ -17,7 +17,7 @@ use Rattle.std.specs.List.{AllByRecursion, list_all, starts_with}
 use Rattle.std.specs.Result.{OkIff, result_ok}
 use Rattle.std.specs.Str.{IsAscii, IsUtf8, bytes_eq}
 use Rattle.std.specs.Str.Parse.{AllDigits, ParsesUnsigned, IsNumeral as IsStdNumeral, digits_value, digits_value_after}
-use Rattle.xom_base.specs.Numbers.{value, is_numeral, IsNumeral, IsNumber, Writes, if_below, numeral_of, number_of, number_below_of}
+use Rattle.xom_base.specs.Numbers.{value, is_numeral, IsDecimal, IsNumeral, IsNumber, Writes, WritesDecimal, decimal_below_of, if_below, numeral_of, number_of, number_below_of}
 
 -- ---- values
 
@@ -193,15 +193,23 @@ number_of-exact word n =
 
 -- ---- numbers below a bound
 
-pub number_below_of-exact : (bound : ℕ) (word : List ℕ) (n : ℕ) → (number_below_of bound word ≡ Some n) ↔ Writes bound word n
-unfolding number_below_of
-number_below_of-exact bound word n = (
-  λ h. option_and_then_some (if_below bound) (number_of word) n h (λ m is below.
+below-exact : (P : ℕ → Type 0) (read : Option ℕ) (bound n : ℕ) → ((m : ℕ) → (read ≡ Some m) ↔ P m)
+    → (option_and_then (if_below bound) read ≡ Some n) ↔ (P n × (n < bound))
+below-exact P read bound n exact = (
+  λ h. option_and_then_some (if_below bound) read n h (λ m is below.
       let c = cond_some (ltb m bound) m n below in
       let small : m < bound = ltb-true m bound c.0 in
-      ((number_of-exact word n).0 (is ∙ ap Some c.1), rw (sym c.1) small)),
-  λ h. rw ((number_of-exact word n).1 h.0, lt-ltb n bound h.1) refl,
+      ((exact n).0 (is ∙ ap Some c.1), rw (sym c.1) small)),
+  λ h. rw ((exact n).1 h.0, lt-ltb n bound h.1) refl,
 )
+
+pub number_below_of-exact : (bound : ℕ) (word : List ℕ) (n : ℕ) → (number_below_of bound word ≡ Some n) ↔ Writes bound word n
+unfolding number_below_of
+number_below_of-exact bound word n = below-exact (IsNumber word) (number_of word) bound n (number_of-exact word)
+
+pub decimal_below_of-exact : (bound : ℕ) (word : List ℕ) (n : ℕ) → (decimal_below_of bound word ≡ Some n) ↔ WritesDecimal bound word n
+unfolding decimal_below_of
+decimal_below_of-exact bound word n = below-exact (IsDecimal word) (numeral_of 10 word) bound n (numeral_of-exact 10 word)
 
 -- what the relation says of each value
 pub some_by_exact : {A : Type 0} (P Q : A → Type 0) (o : Option A) → ((x : A) → (o ≡ Some x) ↔ P x) → ((x : A) → P x → Q x) → IfSome o Q

@@ -1,7 +1,10 @@
 pub mod Hex
 pub mod Lines
+pub mod Memory
 pub mod Numbers
+pub mod Options
 pub mod Padded
+pub mod Results
 pub mod Steps
 pub mod Entries
 pub mod Words

@@ -1,7 +1,8 @@
 -- Lines of a text, and what a format that goes line by line makes of them.
-use Rattle.std.specs.Prelude.{◌≡◌, ℕ, ◌+◌, ◌==◌, if◌then◌else◌, List, [], ◌∷◌, ◌++◌, length, Option, Some, None, option_map, Result, Ok, Err}
+use Rattle.std.specs.Prelude.{◌≡◌, ◌⊎◌, ℕ, ◌+◌, ◌==◌, Bool, if◌then◌else◌, List, [], ◌∷◌, ◌++◌, length, Option, Some, None, option_map, Result, Ok, Err, IfOk}
 use Rattle.std.specs.List.{onto_first}
 use Rattle.std.specs.Option.{option_to_list}
+use Rattle.xom_base.specs.Memory.{OrOut}
 use Rattle.xom_base.specs.Words.{words_of}
 use Rattle.xom_base.specs.declared.lines.LineFault.{LineFault}
 use Rattle.xom_base.specs.declared.lines.LineFault.TheVariants as line_fault
@@ -50,6 +51,36 @@ OfWords row s n line (Some value) next = row s n (words_of line) value next
 abbrev pub Rows : {X : Type 0} → (List (List ℕ) → X → Type 0) → Format (Unit {0}) X
 Rows row = OfWords (λ s n words value next. row words value)
 
+-- ---- texts: relations
+
+-- The text is in the format, with this value: its lines are read from the first state on, and the value
+-- is made of theirs and of the last state.
+abbrev pub IsText : {S X A : Type 0} → Format S X → (List X → S → A) → S → List ℕ → A → Type 0
+IsText {S} {X} format make first text value =
+    (values : List X) × (last : S) × Reads format first 1 (lines_of text) values last × (value ≡ make values last)
+
+-- The same, where a text ends in these states alone.
+abbrev pub IsWholeText : {S X A : Type 0} → Format S X → (S → Type 0) → (List X → S → A) → S → List ℕ → A → Type 0
+IsWholeText {S} {X} format Ends make first text value =
+    (values : List X) × (last : S) × (Reads format first 1 (lines_of text) values last × Ends last) × (value ≡ make values last)
+
+-- The text has these values: one a line, in their order, blank lines passed over.
+abbrev pub IsRows : {X : Type 0} → (List (List ℕ) → X → Type 0) → List ℕ → List X → Type 0
+IsRows row text values = Reads (Rows row) tt 1 (lines_of text) values tt
+
+-- All lines are read, and the text may not end behind them: the line of this number, behind the last
+-- one, is missing. An empty line counts, and a line end that is missing at the end makes no further line.
+pub record EndsEarly {S X : Type 0} (format : Format S X) (Ends : S → Type 0) (first : S) (text : List ℕ) (bad : ℕ) : Type 0 where
+  pub values : List X
+  pub state : S
+  pub number : bad ≡ 1 + length (lines_of text)
+  pub reads : Reads format first 1 (lines_of text) values state
+  pub goes_on : Ends state → ⊥
+
+-- the first bad line of a text: one of its own, or the one behind the last where it ends too early
+abbrev pub IsFirstBadOf : {S X : Type 0} → Format S X → (S → Type 0) → S → List ℕ → ℕ → Type 0
+IsFirstBadOf format Ends first text bad = IsFirstBad format first 1 (lines_of text) bad ⊎ EndsEarly format Ends first text bad
+
 -- ---- formats: functions
 
 -- What a format makes of one line: nothing where it is bad, else the value if it has one, and the next state.
@@ -72,6 +103,21 @@ unfoldable pub read_from : {S X : Type 0} → LineStep S X → S → ℕ → Lis
 read_from step s n [] = Ok ([], s)
 read_from step s n (line ∷ lines) = go_on n (step s n line) (λ next. read_from step next (n + 1) lines)
 
+-- what lines give, of which the first has number 1, where the line of this number is missing if the
+-- text may not end behind them
+abbrev pub at_end : {S X : Type 0} → (S → Bool) → ℕ → Result (List X × S) ℕ → Result (List X × S) ℕ
+at_end may_end missing (Ok read) = if may_end read.1 then Ok read else Err missing
+at_end may_end missing (Err bad) = Err bad
+
+-- what the lines of a text give that may end in some states alone
+abbrev pub whole_from : {S X : Type 0} → LineStep S X → (S → Bool) → S → List ℕ → Result (List X × S) ℕ
+whole_from step may_end first text = at_end may_end (1 + length (lines_of text)) (read_from step first 1 (lines_of text))
+
+-- the value that is made of what lines give
+abbrev pub made_of : {S X A : Type 0} → (List X → S → A) → Result (List X × S) ℕ → Result A ℕ
+made_of make (Ok read) = Ok (make read.0 read.1)
+made_of make (Err bad) = Err bad
+
 -- the step makes of each line what the format says of it
 pub record Tells {S X : Type 0} (step : LineStep S X) (format : Format S X) : Type 0 where
   pub reads : (s : S) (n : ℕ) (line : List ℕ) (value : Option X) (next : S) → step s n line ≡ Some (value, next) → format s n line value next
@@ -85,6 +131,14 @@ with_words row s n (word ∷ words) = option_map (λ read. (Some read.0, read.1)
 -- the step of a format that is told by the words of its lines
 abbrev pub step_of : {S X : Type 0} → (S → ℕ → List (List ℕ) → Option (X × S)) → LineStep S X
 step_of row s n line = with_words row s n (words_of line)
+
+-- the same, where the words say the value, wherever the line stands
+abbrev pub rows_step : {X : Type 0} → (List (List ℕ) → Option X) → LineStep (Unit {0}) X
+rows_step row = step_of (λ s n words. option_map (λ value. (value, s)) (row words))
+
+-- what the lines of such a text give: their values alone, or the number of the first bad one
+abbrev pub rows_of : {X : Type 0} → (List (List ℕ) → Option X) → List ℕ → Result (List X) ℕ
+rows_of row text = made_of (λ values last. values) (read_from (rows_step row) tt 1 (lines_of text))
 
 -- ---- answers
 
@@ -101,3 +155,16 @@ AnswersLine step (Err fault) next = FaultsLine step fault
 abbrev pub Faults : {A : Type 0} → Result A ℕ → TextFault → Type 0
 Faults read (text_fault.Line bad) = read ≡ Err bad
 Faults read text_fault.NoMemory = Unit {0}
+
+-- What was answered of a text is what its lines give, unless memory ran out.
+abbrev pub AnswersRead : {A : Type 0} → Result A ℕ → Result A TextFault → Type 0
+AnswersRead read (Ok value) = read ≡ Ok value
+AnswersRead read (Err fault) = Faults read fault
+
+-- How the reader of a format answers, where a text is in the format with a value, and a line is its first
+-- bad one: what is read is in the format; what is in the format is read as that value, unless memory
+-- ran out; a line that is answered is the first bad one.
+pub record AnswersText {A : Type 0} (IsOf : A → Type 0) (IsBad : ℕ → Type 0) (result : Result A TextFault) : Type 0 where
+  pub found : IfOk result IsOf
+  pub only : (value : A) → IsOf value → OrOut text_fault.NoMemory (Ok value) result
+  pub bad : (n : ℕ) → result ≡ Err (text_fault.Line n) → IsBad n

@@ -15,15 +15,23 @@ pub record IsNumeral (base : ℕ) (word : List ℕ) : Type 0 where
   pub some : 0 < length word
   pub digits : AllByRecursion (λ digit. digit_value digit < base) word
 
+-- the word is a decimal number: digits alone, below 2^64
+abbrev pub IsDecimal : List ℕ → ℕ → Type 0
+IsDecimal word n = IsNumeral 10 word × (n ≡ value 10 word) × (n < 2 ^ 64)
+
 -- the word is a number: a decimal numeral below 2^64, or `0x` and 1 to 16 hexadecimal digits
 abbrev pub IsNumber : List ℕ → ℕ → Type 0
 IsNumber word n =
-    (IsNumeral 10 word × (n ≡ value 10 word) × (n < 2 ^ 64))
+    IsDecimal word n
     ⊎ ((digits : List ℕ) × (word ≡ codes "0x" ++ digits) × IsNumeral 16 digits × (length digits ≤ 16) × (n ≡ value 16 digits))
 
 -- the word is a number, which is below the bound
 abbrev pub Writes : ℕ → List ℕ → ℕ → Type 0
 Writes bound word n = IsNumber word n × (n < bound)
+
+-- the word is a decimal number, which is below the bound
+abbrev pub WritesDecimal : ℕ → List ℕ → ℕ → Type 0
+WritesDecimal bound word n = IsDecimal word n × (n < bound)
 
 -- ---- the same as functions, for what reads words one after another
 
@@ -49,3 +57,7 @@ if_below bound n = if nat_lt n bound then Some n else None
 -- the number of a word, where it is below the bound
 unfoldable pub number_below_of : ℕ → List ℕ → Option ℕ
 number_below_of bound word = option_and_then (if_below bound) (number_of word)
+
+-- the number of a decimal word, where it is below the bound
+unfoldable pub decimal_below_of : ℕ → List ℕ → Option ℕ
+decimal_below_of bound word = option_and_then (if_below bound) (numeral_of 10 word)

@@ -1,6 +1,6 @@
 -- The words of a line, by the general rule of all texts but assembler sources.
-use Rattle.std.specs.Prelude.{ℕ, Bool, not, ◌||◌, ◌==◌, if◌then◌else◌, List, [], ◌∷◌, length, filter, Option, Some, None, option_map}
-use Rattle.std.specs.List.{before_first, slice_split}
+use Rattle.std.specs.Prelude.{ℕ, Bool, not, ◌||◌, ◌==◌, if◌then◌else◌, List, [], ◌∷◌, length, filter, take, drop, Option, Some, None, option_map}
+use Rattle.std.specs.List.{before_first, position_or_len, slice_split}
 
 -- a space, a tab or byte 13 stands between words
 abbrev pub is_blank : ℕ → Bool
@@ -17,6 +17,35 @@ has_bytes part = not (length part == 0)
 -- what stands before the comment, cut at each blank, and of the parts those that have bytes
 abbrev pub words_of : List ℕ → List (List ℕ)
 words_of line = filter has_bytes (slice_split is_blank (before_first begins_comment line))
+
+-- ---- the words one after another
+
+-- a blank or a comment ends a word
+abbrev pub ends_word : ℕ → Bool
+ends_word byte = is_blank byte || begins_comment byte
+
+-- what stands behind the blanks at the front
+abbrev pub past_blanks : List ℕ → List ℕ
+past_blanks line = drop (position_or_len (λ byte. not (is_blank byte)) line) line
+
+-- how many bytes the word at the front has
+abbrev pub word_len : List ℕ → ℕ
+word_len line = position_or_len ends_word line
+
+-- the word at the front, if there is one, and what stands behind it
+abbrev pub word_at : List ℕ → Option (List ℕ × List ℕ)
+word_at line = if word_len line == 0 then None else Some (take (word_len line) line, drop (word_len line) line)
+
+-- the first word of a line, if it has one, and what stands behind it
+abbrev pub next_of : List ℕ → Option (List ℕ × List ℕ)
+next_of line = word_at (past_blanks line)
+
+-- the words of a line, by the first one
+abbrev pub after_word : Option (List ℕ × List ℕ) → List (List ℕ)
+after_word None = []
+after_word (Some parts) = parts.0 ∷ words_of parts.1
+
+-- ---- texts cut at a byte
 
 -- a byte in front of the first part
 abbrev pub with_byte : ℕ → List ℕ × List ℕ → List ℕ × List ℕ

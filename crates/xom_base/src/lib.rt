@@ -2,7 +2,8 @@
 //! texts are read.
 //!
 //! The values say nothing of the machine: what they mean there is said in the crates above. A format
-//! that goes line by line is a `LineReader`, and `read_lines` is the one loop over lines.
+//! that goes line by line is a `LineFormat`, read by `read_lines`, or by `read_whole` where its text
+//! may end too early. `List` is the one list of items.
 #![tactic(auto)]
 
 mod chunk;
@@ -22,13 +23,15 @@ mod step;
 pub use chunk::Chunk;
 pub use entry::Entry;
 pub use event::{Cause, Event, Op, Outcome, OwnFault, Rule, RunEnd, Turn};
-pub use hex_words::{hex16, hex32};
+pub use hex_words::{hex_into, hex_list, hex16, hex32};
 pub use image::PlainImage;
 pub use key::{ImageId, Key128, Key256};
-pub use line_words::{cut, words};
-pub use lines::{LineFault, LineReader, TextFault, read_lines, split_lines};
-pub use list::{ByteList, NoMemory, NumberList};
-pub use numbers::{number, number_below};
+pub use line_words::{cut, few_words, next_word, words};
+pub use lines::{
+    LineFault, LineFormat, TextFault, WholeFormat, read_lines, read_whole, split_lines,
+};
+pub use list::{ByteList, List, NoMemory, NumberList};
+pub use numbers::{decimal, decimal_below, number, number_below};
 pub use payload::{Block, Payload, Short};
 pub use schedule::{Interrupts, Schedule};
 pub use step::{Received, Released, Step, StepEnd, Stored, Writes, step_eq};

@@ -1,8 +1,8 @@
-ghost use Rattle.std.specs.Prelude.{◌≡◌, ◌<◌, ◌∷◌, ◌++◌, ℕ, List, Option, Ok, length, map, IfOk, MatchResult, OnOk};
+ghost use Rattle.std.specs.Prelude.{◌≡◌, ◌<◌, ◌+◌, ◌∷◌, ◌++◌, ℕ, Bool, List, Option, Ok, length, map, IfOk, MatchResult, OnOk};
 ghost use Rattle.std.specs.Option.{option_to_list};
 ghost use Rattle.xom_base.specs.declared.lines.LineFault.TheVariants as line_fault;
 ghost use Rattle.xom_base.specs.declared.lines.TextFault.TheVariants as text_fault;
-ghost use Rattle.xom_base.specs.Lines.{AnswersLine, Faults, lines_of, read_from};
+ghost use Rattle.xom_base.specs.Lines.{AnswersLine, Faults, lines_of, read_from, whole_from};
 
 use crate::{NoMemory, cut};
 use std::alloc::Global;
@@ -45,8 +45,9 @@ pub enum LineFault {
     NoMemory,
 }
 
-/// A format that goes line by line. The reader is what it keeps of the lines before.
-pub trait LineReader {
+/// A format that goes line by line. The reader is what it keeps of the lines before. A text may end
+/// behind each of its lines.
+pub trait LineFormat {
     /// What a line that isn't passed over gives.
     type Item: Drop;
 
@@ -63,16 +64,57 @@ pub trait LineReader {
         ensures { AnswersLine (step self.old number line.now) result self.new };
 }
 
+/// A format whose text may end too early: it says in which states a text may end.
+pub trait WholeFormat: LineFormat {
+    ghost may_end: { Self → Bool };
+
+    /// Whether the text may end behind the lines that were read.
+    fn may_end(&self) -> bool
+        ensures { result ≡ may_end self.now };
+}
+
 /// Reads the lines of a text in their order: gives their values and leaves the reader behind the last
 /// one, or answers the number of the first bad line. It costs time linear in the text, beside what the
 /// reader costs.
-pub fn read_lines<R: LineReader>(
+pub fn read_lines<R: LineFormat>(
     alloc: Global,
     text: &[u8],
     reader: &mut R,
 ) -> Result<Vec<R::Item>, TextFault>
     ensures { let read = read_from R.step reader.old 1 (lines_of text.now) in
         MatchResult result (λ values. read ≡ Ok (values.items, reader.new)) (λ fault. Faults read fault) }
+{
+    let (values, _) = read_counted(alloc, text, reader)?;
+    Ok(values)
+}
+
+/// The same for a format whose text may end too early: the bad line is then the one behind the last.
+/// A line end that is missing at the end of the text makes no further line.
+pub fn read_whole<R: WholeFormat>(
+    alloc: Global,
+    text: &[u8],
+    reader: &mut R,
+) -> Result<Vec<R::Item>, TextFault>
+    ensures { let read = whole_from R.step R.may_end reader.old text.now in
+        MatchResult result (λ values. read ≡ Ok (values.items, reader.new)) (λ fault. Faults read fault) }
+{
+    let (values, number) = read_counted(alloc, text, reader)?;
+    if reader.may_end() {
+        Ok(values)
+    } else {
+        Err(TextFault::Line(number))
+    }
+}
+
+/// The values of the lines, and the number of the line that would come behind the last one.
+fn read_counted<R: LineFormat>(
+    alloc: Global,
+    text: &[u8],
+    reader: &mut R,
+) -> Result<(Vec<R::Item>, u64), TextFault>
+    ensures value { let read = read_from R.step reader.old 1 (lines_of text.now) in
+        MatchResult result (λ found. read ≡ Ok (found.0.items, reader.new)) (λ fault. Faults read fault) }
+    ensures number { IfOk result (λ found. found.1 ≡ 1 + length (lines_of text.now)) }
 {
     let mut values = Vec::new(alloc);
     let mut rest = text;
@@ -88,7 +130,7 @@ pub fn read_lines<R: LineReader>(
         rest = after;
         number += 1;
     }
-    Ok(values)
+    Ok((values, number))
 }
 
 /// Adds a value, if there is one.

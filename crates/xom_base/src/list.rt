@@ -1,4 +1,4 @@
-ghost use Rattle.std.specs.Prelude.{◌≡◌, ◌++◌, List, ℕ, [], ◌∷◌, length, OnOk, OnErr, option_copied, slice_get};
+ghost use Rattle.std.specs.Prelude.{◌≡◌, ◌==◌, ◌++◌, [], ◌∷◌, length, IfOk, OnOk, OnErr, option_copied, replicate, slice_get};
 
 use std::alloc::{AllocError, AllocFailed, Global};
 use std::marker::Model;
@@ -19,113 +19,107 @@ impl<T: Drop> From<AllocFailed<T>> for NoMemory {
     }
 }
 
-/// A growing list of bytes.
+/// A growing list. Contracts see it as its items in their order.
 #[derive(Debug, Drop)]
-pub struct ByteList {
-    items: Vec<u8>,
+pub struct List<T> {
+    items: Vec<T>,
 }
 
-impl Model for ByteList {
-    ghost Value = { List ℕ };
-
-    ghost view = { λ l. l.items.items };
-}
-
-impl ByteList {
-    /// The empty list. It takes no memory.
-    pub fn new(alloc: Global) -> ByteList
-        ensures { result ≡ [] }
-    {
-        ByteList {
-            items: Vec::new(alloc),
-        }
-    }
-
-    /// The list of these bytes.
-    pub fn from_vec(items: Vec<u8>) -> ByteList
-        ensures { result ≡ items.items }
-    {
-        ByteList { items }
-    }
-
-    /// Adds a byte at the end. Costs constant time on average.
-    pub fn push(&mut self, item: u8) -> Result<(), NoMemory>
-        ensures ok { OnOk result (self.new ≡ self.old ++ item ∷ []) }
-        ensures err { OnErr result (self.new ≡ self.old) }
-    {
-        Ok(self.items.push(item)?)
-    }
-
-    /// How many bytes there are.
-    pub fn len(&self) -> usize
-        ensures { result ≡ length self.now }
-    {
-        self.items.len()
-    }
-
-    /// The byte at a place, counted from 0.
-    pub fn get(&self, i: usize) -> Option<&u8>
-        ensures { option_copied result ≡ slice_get self.now i }
-    {
-        self.items.get(i)
-    }
-
-    /// All the bytes.
-    pub fn as_slice(&self) -> &[u8]
-        ensures { result.now ≡ self.now }
-    {
-        self.items.as_slice()
-    }
-}
+/// A growing list of bytes.
+pub type ByteList = List<u8>;
 
 /// A growing list of numbers.
-#[derive(Debug, Drop)]
-pub struct NumberList {
-    items: Vec<u64>,
-}
+pub type NumberList = List<u64>;
 
-impl Model for NumberList {
-    ghost Value = { List ℕ };
+impl<T> Model for List<T> {
+    ghost use Rattle.std.specs.Prelude.{List};
+
+    ghost Value = { List T };
 
     ghost view = { λ l. l.items.items };
 }
 
-impl NumberList {
+impl<T> List<T> {
     /// The empty list. It takes no memory.
-    pub fn new(alloc: Global) -> NumberList
+    pub fn new(alloc: Global) -> List<T>
         ensures { result ≡ [] }
     {
-        NumberList {
+        List {
             items: Vec::new(alloc),
         }
     }
 
-    /// Adds a number at the end. Costs constant time on average.
-    pub fn push(&mut self, item: u64) -> Result<(), NoMemory>
-        ensures ok { OnOk result (self.new ≡ self.old ++ item ∷ []) }
-        ensures err { OnErr result (self.new ≡ self.old) }
+    /// The list of these items.
+    pub fn from_vec(items: Vec<T>) -> List<T>
+        ensures { result ≡ items.items }
     {
-        Ok(self.items.push(item)?)
+        List { items }
     }
 
-    /// How many numbers there are.
+    /// The items as a `Vec`.
+    pub fn into_vec(self) -> Vec<T>
+        ensures { result.items ≡ self }
+    {
+        self.items
+    }
+
+    /// How many items there are.
     pub fn len(&self) -> usize
         ensures { result ≡ length self.now }
     {
         self.items.len()
     }
 
-    /// The number at a place, counted from 0.
-    pub fn get(&self, i: usize) -> Option<&u64>
+    /// Whether there is none.
+    pub fn is_empty(&self) -> bool
+        ensures { result ≡ (length self.now == 0) }
+    {
+        self.items.is_empty()
+    }
+
+    /// The item at a place, counted from 0.
+    pub fn get(&self, i: usize) -> Option<&T>
         ensures { option_copied result ≡ slice_get self.now i }
     {
         self.items.get(i)
     }
 
-    /// All the numbers.
-    pub fn as_slice(&self) -> &[u64]
+    /// All the items.
+    pub fn as_slice(&self) -> &[T]
         ensures { result.now ≡ self.now }
     {
         self.items.as_slice()
+    }
+}
+
+impl<T: Drop> List<T> {
+    /// Adds an item at the end. Costs constant time on average.
+    pub fn push(&mut self, item: T) -> Result<(), NoMemory>
+        ensures ok { OnOk result (self.new ≡ self.old ++ item ∷ []) }
+        ensures err { OnErr result (self.new ≡ self.old) }
+    {
+        Ok(self.items.push(item)?)
+    }
+}
+
+impl<T: Copy> List<T> {
+    /// A copy of these items. It costs time linear in their number.
+    pub fn from_slice(alloc: Global, items: &[T]) -> Result<List<T>, NoMemory>
+        ensures { IfOk result (λ copy. copy ≡ items.now) }
+    {
+        Ok(List {
+            items: Vec::from_slice(alloc, items)?,
+        })
+    }
+}
+
+impl List<u8> {
+    /// So many zero bytes.
+    pub fn zeros(alloc: Global, count: usize) -> Result<ByteList, NoMemory>
+        ensures { IfOk result (λ zeros. zeros ≡ replicate count 0) }
+    {
+        Ok(List {
+            items: vec![in alloc; 0; count]?,
+        })
     }
 }

@@ -1,5 +1,5 @@
 ghost use Rattle.std.specs.Prelude.{◌≡◌, ◌↔◌, ◌<◌, ◌≤◌, ℕ, IsNone, IfSome, Some};
-ghost use Rattle.xom_base.specs.Numbers.{IsNumber, Writes, numeral_of, number_of, number_below_of};
+ghost use Rattle.xom_base.specs.Numbers.{IsDecimal, IsNumber, Writes, WritesDecimal, decimal_below_of, numeral_of, number_of, number_below_of};
 
 /// The number of a word: decimal digits, leading zeros allowed, below 2^64, or `0x` and 1 to 16
 /// hexadecimal digits in either case. None exactly where the word is no such number.
@@ -19,6 +19,33 @@ pub fn number_below(word: &[u8], bound: u64) -> Option<u64>
     ensures value { result ≡ number_below_of bound word.now }
 {
     below(word, bound)
+}
+
+/// The number of a decimal word: digits alone, leading zeros allowed, below 2^64. None exactly where
+/// the word is no such number.
+pub fn decimal(word: &[u8]) -> Option<u64>
+    ensures exact { (n : ℕ) → (result ≡ Some n) ↔ IsDecimal word.now n }
+    ensures none { IsNone result ↔ ((n : ℕ) → ¬ IsDecimal word.now n) }
+    ensures value { result ≡ numeral_of 10 word.now }
+{
+    numeral(word, 10)
+}
+
+/// The number of a decimal word, where it is below a bound.
+pub fn decimal_below(word: &[u8], bound: u64) -> Option<u64>
+    ensures exact { (n : ℕ) → (result ≡ Some n) ↔ WritesDecimal bound word.now n }
+    ensures small { IfSome result (λ n. n < bound) }
+    ensures none { IsNone result ↔ ((n : ℕ) → ¬ WritesDecimal bound word.now n) }
+    ensures value { result ≡ decimal_below_of bound word.now }
+{
+    decimal_in(word, bound)
+}
+
+#[tactic(auto, unfolding(crate::specs::Numbers::decimal_below_of))]
+fn decimal_in(word: &[u8], bound: u64) -> Option<u64>
+    ensures { result ≡ decimal_below_of bound word.now }
+{
+    numeral(word, 10).filter(|n| *n < bound)
 }
 
 #[tactic(auto, unfolding(crate::specs::Numbers::number_below_of))]

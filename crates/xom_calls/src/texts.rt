@@ -5,7 +5,7 @@ use std::alloc::Global;
 use std::test::Fail;
 use text_pieces::{hex8, push_bytes, push_decimal, push_hex8};
 use xom_base::{
-    Block, ByteList, Chunk, Interrupts, LineFault, LineReader, NumberList, Op, Payload, Short,
+    Block, ByteList, Chunk, Interrupts, LineFault, LineFormat, NumberList, Op, Payload, Short,
     TextFault, read_lines, split_lines, words,
 };
 use xom_script::{read_run, read_script};
@@ -46,7 +46,7 @@ fn pieces_stand_one_behind_the_other(rt: HostRuntime) -> Result<(), Fail> {
 #[derive(Drop)]
 struct Lengths;
 
-impl LineReader for Lengths {
+impl LineFormat for Lengths {
     ghost use Rattle.std.specs.Prelude.{Some, None, ◌==◌, length, nat_lt, if◌then◌else◌};
 
     type Item = usize;

@@ -5,7 +5,7 @@ use Rattle.xom_base.specs.Hex.{hex_of}
 use Rattle.xom_base.specs.Numbers.{number_below_of}
 use Rattle.xom_base.specs.declared.key.ImageId.{ImageId}
 use Rattle.xom_base.specs.declared.key.Key256.{Key256}
-use Rattle.xom_script.specs.Forms.{◌>>=◌}
+use Rattle.xom_base.specs.Options.{◌>>=◌}
 
 pub data Row : Type 0 where
   -- assembles a source, and writes its plain image

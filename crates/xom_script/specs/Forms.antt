@@ -1,5 +1,5 @@
 -- How the reader of a form answers, and how the function of a form is written.
-use Rattle.std.specs.Prelude.{◌≡◌, Bool, if◌then◌else◌, Option, Some, None, Result, Ok, Err, option_and_then}
+use Rattle.std.specs.Prelude.{◌≡◌, Bool, if◌then◌else◌, Option, Some, None, Result, Ok, Err}
 use Rattle.xom_script.specs.declared.fault.FormFault.{FormFault}
 use Rattle.xom_script.specs.declared.fault.FormFault.TheVariants.{NotBuilt, NoMemory}
 
@@ -12,11 +12,6 @@ Refuses form NoMemory = Unit {0}
 abbrev pub AnswersForm : {A : Type 0} → Option A → Result A FormFault → Type 0
 AnswersForm form (Ok value) = form ≡ Some value
 AnswersForm form (Err fault) = Refuses form fault
-
--- one step and the next, where the first has a value
-infixl 10 ◌>>=◌
-abbrev pub ◌>>=◌ : {A B : Type 0} → Option A → (A → Option B) → Option B
-o >>= f = option_and_then f o
 
 -- the value where the test holds
 abbrev pub where_holds : {A : Type 0} → Bool → A → Option A

@@ -3,7 +3,8 @@ use Rattle.std.specs.Prelude.{◌≡◌, ℕ, ◌^◌, ◌<◌, ◌≤◌, ◌&&
 use Rattle.std.specs.List.{AllZip, slice_split, starts_with, join_with_byte, list_all}
 use Rattle.std.specs.Option.{option_map_or}
 use Rattle.std.specs.Str.{IsUtf8, bytes_eq, is_utf8}
-use Rattle.xom_script.specs.Forms.{◌>>=◌, where_holds}
+use Rattle.xom_script.specs.Forms.{where_holds}
+use Rattle.xom_base.specs.Options.{◌>>=◌}
 use Rattle.xom_base.specs.Hex.{IsHex, hex_of}
 use Rattle.xom_base.specs.Lines.{lines_of}
 use Rattle.xom_base.specs.Numbers.{Writes, IsNumber, number_of, number_below_of}

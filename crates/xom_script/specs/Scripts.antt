@@ -1,7 +1,8 @@
 -- Scripts: one operation a line.
 use Rattle.std.specs.Prelude.{◌≡◌, ℕ, ◌^◌, ◌==◌, if◌then◌else◌, List, [], ◌∷◌, codes, Option, Some, None, Result, Ok, Err, option_map}
 use Rattle.std.specs.Str.{bytes_eq}
-use Rattle.xom_script.specs.Forms.{◌>>=◌, where_holds}
+use Rattle.xom_script.specs.Forms.{where_holds}
+use Rattle.xom_base.specs.Options.{◌>>=◌}
 use Rattle.xom_base.specs.Lines.{LineStep, Reads, Rows, lines_of, read_from, step_of}
 use Rattle.xom_base.specs.Numbers.{Writes, number_below_of}
 use Rattle.xom_base.specs.declared.event.Op.{Op}

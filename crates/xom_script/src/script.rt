@@ -7,7 +7,7 @@ ghost use Rattle.xom_base.specs.declared.event.Op.{Op as OpValue};
 use crate::FormFault;
 use std::alloc::Global;
 use std::marker::Model;
-use xom_base::{LineFault, LineReader, Op, TextFault, number_below, read_lines, words};
+use xom_base::{LineFault, LineFormat, Op, TextFault, number_below, read_lines, words};
 
 /// The operations of a kernel that follows a script, in their order. Contracts see them as a list.
 #[derive(Drop)]
@@ -69,7 +69,7 @@ impl Model for OpLines {
     ghost view = { λ _. tt };
 }
 
-impl LineReader for OpLines {
+impl LineFormat for OpLines {
     ghost use Rattle.xom_script.specs.Scripts.{op_step};
 
     type Item = Op;
