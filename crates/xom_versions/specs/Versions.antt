@@ -23,8 +23,8 @@ pub record Versions : Type 0 where
   pub texts_of_raise : Store → ℕ → List ℕ → List (List ℕ)
 
 -- a journal with the entries of these texts
-abbrev pub hashed : List Entry → List (List ℕ) → List Entry
-hashed entries texts = entries ++ map hash_entry texts
+abbrev pub with_hashes : List Entry → List (List ℕ) → List Entry
+with_hashes entries texts = entries ++ map hash_entry texts
 
 -- an image line begins at version 1, every other at 0
 abbrev pub start_version : ℕ → ℕ → ℕ
@@ -42,21 +42,21 @@ with_version numbers line number other = if other == line then number else numbe
 pub record VersionLaw (v : Versions) (Stands : Store → List Entry → (ℕ → ℕ) → Type 0) : Type 0 where
   -- a build makes the store stand for the start versions
   pub builds : (entries : List Entry) (area lines : ℕ) (ram : List ℕ) → lines ≤ line_limit
-      → Stands (v.store_after_build area lines ram) (hashed entries (v.texts_of_build area lines ram)) (start_version lines)
+      → Stands (v.store_after_build area lines ram) (with_hashes entries (v.texts_of_build area lines ram)) (start_version lines)
   -- a version that is answered is the line's number, unless the journal holds a collision
   pub versions : (entries : List Entry) (store : Store) (numbers : ℕ → ℕ) (line number : ℕ) (ram : List ℕ)
-      → Stands store entries numbers → line < line_limit → NoCollision (hashed entries (v.texts_of_version store line ram))
+      → Stands store entries numbers → line < line_limit → NoCollision (with_hashes entries (v.texts_of_version store line ram))
       → v.answer_of_version store line ram ≡ Ok number → number ≡ numbers line
   -- a raise that is answered gives the next number, and the store then stands for it, unless the journal holds a collision
   pub raises : (entries : List Entry) (store : Store) (numbers : ℕ → ℕ) (line number : ℕ) (ram : List ℕ)
-      → Stands store entries numbers → line < line_limit → NoCollision (hashed entries (v.texts_of_raise store line ram))
+      → Stands store entries numbers → line < line_limit → NoCollision (with_hashes entries (v.texts_of_raise store line ram))
       → v.answer_of_raise store line ram ≡ Ok number
       → (number ≡ next_version (numbers line))
-      × Stands (v.store_after_raise store line ram) (hashed entries (v.texts_of_raise store line ram)) (with_version numbers line number)
+      × Stands (v.store_after_raise store line ram) (with_hashes entries (v.texts_of_raise store line ram)) (with_version numbers line number)
   -- after a torn raise the store stands for what it stood for
   pub torn : (entries : List Entry) (store : Store) (numbers : ℕ → ℕ) (line : ℕ) (ram : List ℕ) (fault : Torn)
       → Stands store entries numbers → line < line_limit → v.answer_of_raise store line ram ≡ Err fault
-      → Stands (v.store_after_raise store line ram) (hashed entries (v.texts_of_raise store line ram)) numbers
+      → Stands (v.store_after_raise store line ram) (with_hashes entries (v.texts_of_raise store line ram)) numbers
   -- for what it stands in a journal, it stands in each longer one
   pub longer : (entries more : List Entry) (store : Store) (numbers : ℕ → ℕ) → Stands store entries numbers → Stands store (entries ++ more) numbers
   -- the numbers of the lines that there are alone count
