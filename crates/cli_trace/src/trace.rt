@@ -80,7 +80,7 @@ fn traced(alloc: Global, parts: Parts) -> Result<Answer, NoMemory>
     let machine = ran(alloc, &owner, &file.schedule, file.budget, script)?;
     let mut owners = OwnerList::new(alloc);
     owners.push(owner)?;
-    let report = judge(alloc, &owners, machine.journal())?;
+    let report = judge(alloc, &file.machine, &owners, machine.journal())?;
     answer(alloc, &report, &machine)
 }
 
