@@ -1,5 +1,5 @@
 -- The proof that versions on chip keep the law.
-use Rattle.std.proofs.Common.{◌≡◌, inl, inr, cond, Bool, ℕ, ◌+◌, ◌-◌, ◌%◌, ◌<◌, ◌≤◌, ◌^◌, List, [], ◌++◌, Result, Ok, Some, None, length, get_or, set, replicate, refl, sym, ◌∙◌, ap, arith, true, false, length-set}
+use Rattle.std.proofs.Common.{◌≡◌, inl, inr, cond, Bool, ℕ, ◌-◌, ◌<◌, ◌≤◌, List, [], ◌++◌, Result, Ok, length, get_or, set, replicate, refl, sym, ◌∙◌, ap, arith, true, false, length-set}
 use Rattle.std.specs.Prelude.{nat_lt}
 use Rattle.std.proofs.lemmas.List.{get_or-append_right, get_or-replicate, get_or-set_other, get_or-set_same, get_or_append_left, length-append, length-replicate}
 use Rattle.std.proofs.lemmas.Bool.Decides.{eqb_tells, nat_tests}
