@@ -4,7 +4,6 @@
 //! judges none: the cryptography of `owned`. The benchmark of judging times them.
 #![tactic(auto)]
 
-use image_sealer::OwnerSealing;
 use std::alloc::Global;
 use std::process::ExitCode;
 use std::{env, io};
@@ -78,9 +77,10 @@ fn lines_of_report(alloc: Global, work: Work, count: u64) -> Result<u64, NoMemor
     if let Work::Sealings = work {
         return Ok(sealed(count));
     }
+    let accept = owned();
     let mut judge = Judge::new(alloc, &MACHINE, &owners)?;
     for i in 0..count {
-        judge.feed(&entry(work, i))?;
+        judge.feed(&entry(work, i, &accept))?;
     }
     lines(&judge.report()?)
 }
@@ -123,13 +123,13 @@ fn line() -> [u8; 32] {
 }
 
 /// The entry at a place, counted from 0.
-fn entry(work: Work, i: u64) -> Entry {
+fn entry(work: Work, i: u64, accept: &Entry) -> Entry {
     match work {
         Work::Installs if i % 2 == 0 => install(i / 2 + 1),
         Work::Installs => Entry::Kill { install: i / 2 + 1 },
         _ if i == 0 => install(1),
         Work::Steps => step(i - 1),
-        Work::Owned => owned(),
+        Work::Owned => *accept,
         _ => mixed(i - 1),
     }
 }
