@@ -1,4 +1,4 @@
-ghost use Rattle.std.specs.Prelude.{◌≡◌, ◌≤◌, ◌^◌, IfOk, false, option_map, slice_get, string_bytes, unwrap_or};
+ghost use Rattle.std.specs.Prelude.{◌≡◌, ◌≤◌, ◌^◌, IfOk, string_bytes};
 ghost use Rattle.std.specs.List.{list_any};
 ghost use Rattle.cli_base.specs.Commands.{IsDone};
 ghost use Rattle.cli_base.specs.Readings.{Gives};
@@ -102,7 +102,7 @@ pub fn judged(alloc: Global, parts: Parts) -> Result<JudgedRun, NoMemory>
     let machine = ran(alloc, &owner, &file.schedule, file.budget, script)?;
     let mut owners = OwnerList::new(alloc);
     owners.push(owner)?;
-    let report = judge(alloc, &owners, machine.journal())?;
+    let report = judge(alloc, &file.machine, &owners, machine.journal())?;
     Ok(JudgedRun { machine, report })
 }
 
