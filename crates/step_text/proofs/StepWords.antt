@@ -239,7 +239,14 @@ step_found (pc ∷ npc ∷ w ∷ s ∷ g ∷ r ∷ e ∷ []) step h =
     steps _ (end_of e) step h (λ e_v e_is h.
     subst (IsStep (pc ∷ npc ∷ w ∷ s ∷ g ∷ r ∷ e ∷ []))
     (same_Some record { pc = pc_n; npc = npc_n; writes = w_v; stored = s_v; received = g_v; released = r_v; end = e_v } step h) (
-      pc, npc, w, s, g, r, e, refl,
+      pc,
+      npc,
+      w,
+      s,
+      g,
+      r,
+      e,
+      refl,
       (hex8_of-exact pc pc_n).0 pc_is,
       (hex8_of-exact npc npc_n).0 npc_is,
       writes_found w w_v w_is,

@@ -141,8 +141,8 @@ unfoldable pub writes_of : List ℕ → Option Writes
 writes_of word =
     if bytes_eq word (codes "-") then Some writes.Nothing
     else or_else
-      (option_map (λ cell. writes.One cell.0 cell.1) (cell_of word))
-      (option_map (λ pair. writes.Pair pair.0 pair.1) (named_pair_of (codes "hl=") word))
+    (option_map (λ cell. writes.One cell.0 cell.1) (cell_of word))
+    (option_map (λ pair. writes.Pair pair.0 pair.1) (named_pair_of (codes "hl=") word))
 
 -- the stored bytes, behind their address
 unfoldable pub bytes_at_of : ℕ → List ℕ → Option Stored
@@ -165,17 +165,17 @@ unfoldable pub received_of : List ℕ → Option Received
 received_of word =
     if bytes_eq word (codes "-") then Some received.Nothing
     else or_else
-      (option_map received.Cell (named_hex8_of (codes "cell=") word))
-      (or_else
-        (option_map (λ pair. received.Null pair.0 pair.1) (named_pair_of (codes "null=") word))
-        (option_map received.Signal (named_number_of (codes "signal=") word)))
+    (option_map received.Cell (named_hex8_of (codes "cell=") word))
+    (or_else
+    (option_map (λ pair. received.Null pair.0 pair.1) (named_pair_of (codes "null=") word))
+    (option_map received.Signal (named_number_of (codes "signal=") word)))
 
 unfoldable pub released_of : List ℕ → Option Released
 released_of word =
     if bytes_eq word (codes "-") then Some released.Nothing
     else or_else
-      (option_map (λ cell. released.Cell cell.0 cell.1) (cell_of word))
-      (option_map (λ pair. released.Null pair.0 pair.1) (named_pair_of (codes "null=") word))
+    (option_map (λ cell. released.Cell cell.0 cell.1) (cell_of word))
+    (option_map (λ pair. released.Null pair.0 pair.1) (named_pair_of (codes "null=") word))
 
 unfoldable pub end_of : List ℕ → Option StepEnd
 end_of word =

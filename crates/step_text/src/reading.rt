@@ -5,9 +5,7 @@ ghost use Rattle.xom_base.specs.Numbers.{number_below_of};
 ghost use Rattle.step_text.specs.StepFields.{behind as behind_of, bytes_at_of, cell_of, count_below_of, end_of, fault_of, hex8_of, low_bytes, named_hex8_of, named_number_of, named_pair_of, pair_of, received_of, released_of, step_of, stored_bytes_of, stored_of, writes_of};
 
 use hex::FromHex;
-use xom_base::{
-    OwnFault, Received, Released, Step, StepEnd, Stored, Writes, cut, number_below,
-};
+use xom_base::{OwnFault, Received, Released, Step, StepEnd, Stored, Writes, cut, number_below};
 
 /// The step of seven words, in the order PC NPC WRITES STORED RECEIVED RELEASED END. None exactly where
 /// the words aren't those of a step. It takes no memory.
