@@ -14,7 +14,7 @@ use mips_plain::Plain;
 use std::alloc::Global;
 use std::mem::replace;
 use xom_base::{Entry, ImageId, NoMemory, Step};
-use xom_owners::OwnerList;
+use xom_owners::{OwnerList, owner_of};
 
 /// What is known of an install's steps so far.
 #[derive(Drop)]
@@ -102,7 +102,7 @@ impl Guest {
     ) -> Result<Guest, NoMemory>
         ensures { IfOk result (λ g. g ≡ new_guest owners.now install slot id) }
     {
-        let watch = match owners.of_id(&id) {
+        let watch = match owner_of(owners, &id) {
             None => Watch::NoOwner,
             Some(owner) => Watch::Runs {
                 plain: Plain::new(alloc, &owner.plain)?,

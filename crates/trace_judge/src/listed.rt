@@ -8,7 +8,7 @@ use crate::{GuestEnd, GuestLine, GuestLineList, Verdict};
 use mips_plain::Plain;
 use std::alloc::Global;
 use xom_base::{Entry, ImageId, NoMemory};
-use xom_owners::OwnerList;
+use xom_owners::{OwnerList, owner_of};
 
 /// A line for each Install entry, in their order, of entries that keep no rules. Goes over them once for
 /// each install.
@@ -64,7 +64,7 @@ fn verdict(
 ) -> Result<Verdict, NoMemory>
     ensures { IfOk result (λ v. v ≡ verdict_of owners.now entries.now install id.now) }
 {
-    match owners.of_id(id) {
+    match owner_of(owners, id) {
         None => Ok(Verdict::NoOwner),
         Some(owner) => Ok(follow(Plain::new(alloc, &owner.plain)?, install, entries)),
     }

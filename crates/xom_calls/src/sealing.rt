@@ -5,7 +5,7 @@ use image_sealer::seal;
 use std::test::Fail;
 use xom_base::{ByteList, ImageId, Key256, PlainImage};
 use xom_image::{ImageFault, SealedLineList, read_plain, read_sealed, write_plain, write_sealed};
-use xom_owners::OwnerList;
+use xom_owners::{OwnerList, owner_of};
 use xom_seal::{LineName, SealedLine, Unwrapped, image_keys, unseal_line, unwrap};
 
 /// The key of the machine that images are sealed for.
@@ -57,10 +57,10 @@ fn the_first_owner_of_an_id_is_found(rt: HostRuntime) -> Result<(), Fail> {
     owners.push(owner_of(image_of(rt.alloc(), &[])?, 99, 8))?;
     assert!(rt; owners.len() == 17);
     for id in 1..17 {
-        let found = owners.of_id(&ImageId([id; 16]));
+        let found = owner_of(&owners, &ImageId([id; 16]));
         assert_eq!(rt; found.map(|owner| owner.key.0[31]), Some(id));
     }
-    assert!(rt; owners.of_id(&ImageId([17; 16])).is_none());
+    assert!(rt; owner_of(&owners, &ImageId([17; 16])).is_none());
     Ok(())
 }
 

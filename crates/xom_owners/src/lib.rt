@@ -3,4 +3,4 @@
 
 mod owner;
 
-pub use owner::{Owner, OwnerList};
+pub use owner::{Owner, OwnerList, owner_of};
