@@ -3,6 +3,8 @@ ghost use Rattle.std.specs.Borrow.{sem, Lends};
 
 use std::marker::Model;
 
+/// A value that is lent whole, seen as that value. An array stands in it so that a loan of all of it
+/// has a contract.
 #[derive(Clone, Copy)]
 pub struct Held<T> {
     value: T,
@@ -19,18 +21,21 @@ impl<T> Model for Held<T> {
 impl<T> Held<T> {
     ghost use Rattle.line_cache.specs.contracts.held.Held as held;
 
+    /// Holds a value.
     pub fn new(value: T) -> Held<T>
         ensures { result ≡ value }
     {
         Held { value }
     }
 
+    /// The value, to be read.
     pub fn get(&self) -> &T
         ensures { result.now ≡ self.now }
     {
         &self.value
     }
 
+    /// The value, to be written.
     pub fn lend(&mut self) -> &mut T
         ensures* writes_back { sem 𝓛 (Lends (held.the_row T.row) T.row self.entry result (λ w. w)) }
         ensures value { result.now ≡ self.old }
