@@ -1,7 +1,7 @@
 -- The numbers so far stand in front of those of the words that are left.
 use Rattle.std.proofs.Common.{◌≡◌, ◌++◌, map, drop, option_map}
-use Rattle.xom_script.specs.RunFiles.{times_of}
-use Rattle.xom_script.proofs.run_file.times.Given as goal
+use Rattle.xom_script.specs.RunLines.{times_of}
+use Rattle.xom_script.proofs.run_line.times.Given as goal
 
 abbrev pub invariant-loop-word : goal.invariant-loop-word
 invariant-loop-word l =
