@@ -1,16 +1,16 @@
 -- What a field of a line, or a row of lines, was where it has a value.
-use Rattle.std.proofs.Common.{◌≡◌, ℕ, ◌≤◌, ◌^◌, Bool, true, false, not, cond, eqb, ◌⊎◌, inl, inr, List, [], ◌∷◌, length, Option, Some, None, refl, sym, ap, subst, ◌∙◌, arith}
+use Rattle.std.proofs.Common.{◌≡◌, ℕ, suc, ◌≤◌, Bool, true, false, not, cond, eqb, ◌⊎◌, inl, inr, List, [], ◌∷◌, length, Option, Some, None, refl, subst, arith}
 use Rattle.std.specs.Prelude.{◌↔◌}
 use Rattle.std.specs.List.{AllByRecursion}
 use Rattle.std.specs.Str.{IsUtf8, bytes_eq, is_utf8}
-use Rattle.std.proofs.lemmas.Bool.{cases_Bool, false_from_ne_true}
+use Rattle.std.proofs.lemmas.Bool.{eqb-true, false_from_ne_true}
 use Rattle.std.proofs.lemmas.Bool.Decides.{nat_tests}
 use Rattle.std.proofs.lemmas.Option.{none-some, option_and_then_some as steps, same_Some}
 use Rattle.std.proofs.lemmas.Slice.Eq.{bytes_eq-Decides}
 use Rattle.std.proofs.lemmas.Str.{IsUtf8-from_is_utf8, is_utf8-from_IsUtf8}
-use Rattle.xom_base.specs.Hex.{WritesHex, hex_within}
+use Rattle.xom_base.specs.Hex.{hex_within}
 use Rattle.xom_base.proofs.HexLaws.{hex_within-exact}
-use Rattle.xom_script.specs.Fields.{WritesBytes, name_of, row_of, where_holds, write_bytes_of}
+use Rattle.xom_script.specs.Fields.{WritesBytes, name_of, row_of, write_bytes_of}
 
 -- a guarded value
 pub holds_some : {A : Type 0} (b : Bool) (x y : A) → cond b (Some x) None ≡ Some y → (b ≡ true) × (Some x ≡ Some y)
@@ -35,6 +35,11 @@ row_found P name value (row ∷ rows) h each =
       | inl t ↦ each.0 (same_word name row.0 t.0) t.1
       | inr t ↦ row_found P name value rows t.1 each.1
     ]
+
+-- a list without items
+pub no_items : {A : Type 0} (items : List A) → eqb (length items) 0 ≡ true → items ≡ []
+no_items [] h = refl
+no_items (item ∷ items) h = let none : suc (length items) ≡ 0 = eqb-true (suc (length items)) 0 h in absurd (omega arith)
 
 -- ---- file names
 

@@ -1,5 +1,5 @@
 -- Each run file that is read keeps the rules.
-use Rattle.std.proofs.Common.{◌≡◌, ℕ, ◌+◌, ◌^◌, ◌<◌, ◌≤◌, List, [], ◌∷◌, ◌++◌, ◌*◌, length, Option, Some, None, Result, Ok, Err, refl, sym, ap, subst, ◌∙◌, arith, length-append}
+use Rattle.std.proofs.Common.{ℕ, ◌+◌, ◌^◌, ◌<◌, ◌≤◌, List, [], ◌∷◌, ◌++◌, ◌*◌, length, Option, Some, None, Result, Ok, Err, sym, subst, arith, length-append}
 use Rattle.std.specs.Prelude.{◌≢◌, IfOk}
 use Rattle.std.specs.List.{AllByRecursion}
 use Rattle.xom_base.specs.Lines.{AnswersRead, Reads, lines_of}
@@ -8,9 +8,9 @@ use Rattle.xom_base.specs.declared.schedule.Interrupts.{Interrupts}
 use Rattle.xom_base.specs.declared.schedule.Interrupts.TheVariants as interrupts
 use Rattle.xom_base.specs.declared.schedule.Poke.{Poke}
 use Rattle.xom_base.specs.Words.{words_of}
-use Rattle.xom_script.specs.RunFiles.{IsRunFile, IsRunRow, RunFormat, run_file_at}
+use Rattle.xom_script.specs.RunFiles.{IsRunFile, RunFormat, run_file_at}
 use Rattle.xom_script.specs.RunLines.{IsInterrupts, IsRunLine}
-use Rattle.xom_script.specs.RunOrder.{Follows, HasRoom, IsNewId, with_owner, with_guest}
+use Rattle.xom_script.specs.RunOrder.{Follows, HasRoom, IsNewId, with_owner}
 use Rattle.xom_script.specs.RunRules.{HasOwnIds, KeepsInterrupts, KeepsRules}
 use Rattle.xom_script.specs.declared.progress.Draft.{Draft}
 use Rattle.xom_script.specs.declared.progress.Progress.{Progress}

@@ -1,21 +1,18 @@
 -- The function of run files has just the values of their grammar.
-use Rattle.std.proofs.Common.{◌≡◌, ℕ, ◌+◌, ◌*◌, ◌<◌, ◌≤◌, Bool, true, false, not, ◌&&◌, cond, eqb, ltb, leb, inl, inr, List, [], ◌∷◌, length, Option, Some, None, Result, Ok, Err, refl, sym, ap, subst, ◌∙◌, arith}
-use Rattle.std.specs.Prelude.{◌↔◌, ◌≢◌}
-use Rattle.std.specs.List.{AllByRecursion, list_any}
+use Rattle.std.proofs.Common.{◌≡◌, ℕ, ◌+◌, ◌*◌, ◌<◌, Bool, true, false, not, ◌&&◌, eqb, ltb, inl, inr, List, [], ◌∷◌, length, Some, None, Result, Ok, Err, refl, sym, ap, subst, ◌∙◌}
+use Rattle.std.specs.Prelude.{◌↔◌}
 use Rattle.std.specs.Str.{bytes_eq}
 use Rattle.std.proofs.lemmas.Bool.{and_parts, both_ways, cases_Bool, false_from_ne_true, leb-true, le-leb, ltb-true, lt-ltb, true≢false}
 use Rattle.std.proofs.lemmas.Option.{none-some, option_and_then_some as steps, same_Some, some_pair_parts}
 use Rattle.std.proofs.lemmas.Slice.Eq.{bytes_eq-Decides}
 use Rattle.xom_base.specs.declared.key.ImageId.{ImageId}
 use Rattle.xom_base.specs.declared.lines.TextFault.{TextFault}
-use Rattle.xom_base.specs.declared.schedule.Poke.{Poke}
-use Rattle.xom_base.specs.Lines.{AnswersRead, AnswersText, EndsEarly, IsFirstBad, Reads, Tells, at_end, lines_of, read_from, whole_from}
+use Rattle.xom_base.specs.Lines.{AnswersRead, AnswersText, Reads, Tells, at_end, lines_of, read_from}
 use Rattle.xom_base.proofs.LineLaws.{Tells-words, bad_from, ok_err, only_bad, only_reads, reads_from, same_Err, same_Ok}
 use Rattle.xom_base.proofs.TextLaws.{AnswersText-exact}
-use Rattle.xom_script.specs.Fields.{where_holds}
 use Rattle.xom_script.specs.RunFiles.{IsBadRun, IsRunFile, IsRunRow, RunFormat, run_file_at, run_file_from, run_row_of, run_step, whole_file}
 use Rattle.xom_script.specs.RunLines.{run_line_of}
-use Rattle.xom_script.specs.RunOrder.{FitsRam, Follows, HasRoom, IsNewId, IsWhole, after_files, after_line, first_draft, fits_ram, has_id, has_room, is_whole, last_event, run_file, takes_owner, takes_poke, with_guest, with_owner, with_poke}
+use Rattle.xom_script.specs.RunOrder.{Follows, HasRoom, IsNewId, IsWhole, after_files, after_line, first_draft, fits_ram, has_id, has_room, is_whole, last_event, run_file, takes_owner, takes_poke, with_guest, with_owner, with_poke}
 use Rattle.xom_script.specs.declared.progress.Draft.{Draft}
 use Rattle.xom_script.specs.declared.progress.Progress.{Progress}
 use Rattle.xom_script.specs.declared.progress.Progress.TheVariants as progress
@@ -26,14 +23,10 @@ use Rattle.xom_script.specs.declared.run_file.OwnerFile.{OwnerFile}
 use Rattle.xom_script.specs.declared.run_file.RunFile.{RunFile}
 use Rattle.xom_script.specs.declared.run_line.RunLine.{RunLine}
 use Rattle.xom_script.specs.declared.run_line.RunLine.TheVariants as line
-use Rattle.xom_script.proofs.FieldLaws.{holds_some}
+use Rattle.xom_script.proofs.FieldLaws.{holds_some, no_items}
 use Rattle.xom_script.proofs.RunLineLaws.{run_line_of-exact}
 
 -- ---- rules on earlier lines
-
-no_items : {A : Type 0} (items : List A) → eqb (length items) 0 ≡ true → items ≡ []
-no_items [] h = refl
-no_items (item ∷ items) h = absurd (true≢false (sym h))
 
 -- an id that no owner has
 has_id-new : (id : ImageId) (owners : List OwnerFile) → IsNewId id owners → has_id id owners ≡ false
@@ -229,42 +222,42 @@ module _ (text : List ℕ) where
 -- ---- the end of the text
 
 -- where the text may not end, nothing is read
-pub at_end-whole : (missing : ℕ) (read : Result (List (Unit {0}) × Progress) ℕ) (rows : List (Unit {0})) (last : Progress)
-    → at_end is_whole missing read ≡ Ok (rows, last) → is_whole last ≡ true
-at_end-whole missing (Ok read) rows last h =
+pub at_end-whole : (behind : ℕ) (read : Result (List (Unit {0}) × Progress) ℕ) (rows : List (Unit {0})) (last : Progress)
+    → at_end is_whole behind read ≡ Ok (rows, last) → is_whole last ≡ true
+at_end-whole behind (Ok read) rows last h =
     elim (cases_Bool (is_whole read.1)) [
       | inl may ↦
           let same : ◌≡◌ {A = List (Unit {0}) × Progress} read (rows, last) = same_Ok read (rows, last) (rw may at h) in
           sym (ap (λ (p : List (Unit {0}) × Progress). is_whole p.1) same) ∙ may
-      | inr not ↦ absurd (ok_err (rows, last) missing (sym (rw not at h)))
+      | inr away ↦ absurd (ok_err (rows, last) behind (sym (rw away at h)))
     ]
-at_end-whole missing (Err bad) rows last h = absurd (ok_err (rows, last) bad (sym h))
+at_end-whole behind (Err bad) rows last h = absurd (ok_err (rows, last) bad (sym h))
 
-pub run_file_from-whole : (missing : ℕ) (read : Result (List (Unit {0}) × Progress) ℕ) (rows : List (Unit {0})) (file : RunFile)
-    → at_end is_whole missing read ≡ Ok (rows, progress.Whole file) → run_file_from missing read ≡ Ok file
-run_file_from-whole missing (Ok read) rows file h =
+pub run_file_from-whole : (behind : ℕ) (read : Result (List (Unit {0}) × Progress) ℕ) (rows : List (Unit {0})) (file : RunFile)
+    → at_end is_whole behind read ≡ Ok (rows, progress.Whole file) → run_file_from behind read ≡ Ok file
+run_file_from-whole behind (Ok read) rows file h =
     elim (cases_Bool (is_whole read.1)) [
       | inl may ↦
           let same : ◌≡◌ {A = List (Unit {0}) × Progress} read (rows, progress.Whole file) = same_Ok read (rows, progress.Whole file) (rw may at h) in
-          ap (λ (p : List (Unit {0}) × Progress). whole_file missing p.1) same
-      | inr not ↦ absurd (ok_err (rows, progress.Whole file) missing (sym (rw not at h)))
+          ap (λ (p : List (Unit {0}) × Progress). whole_file behind p.1) same
+      | inr away ↦ absurd (ok_err (rows, progress.Whole file) behind (sym (rw away at h)))
     ]
-run_file_from-whole missing (Err bad) rows file h = absurd (ok_err (rows, progress.Whole file) bad (sym h))
+run_file_from-whole behind (Err bad) rows file h = absurd (ok_err (rows, progress.Whole file) bad (sym h))
 
-not_whole : (missing : ℕ) (last : Progress) → is_whole last ≡ false → whole_file missing last ≡ Err missing
-not_whole missing (progress.Whole file) h = absurd (true≢false h)
-not_whole missing progress.Start h = refl
-not_whole missing (progress.Keyed machine) h = refl
-not_whole missing (progress.Booted machine boot) h = refl
-not_whole missing (progress.Framed machine boot frames) h = refl
-not_whole missing (progress.Files draft) h = refl
-not_whole missing (progress.Kernel draft kernel number) h = refl
+not_whole : (behind : ℕ) (last : Progress) → is_whole last ≡ false → whole_file behind last ≡ Err behind
+not_whole behind (progress.Whole file) h = absurd (true≢false h)
+not_whole behind progress.Start h = refl
+not_whole behind (progress.Keyed machine) h = refl
+not_whole behind (progress.Booted machine boot) h = refl
+not_whole behind (progress.Framed machine boot frames) h = refl
+not_whole behind (progress.Files draft) h = refl
+not_whole behind (progress.Kernel draft kernel number) h = refl
 
-pub run_file_from-bad : (missing : ℕ) (read : Result (List (Unit {0}) × Progress) ℕ) (bad : ℕ)
-    → at_end is_whole missing read ≡ Err bad → run_file_from missing read ≡ Err bad
-run_file_from-bad missing (Ok read) bad h =
+pub run_file_from-bad : (behind : ℕ) (read : Result (List (Unit {0}) × Progress) ℕ) (bad : ℕ)
+    → at_end is_whole behind read ≡ Err bad → run_file_from behind read ≡ Err bad
+run_file_from-bad behind (Ok read) bad h =
     elim (cases_Bool (is_whole read.1)) [
       | inl may ↦ absurd (ok_err read bad (rw may at h))
-      | inr not ↦ not_whole missing read.1 not ∙ (rw not at h)
+      | inr away ↦ not_whole behind read.1 away ∙ ap Err (same_Err behind bad (rw away at h))
     ]
-run_file_from-bad missing (Err other) bad h = ap Err (same_Err other bad h)
+run_file_from-bad behind (Err other) bad h = ap Err (same_Err other bad h)

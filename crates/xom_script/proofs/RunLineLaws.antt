@@ -1,24 +1,24 @@
 -- What the words of a line of a run file write, as a function and as a relation.
-use Rattle.std.proofs.Common.{◌≡◌, ℕ, suc, ◌+◌, ◌^◌, ◌<◌, ◌≤◌, true, false, cond, eqb, ltb, leb, inl, inr, List, [], ◌∷◌, ◌++◌, length, Option, Some, None, refl, sym, ap, subst, ◌∙◌, option_map, append_assoc, arith}
+use Rattle.std.proofs.Common.{◌≡◌, ℕ, suc, ◌^◌, ◌<◌, ◌≤◌, false, eqb, ltb, leb, List, [], ◌∷◌, ◌++◌, length, Option, Some, None, refl, sym, ap, subst, ◌∙◌, option_map, append_assoc, arith}
 use Rattle.std.proofs.lemmas.List.{append-nil}
 use Rattle.std.specs.Prelude.{◌↔◌, codes, option_and_then}
 use Rattle.std.specs.List.{AllZip}
-use Rattle.std.specs.Str.{IsUtf8, bytes_eq}
+use Rattle.std.proofs.lemmas.Bool.Decides.{nat_tests}
 use Rattle.std.proofs.lemmas.Bool.{leb-true, le-leb, ltb-true, lt-ltb, le-ltb}
 use Rattle.std.proofs.lemmas.Option.{none-some, option_and_then_some as steps, same_Some}
-use Rattle.xom_base.specs.Hex.{IsHex, hex_of}
-use Rattle.xom_base.specs.Numbers.{IsNumber, Writes, number_below_of, number_of}
+use Rattle.xom_base.specs.Hex.{hex_of}
+use Rattle.xom_base.specs.Numbers.{IsNumber, number_below_of, number_of}
 use Rattle.xom_base.proofs.CutLaws.{option_map_some}
 use Rattle.xom_base.proofs.HexLaws.{hex_of-exact}
 use Rattle.xom_base.proofs.NumberLaws.{number_below_of-exact, number_of-exact}
 use Rattle.xom_base.specs.declared.schedule.Interrupts.TheVariants as interrupts
-use Rattle.xom_script.specs.Fields.{name_of, row_of, where_holds, write_bytes_of}
-use Rattle.xom_script.specs.RunLines.{Ascends, IsInterrupts, IsKernel, IsRunLine, at_of, boot_of, budget_of, every_of, frames_of, guest_of, guest_with_input_of, interrupt_of, interrupt_rows, kernel_of, kernel_rows, machine_of, never_of, owner_of, pages_of, poke_of, run_line_of, run_rows, times_of}
+use Rattle.xom_script.specs.Fields.{name_of, where_holds, write_bytes_of}
+use Rattle.xom_script.specs.RunLines.{Ascends, IsRunLine, at_of, boot_of, budget_of, every_of, frames_of, guest_of, guest_with_input_of, interrupt_of, interrupt_rows, kernel_of, kernel_rows, machine_of, never_of, owner_of, pages_of, poke_of, run_line_of, run_rows, times_of}
 use Rattle.xom_script.specs.declared.run_file.KernelLine.TheVariants as kernel
 use Rattle.xom_script.specs.declared.run_file.OwnerFile.{OwnerFile}
 use Rattle.xom_script.specs.declared.run_line.RunLine.{RunLine}
 use Rattle.xom_script.specs.declared.run_line.RunLine.TheVariants as line
-use Rattle.xom_script.proofs.FieldLaws.{chosen, holds_some, name_of-found, name_of-utf8, row_found, write_bytes_of-exact}
+use Rattle.xom_script.proofs.FieldLaws.{holds_some, name_of-found, name_of-utf8, row_found, write_bytes_of-exact}
 
 -- what these words write is the line that was found
 given : (words : List (List ℕ)) (found value : RunLine) → IsRunLine words found → Some found ≡ Some value → IsRunLine words value
@@ -128,7 +128,7 @@ owner_found (p ∷ k ∷ i ∷ []) value h =
     let name = name_of-found p plain read_p in
     let owner : OwnerFile = record { plain = plain; key = record { 0 = key }; id = record { 0 = id } } in
     given (codes "owner" ∷ p ∷ k ∷ i ∷ []) (line.Owner owner) value
-        (k, i, ap (λ p. codes "owner" ∷ p ∷ k ∷ i ∷ []) name.0, name.1, (hex_of-exact 32 k key).0 read_k, (hex_of-exact 16 i id).0 read_i) same)))
+    (k, i, ap (λ p. codes "owner" ∷ p ∷ k ∷ i ∷ []) name.0, name.1, (hex_of-exact 32 k key).0 read_k, (hex_of-exact 16 i id).0 read_i) same)))
 owner_found (p ∷ k ∷ i ∷ l ∷ words) value h = absurd (none-some value h)
 
 guest_found : (words : List (List ℕ)) (value : RunLine) → guest_of words ≡ Some value → IsRunLine (codes "guest" ∷ words) value
@@ -144,7 +144,7 @@ guest_found (s ∷ i ∷ []) value h =
     let name = name_of-found s sealed read_s in
     let other = name_of-found i input read_i in
     given (codes "guest" ∷ s ∷ i ∷ []) (line.Guest sealed (Some input)) value
-        (ap (λ s. codes "guest" ∷ s ∷ i ∷ []) name.0 ∙ ap (λ i. codes "guest" ∷ sealed ∷ i ∷ []) other.0, name.1, other.1) same))
+    (ap (λ s. codes "guest" ∷ s ∷ i ∷ []) name.0 ∙ ap (λ i. codes "guest" ∷ sealed ∷ i ∷ []) other.0, name.1, other.1) same))
 guest_found (s ∷ i ∷ l ∷ words) value h = absurd (none-some value h)
 
 kernel_found : (words : List (List ℕ)) (value : RunLine) → kernel_of words ≡ Some value → IsRunLine (codes "kernel" ∷ words) value
@@ -158,16 +158,20 @@ kernel_found (kind ∷ w ∷ []) value h =
           let m = option_map_some (λ file. line.Kernel (kernel.Script file)) (name_of w) value read in
           let name = name_of-found w m.0 m.1 in
           given words (line.Kernel (kernel.Script m.0)) value (kind ∷ w ∷ [], refl, (ap (λ kind. kind ∷ w ∷ []) is ∙ ap (λ w. codes "script" ∷ w ∷ []) name.0, name.1)) m.2,
-      (λ is read.
-          let m = option_map_some (λ file. line.Kernel (kernel.Image file)) (name_of w) value read in
-          let name = name_of-found w m.0 m.1 in
-          given words (line.Kernel (kernel.Image m.0)) value (kind ∷ w ∷ [], refl, (ap (λ kind. kind ∷ w ∷ []) is ∙ ap (λ w. codes "image" ∷ w ∷ []) name.0, name.1)) m.2,
-      (λ is read.
-          steps _ (number_below_of 257 w) value read (λ n number same.
-          let t = holds_some (leb 2 n) (line.Kernel (kernel.Xomos n)) value same in
-          given words (line.Kernel (kernel.Xomos n)) value
+      (
+        λ is read.
+            let m = option_map_some (λ file. line.Kernel (kernel.Image file)) (name_of w) value read in
+            let name = name_of-found w m.0 m.1 in
+            given words (line.Kernel (kernel.Image m.0)) value (kind ∷ w ∷ [], refl, (ap (λ kind. kind ∷ w ∷ []) is ∙ ap (λ w. codes "image" ∷ w ∷ []) name.0, name.1)) m.2,
+        (
+          λ is read.
+              steps _ (number_below_of 257 w) value read (λ n number same.
+              let t = holds_some (leb 2 n) (line.Kernel (kernel.Xomos n)) value same in
+              given words (line.Kernel (kernel.Xomos n)) value
               (kind ∷ w ∷ [], refl, (w, ap (λ kind. kind ∷ w ∷ []) is, (number_below_of-exact 257 w n).0 number, leb-true 2 n t.0)) t.1),
-      tt)),
+          tt,
+        ),
+      ),
     )
 kernel_found (kind ∷ w ∷ l ∷ words) value h = absurd (none-some value h)
 
@@ -184,18 +188,21 @@ every_found kind (w ∷ []) value is h =
     steps _ (number_of w) value h (λ n read same.
     let t = holds_some (leb 1 n) (line.Interrupt (interrupts.Every n)) value same in
     given (codes "interrupt" ∷ kind ∷ w ∷ []) (line.Interrupt (interrupts.Every n)) value
-        (kind ∷ w ∷ [], refl, (w, ap (λ kind. kind ∷ w ∷ []) is, (number_of-exact w n).0 read, leb-true 1 n t.0)) t.1)
+    (kind ∷ w ∷ [], refl, (w, ap (λ kind. kind ∷ w ∷ []) is, (number_of-exact w n).0 read, leb-true 1 n t.0)) t.1)
 every_found kind (w ∷ l ∷ words) value is h = absurd (none-some value h)
+
+some_words : (word : List ℕ) (words : List (List ℕ)) → eqb (length (word ∷ words)) 0 ≡ false
+some_words word words = grind (arith, nat_tests)
 
 at_found : (kind : List ℕ) (words : List (List ℕ)) (value : RunLine) → kind ≡ codes "at" → at_of words ≡ Some value → IsRunLine (codes "interrupt" ∷ kind ∷ words) value
 unfolding at_of
 at_found kind [] value is h = absurd (none-some value h)
 at_found kind (w ∷ words) value is h =
-    steps _ (times_of 0 (w ∷ words)) value h (λ times read same.
+    steps _ (times_of 0 (w ∷ words)) value (rw (some_words w words) at h) (λ times read same.
     let found = times_found 0 (w ∷ words) times read in
     let some : 0 < length times = rw (same_length (w ∷ words) times found.0) (omega arith) in
     given (codes "interrupt" ∷ kind ∷ w ∷ words) (line.Interrupt (interrupts.At times)) value
-        (kind ∷ w ∷ words, refl, (w ∷ words, ap (λ kind. kind ∷ w ∷ words) is, found.0, some, found.1)) same)
+    (kind ∷ w ∷ words, refl, (w ∷ words, ap (λ kind. kind ∷ w ∷ words) is, found.0, some, found.1)) same)
 
 interrupt_found : (words : List (List ℕ)) (value : RunLine) → interrupt_of words ≡ Some value → IsRunLine (codes "interrupt" ∷ words) value
 unfolding interrupt_of
@@ -214,7 +221,7 @@ poke_found (e ∷ a ∷ b ∷ []) value h =
     steps _ (number_below_of (2 ^ 32) a) value h (λ address read_a h.
     steps _ (write_bytes_of b) value h (λ bytes read_b same.
     given (codes "poke" ∷ e ∷ a ∷ b ∷ []) (line.Poke record { event = event; address = address; bytes = bytes }) value
-        (e, a, b, refl, (number_of-exact e event).0 read_e, (number_below_of-exact (2 ^ 32) a address).0 read_a, (write_bytes_of-exact b bytes).0 read_b) same)))
+    (e, a, b, refl, (number_of-exact e event).0 read_e, (number_below_of-exact (2 ^ 32) a address).0 read_a, (write_bytes_of-exact b bytes).0 read_b) same)))
 poke_found (e ∷ a ∷ b ∷ l ∷ words) value h = absurd (none-some value h)
 
 -- what is found of one kind is found of the line
@@ -227,15 +234,31 @@ run_line_found [] value h = absurd (none-some value h)
 run_line_found (kind ∷ words) value h =
     row_found (IsRunLine (kind ∷ words) value) kind value (run_rows words) h (
       λ is read. of_kind kind (codes "machine") words value is (machine_found words value read),
-      (λ is read. of_kind kind (codes "boot") words value is (boot_found words value read),
-      (λ is read. of_kind kind (codes "frames") words value is (frames_found words value read),
-      (λ is read. of_kind kind (codes "budget") words value is (budget_found words value read),
-      (λ is read. of_kind kind (codes "owner") words value is (owner_found words value read),
-      (λ is read. of_kind kind (codes "guest") words value is (guest_found words value read),
-      (λ is read. of_kind kind (codes "kernel") words value is (kernel_found words value read),
-      (λ is read. of_kind kind (codes "interrupt") words value is (interrupt_found words value read),
-      (λ is read. of_kind kind (codes "poke") words value is (poke_found words value read),
-      tt)))))))),
+      (
+        λ is read. of_kind kind (codes "boot") words value is (boot_found words value read),
+        (
+          λ is read. of_kind kind (codes "frames") words value is (frames_found words value read),
+          (
+            λ is read. of_kind kind (codes "budget") words value is (budget_found words value read),
+            (
+              λ is read. of_kind kind (codes "owner") words value is (owner_found words value read),
+              (
+                λ is read. of_kind kind (codes "guest") words value is (guest_found words value read),
+                (
+                  λ is read. of_kind kind (codes "kernel") words value is (kernel_found words value read),
+                  (
+                    λ is read. of_kind kind (codes "interrupt") words value is (interrupt_found words value read),
+                    (
+                      λ is read. of_kind kind (codes "poke") words value is (poke_found words value read),
+                      tt,
+                    ),
+                  ),
+                ),
+              ),
+            ),
+          ),
+        ),
+      ),
     )
 
 -- ---- rows, as they are written
@@ -244,7 +267,7 @@ at_only : (numbers : List (List ℕ)) (times : List ℕ) → AllZip IsNumber num
     → at_of numbers ≡ Some (line.Interrupt (interrupts.At times))
 unfolding at_of
 at_only [] times z some a = let none = same_length [] times z in absurd (omega arith)
-at_only (w ∷ words) times z some a = rw (times_only 0 (w ∷ words) times z a) refl
+at_only (w ∷ words) times z some a = rw (some_words w words, times_only 0 (w ∷ words) times z a) refl
 
 run_line_only : (words : List (List ℕ)) (value : RunLine) → IsRunLine words value → run_line_of words ≡ Some value
 unfolding run_line_of machine_of boot_of frames_of budget_of owner_of guest_of guest_with_input_of kernel_of pages_of interrupt_of never_of every_of poke_of

@@ -1,18 +1,18 @@
 -- The function of scripts has just the values of their grammar.
-use Rattle.std.proofs.Common.{◌≡◌, ℕ, ◌^◌, ◌<◌, ◌≤◌, true, ◌&&◌, cond, eqb, ltb, leb, inl, inr, List, [], ◌∷◌, Some, None, Result, Ok, Err, refl, sym, ap, subst, ◌∙◌, arith}
-use Rattle.std.specs.Prelude.{◌↔◌, codes, IfOk}
+use Rattle.std.proofs.Common.{◌≡◌, ℕ, ◌^◌, ◌<◌, ◌≤◌, ◌&&◌, ltb, leb, inl, inr, List, [], ◌∷◌, Some, None, Result, Ok, Err, refl, sym, ap, subst, ◌∙◌, arith}
+use Rattle.std.specs.Prelude.{◌↔◌, codes}
 use Rattle.std.specs.Str.{bytes_eq}
 use Rattle.std.proofs.lemmas.Bool.{and_parts, leb-true, le-leb, ltb-true, lt-ltb}
 use Rattle.std.proofs.lemmas.Option.{none-some, option_and_then_some as steps, same_Some}
-use Rattle.xom_base.specs.Lines.{AnswersRead, AnswersText, IsFirstBad, IsText, Rows, Tells, lines_of, made_of, read_from}
+use Rattle.xom_base.specs.Lines.{AnswersRead, AnswersText, Rows, Tells, lines_of, made_of, read_from}
 use Rattle.xom_base.specs.Numbers.{Writes, number_below_of}
 use Rattle.xom_base.proofs.LineLaws.{Tells-rows, bad_from, only_bad, only_reads, reads_from, same_Err, same_Ok}
 use Rattle.xom_base.proofs.NumberLaws.{number_below_of-exact}
 use Rattle.xom_base.proofs.TextLaws.{AnswersText-exact}
 use Rattle.xom_base.specs.declared.lines.TextFault.{TextFault}
 use Rattle.xom_base.specs.declared.event.Op.TheVariants as op
-use Rattle.xom_script.specs.Fields.{Writes32, where_holds, write_bytes_of}
-use Rattle.xom_script.specs.ScriptLines.{IsOp, IsScriptLine, none_of, one_of, rows_of_none, rows_of_one, rows_of_three, rows_of_two, script_line_of, three_of, two_of, write_of}
+use Rattle.xom_script.specs.Fields.{Writes32, write_bytes_of}
+use Rattle.xom_script.specs.ScriptLines.{IsScriptLine, none_of, one_of, rows_of_none, rows_of_one, rows_of_three, rows_of_two, script_line_of, three_of, two_of, write_of}
 use Rattle.xom_script.specs.Scripts.{IsBadScript, IsScript, script_at, script_step, script_with}
 use Rattle.xom_script.specs.declared.script.Script.{Script}
 use Rattle.xom_script.specs.declared.script_line.ScriptLine.{ScriptLine}
@@ -44,11 +44,15 @@ one_found name a value h =
     let words = name ∷ a ∷ [] in
     row_found (IsScriptLine words value) name value (rows_of_one x) h (
       λ is same. given words (line.Do (op.Enter x)) value (a, ap (λ name. name ∷ a ∷ []) is, w) same,
-      (λ is same. given words (line.Do (op.Kill x)) value (a, ap (λ name. name ∷ a ∷ []) is, w) same,
-      (λ is same.
-          let t = holds_some (ltb x 256) (line.Do (op.Out x)) value same in
-          given words (line.Do (op.Out x)) value (a, ap (λ name. name ∷ a ∷ []) is, (w.0, ltb-true x 256 t.0)) t.1,
-      tt)),
+      (
+        λ is same. given words (line.Do (op.Kill x)) value (a, ap (λ name. name ∷ a ∷ []) is, w) same,
+        (
+          λ is same.
+              let t = holds_some (ltb x 256) (line.Do (op.Out x)) value same in
+              given words (line.Do (op.Out x)) value (a, ap (λ name. name ∷ a ∷ []) is, (w.0, ltb-true x 256 t.0)) t.1,
+          tt,
+        ),
+      ),
     ))
 
 two_found : (name a b : List ℕ) (value : ScriptLine) → two_of name a b ≡ Some value → IsScriptLine (name ∷ a ∷ b ∷ []) value
@@ -61,12 +65,18 @@ two_found name a b value h =
     let words = name ∷ a ∷ b ∷ [] in
     row_found (IsScriptLine words value) name value (rows_of_two x y) h (
       λ is same. given words (line.Do (op.Resume x y)) value (a, b, ap (λ name. name ∷ a ∷ b ∷ []) is, w, v) same,
-      (λ is same. given words (line.Do (op.Unmap x y)) value (a, b, ap (λ name. name ∷ a ∷ b ∷ []) is, w, v) same,
-      (λ is same. given words (line.Do (op.SetReg x y)) value (a, b, ap (λ name. name ∷ a ∷ b ∷ []) is, w, v) same,
-      (λ is same.
-          let t = holds_some (ltb y 256) (line.Flip x y) value same in
-          given words (line.Flip x y) value (a, b, ap (λ name. name ∷ a ∷ b ∷ []) is, w, (v.0, ltb-true y 256 t.0)) t.1,
-      tt))),
+      (
+        λ is same. given words (line.Do (op.Unmap x y)) value (a, b, ap (λ name. name ∷ a ∷ b ∷ []) is, w, v) same,
+        (
+          λ is same. given words (line.Do (op.SetReg x y)) value (a, b, ap (λ name. name ∷ a ∷ b ∷ []) is, w, v) same,
+          (
+            λ is same.
+                let t = holds_some (ltb y 256) (line.Flip x y) value same in
+                given words (line.Flip x y) value (a, b, ap (λ name. name ∷ a ∷ b ∷ []) is, w, (v.0, ltb-true y 256 t.0)) t.1,
+            tt,
+          ),
+        ),
+      ),
     )))
 
 three_found : (name a b c : List ℕ) (value : ScriptLine) → three_of name a b c ≡ Some value → IsScriptLine (name ∷ a ∷ b ∷ c ∷ []) value
@@ -81,15 +91,23 @@ three_found name a b c value h =
     let words = name ∷ a ∷ b ∷ c ∷ [] in
     row_found (IsScriptLine words value) name value (rows_of_three x y z) h (
       λ is same. given words (line.Do (op.Install x y z)) value (a, b, c, ap (λ name. name ∷ a ∷ b ∷ c ∷ []) is, w, v, u) same,
-      (λ is same. given words (line.Do (op.Save x y z)) value (a, b, c, ap (λ name. name ∷ a ∷ b ∷ c ∷ []) is, w, v, u) same,
-      (λ is same. given words (line.Do (op.Restore x y z)) value (a, b, c, ap (λ name. name ∷ a ∷ b ∷ c ∷ []) is, w, v, u) same,
-      (λ is same. given words (line.Do (op.Map x y z)) value (a, b, c, ap (λ name. name ∷ a ∷ b ∷ c ∷ []) is, w, v, u) same,
-      (λ is same.
-          let t = holds_some (leb 1 z && leb z 8192) (line.Copy x y z) value same in
-          let range = and_parts (leb 1 z) (leb z 8192) t.0 in
-          let most : z ≤ 8192 = leb-true z 8192 range.1 in
-          given words (line.Copy x y z) value (a, b, c, ap (λ name. name ∷ a ∷ b ∷ c ∷ []) is, w, v, (u.0, omega arith), leb-true 1 z range.0) t.1,
-      tt)))),
+      (
+        λ is same. given words (line.Do (op.Save x y z)) value (a, b, c, ap (λ name. name ∷ a ∷ b ∷ c ∷ []) is, w, v, u) same,
+        (
+          λ is same. given words (line.Do (op.Restore x y z)) value (a, b, c, ap (λ name. name ∷ a ∷ b ∷ c ∷ []) is, w, v, u) same,
+          (
+            λ is same. given words (line.Do (op.Map x y z)) value (a, b, c, ap (λ name. name ∷ a ∷ b ∷ c ∷ []) is, w, v, u) same,
+            (
+              λ is same.
+                  let t = holds_some (leb 1 z && leb z 8192) (line.Copy x y z) value same in
+                  let range = and_parts (leb 1 z) (leb z 8192) t.0 in
+                  let most : z ≤ 8192 = leb-true z 8192 range.1 in
+                  given words (line.Copy x y z) value (a, b, c, ap (λ name. name ∷ a ∷ b ∷ c ∷ []) is, w, v, (u.0, omega arith), leb-true 1 z range.0) t.1,
+              tt,
+            ),
+          ),
+        ),
+      ),
     ))))
 
 write_found : (a h : List ℕ) (value : ScriptLine) → write_of a h ≡ Some value → IsScriptLine (codes "write" ∷ a ∷ h ∷ []) value
@@ -98,7 +116,7 @@ write_found a h value is =
     steps _ (number_below_of (2 ^ 32) a) value is (λ address read_a is.
     steps _ (write_bytes_of h) value is (λ bytes read_h same.
     given (codes "write" ∷ a ∷ h ∷ []) (line.Write address bytes) value
-        (a, h, refl, number32 a address read_a, (write_bytes_of-exact h bytes).0 read_h) same))
+    (a, h, refl, number32 a address read_a, (write_bytes_of-exact h bytes).0 read_h) same))
 
 line_found : (words : List (List ℕ)) (value : ScriptLine) → script_line_of words ≡ Some value → IsScriptLine words value
 unfolding script_line_of

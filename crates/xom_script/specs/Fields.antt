@@ -1,5 +1,5 @@
 -- The words that stand in lines of run files and scripts.
-use Rattle.std.specs.Prelude.{◌≡◌, ℕ, ◌^◌, ◌≤◌, ◌==◌, not, Bool, if◌then◌else◌, List, [], ◌∷◌, length, Option, Some, None}
+use Rattle.std.specs.Prelude.{ℕ, ◌^◌, ◌≤◌, ◌==◌, not, Bool, if◌then◌else◌, List, [], ◌∷◌, length, Option, Some, None}
 use Rattle.std.specs.Str.{bytes_eq, is_utf8}
 use Rattle.xom_base.specs.Options.{◌>>=◌}
 use Rattle.xom_base.specs.Hex.{WritesHex, hex_within}

@@ -1,5 +1,5 @@
 -- The order of the lines of a run file, and the rules that speak of earlier lines.
-use Rattle.std.specs.Prelude.{◌≡◌, ◌≢◌, ℕ, ◌+◌, ◌*◌, ◌-◌, ◌<◌, ◌≤◌, ◌&&◌, ◌==◌, nat_lt, nat_le, not, Bool, true, false, if◌then◌else◌, List, [], ◌∷◌, ◌++◌, length, Option, Some, None, slice_get}
+use Rattle.std.specs.Prelude.{◌≡◌, ◌≢◌, ℕ, ◌+◌, ◌*◌, ◌-◌, ◌<◌, ◌≤◌, ◌&&◌, ◌==◌, nat_lt, nat_le, not, Bool, true, false, List, [], ◌∷◌, ◌++◌, length, Option, Some, None, slice_get}
 use Rattle.std.specs.List.{AllByRecursion, list_any}
 use Rattle.std.specs.Option.{option_map_or}
 use Rattle.std.specs.Str.{bytes_eq}
@@ -45,8 +45,14 @@ first_draft machine boot frames budget =
 -- the run of these files, under a kernel that the line of this number names, before its writes of the bus
 abbrev pub run_file : Draft → KernelLine → ℕ → Interrupts → RunFile
 run_file draft kernel number interrupts = record {
-  machine = draft.machine; boot = draft.boot; frames = draft.frames; budget = draft.budget;
-  owners = draft.owners; guests = draft.guests; kernel = kernel; kernel_line = number;
+  machine = draft.machine;
+  boot = draft.boot;
+  frames = draft.frames;
+  budget = draft.budget;
+  owners = draft.owners;
+  guests = draft.guests;
+  kernel = kernel;
+  kernel_line = number;
   schedule = record { interrupts = interrupts; pokes = [] };
 }
 

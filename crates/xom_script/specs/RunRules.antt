@@ -1,5 +1,5 @@
 -- The rules that each run file keeps which is read.
-use Rattle.std.specs.Prelude.{ℕ, ◌^◌, ◌<◌, ◌≤◌, List, [], ◌∷◌, length, map}
+use Rattle.std.specs.Prelude.{◌^◌, ◌<◌, ◌≤◌, List, [], ◌∷◌, length}
 use Rattle.std.specs.List.{AllByRecursion}
 use Rattle.xom_base.specs.declared.schedule.Interrupts.{Interrupts}
 use Rattle.xom_base.specs.declared.schedule.Interrupts.TheVariants as interrupts

@@ -25,9 +25,14 @@ pub enum Progress {
     /// No line stands before.
     Start,
     /// The last line is `machine`.
-    Keyed { machine: Key256 },
+    Keyed {
+        machine: Key256,
+    },
     /// The last line is `boot`.
-    Booted { machine: Key256, boot: u64 },
+    Booted {
+        machine: Key256,
+        boot: u64,
+    },
     /// The last line is `frames`.
     Framed {
         machine: Key256,

@@ -147,11 +147,7 @@ fn guest(alloc: Global, words: &[&[u8]]) -> Result<Option<RunLine>, NoMemory>
 }
 
 #[tactic(auto, unfolding(crate::specs::RunLines::guest_with_input_of))]
-fn guest_with_input(
-    alloc: Global,
-    sealed: &[u8],
-    input: &[u8],
-) -> Result<Option<RunLine>, NoMemory>
+fn guest_with_input(alloc: Global, sealed: &[u8], input: &[u8]) -> Result<Option<RunLine>, NoMemory>
     ensures { IfOk result (λ found. found ≡ guest_with_input_of sealed.now input.now) }
 {
     let Some(sealed) = name(alloc, sealed)? else {

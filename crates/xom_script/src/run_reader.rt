@@ -79,7 +79,7 @@ impl LineFormat for Progress {
 
 impl WholeFormat for Progress {
     ghost use Rattle.xom_script.specs.RunOrder.{is_whole};
-ghost use Rattle.xom_script.specs.RunRules.{KeepsRules};
+    ghost use Rattle.xom_script.specs.RunRules.{KeepsRules};
 
     ghost may_end = { is_whole };
 
