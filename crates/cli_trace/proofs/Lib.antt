@@ -1,6 +1,6 @@
 pub mod Runnable
 pub mod Told
-pub mod Traced
 pub mod Headline
 pub mod Statuses
 pub mod Stopped
+pub mod Places

@@ -1,2 +1,4 @@
 pub mod Inputs
+pub mod Console
 pub mod Trace
+pub mod Run

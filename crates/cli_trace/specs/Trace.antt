@@ -1,5 +1,5 @@
 -- `trace RUN`: the run that a run file tells, and the judgement of the journal that it made.
-use Rattle.std.specs.Prelude.{◌≡◌, ℕ, ◌^◌, ◌≤◌, Bool, true, false, ◌||◌, List, [], ◌∷◌, ◌++◌, All, None, Result, Ok, codes, unwrap_or, is_some, if◌then◌else◌}
+use Rattle.std.specs.Prelude.{◌≡◌, ℕ, ◌^◌, ◌≤◌, ◌⊎◌, Bool, true, false, ◌||◌, List, [], ◌∷◌, ◌++◌, All, None, Result, Ok, codes, unwrap_or, is_some, if◌then◌else◌}
 use Rattle.std.specs.Fmt.{decimal}
 use Rattle.std.specs.List.{list_any}
 use Rattle.xom_base.specs.declared.entry.Entry.{Entry}
@@ -21,6 +21,7 @@ use Rattle.cli_base.specs.declared.answer.Answer.{Answer}
 use Rattle.cli_trace.specs.declared.trace.Parts.{Parts}
 use Rattle.cli_base.specs.declared.refusal.Refusal.{Refusal}
 use Rattle.cli_base.specs.Inputs.{◌>>=◌, Held, image_of}
+use Rattle.cli_trace.specs.Console.{console_lines, console_of}
 use Rattle.cli_trace.specs.Inputs.{run_file_of, script_of}
 use Rattle.xom_script.specs.declared.run_file.RunFile.{RunFile}
 
@@ -56,9 +57,9 @@ pub record IsRunnable (file : RunFile) : Type 0 where
   pub schedule : IsSchedule file.schedule.interrupts
   pub budget : file.budget ≤ 2 ^ 20
 
--- the judgement of its journal
+-- the judgement of its journal, by the machine key of the run file
 abbrev pub report_of : Parts → Report
-report_of parts = judgement (owner_in parts ∷ []) (last_record parts).core.entries
+report_of parts = judgement parts.file.machine (owner_in parts ∷ []) (last_record parts).core.entries
 
 -- ---- What is printed
 
@@ -90,9 +91,13 @@ is_stop other = false
 abbrev pub trace_status : Report → Record → ℕ
 trace_status report r = if is_suspect report then 9 else (if list_any is_stop r.core.entries then 8 else (if r.halted then 0 else 6))
 
--- the report and the line on events, with the status
+-- the console in whole lines, the report, and the line on events
+abbrev pub trace_text : Report → Record → List ℕ
+trace_text report r = (console_lines (console_of r.core.entries) ++ report_text report) ++ events_line r
+
+-- that text, with the status
 abbrev pub answer_of : Report → Record → Answer
-answer_of report r = record { text = report_text report ++ events_line r; file = None; status = trace_status report r }
+answer_of report r = record { text = trace_text report r; file = None; status = trace_status report r }
 
 unfoldable pub traced : Parts → Answer
 traced parts = answer_of (report_of parts) (last_record parts)
@@ -102,6 +107,10 @@ unfoldable pub trace_of : Held → List ℕ → Result Answer Refusal
 trace_of held run = do
   parts ← parts_of held run
   Ok (traced parts)
+
+-- the report names a forged entry or a collision
+abbrev pub NamesFinding : Report → Type 0
+NamesFinding report = (is_some report.forged ≡ true) ⊎ (is_some report.collision ≡ true)
 
 -- ---- The headline
 

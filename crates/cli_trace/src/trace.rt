@@ -1,10 +1,11 @@
-ghost use Rattle.std.specs.Prelude.{◌≡◌, ◌≤◌, ◌^◌, ◌++◌, IfOk, string_bytes};
+ghost use Rattle.std.specs.Prelude.{◌≡◌, ◌≤◌, ◌^◌, IfOk, string_bytes};
 ghost use Rattle.std.specs.List.{list_any};
 ghost use Rattle.cli_base.specs.Commands.{IsDone};
 ghost use Rattle.cli_base.specs.Readings.{Gives};
-ghost use Rattle.cli_trace.specs.Trace.{IsRunnable, answer_of, ending_text, events_line, is_doubted as is_doubted_by, is_stop as is_stop_by, is_suspect as is_suspect_by, last_of, parts_of, trace_of, trace_status, traced as traced_of};
+ghost use Rattle.cli_trace.specs.Trace.{IsRunnable, answer_of, ending_text, events_line, is_doubted as is_doubted_by, is_stop as is_stop_by, is_suspect as is_suspect_by, last_of, last_record, parts_of, report_of, trace_of, trace_status, traced as traced_of};
 ghost use Rattle.xom_model.specs.Run.{IsSchedule};
 
+use crate::console::{console, end_line};
 use crate::reading::{run_file, script};
 use cli_base::{Answer, Stop, image};
 use mips_plain::Verdict;
@@ -13,6 +14,7 @@ use std::alloc::Global;
 use trace_judge::{GuestLine, Report, judge, print_report};
 use xom_base::{ByteList, Entry, NoMemory, PlainImage, RunEnd, Schedule};
 use xom_io::Files;
+use xom_journal::Journal;
 use xom_machine::{Machine, run};
 use xom_owners::{Owner, OwnerList};
 use xom_script::{RunFile, Script};
@@ -28,7 +30,17 @@ pub struct Parts {
     pub script: Script,
 }
 
-/// `trace RUN`: reads what a run is made of, makes it, and judges its journal.
+/// A run that was made, with the report on its journal.
+#[derive(Drop)]
+pub struct JudgedRun {
+    /// The machine after it.
+    pub machine: Machine,
+    /// The report.
+    pub report: Report,
+}
+
+/// `trace RUN`: reads what a run is made of, makes it, and prints its console and the report on its
+/// journal.
 #[tactic(auto, unfolding(crate::specs::Trace::trace_of))]
 pub fn trace<F: Files>(alloc: Global, files: &mut F, run: &String) -> Result<Answer, Stop>
     ensures gives { Gives (F.held files.old) (λ held. trace_of held (string_bytes run.now))
@@ -44,7 +56,7 @@ pub fn trace<F: Files>(alloc: Global, files: &mut F, run: &String) -> Result<Ans
 /// Reads the run file, the image of its owner and the script of its kernel, in this order. The
 /// first that can't be read or is off its form is refused.
 #[tactic(auto, unfolding(crate::specs::Trace::parts_of))]
-fn read_parts<F: Files>(alloc: Global, files: &mut F, run: &String) -> Result<Parts, Stop>
+pub fn read_parts<F: Files>(alloc: Global, files: &mut F, run: &String) -> Result<Parts, Stop>
     ensures gives { Gives (F.held files.old) (λ held. parts_of held (string_bytes run.now))
         (F.reads files.old) (F.reads files.new) result }
     ensures runnable { IfOk result (λ parts. IsRunnable parts.file) }
@@ -61,11 +73,21 @@ fn read_parts<F: Files>(alloc: Global, files: &mut F, run: &String) -> Result<Pa
     })
 }
 
-/// Makes the run and judges its journal.
+/// Makes the run, and says what a trace has to say of it.
 #[tactic(auto, unfolding(crate::specs::Trace::traced))]
 fn traced(alloc: Global, parts: Parts) -> Result<Answer, NoMemory>
     requires { IsRunnable parts.file }
     ensures { IfOk result (λ answer. answer ≡ traced_of parts) }
+{
+    let made = judged(alloc, parts)?;
+    answer(alloc, &made.report, &made.machine)
+}
+
+/// Makes the run and judges its journal.
+pub fn judged(alloc: Global, parts: Parts) -> Result<JudgedRun, NoMemory>
+    requires { IsRunnable parts.file }
+    ensures machine { IfOk result (λ made. made.machine.state ≡ last_record parts) }
+    ensures report { IfOk result (λ made. made.report ≡ report_of parts) }
 {
     let Parts {
         file,
@@ -80,8 +102,8 @@ fn traced(alloc: Global, parts: Parts) -> Result<Answer, NoMemory>
     let machine = ran(alloc, &owner, &file.schedule, file.budget, script)?;
     let mut owners = OwnerList::new(alloc);
     owners.push(owner)?;
-    let report = judge(alloc, &owners, machine.journal())?;
-    answer(alloc, &report, &machine)
+    let report = judge(alloc, &file.machine, &owners, machine.journal())?;
+    Ok(JudgedRun { machine, report })
 }
 
 /// The machine after the run of an owner's guest under a script.
@@ -106,13 +128,15 @@ fn ran(
     }
 }
 
-/// What the trace has to say.
+/// What the trace has to say: the console, the report, and the line of the events.
 fn answer(alloc: Global, report: &Report, machine: &Machine) -> Result<Answer, NoMemory>
     ensures { IfOk result (λ answer. answer ≡ answer_of report.now machine.now.state) }
 {
+    let mut text = console(alloc, machine.journal())?;
+    end_line(&mut text)?;
     let lines = print_report(alloc, report)?;
     let events = events_text(alloc, machine)?;
-    let mut text = Vec::from_slice(alloc, lines.as_slice())?;
+    text.extend_from_slice(lines.as_slice())?;
     text.extend_from_slice(events.as_bytes())?;
     Ok(Answer {
         text: ByteList::from_vec(text),
@@ -135,12 +159,12 @@ fn events_text(alloc: Global, machine: &Machine) -> Result<String, NoMemory>
 
 /// The first status that holds: 9 for a suspect report, 8 where a guest was stopped, 0 where the
 /// kernel halted, and 6 where the budget was reached.
-fn status(report: &Report, machine: &Machine) -> u8
+pub fn status(report: &Report, machine: &Machine) -> u8
     ensures { result ≡ trace_status report.now machine.now.state }
 {
     if is_suspect(report) {
         9
-    } else if has_stop(machine.journal().entries()) {
+    } else if has_stop(machine.journal()) {
         8
     } else if machine.is_halted() {
         0
@@ -167,10 +191,17 @@ fn is_doubted(verdict: Verdict) -> bool
     !matches!(verdict, Verdict::Follows(_))
 }
 
-fn has_stop(entries: &[Entry]) -> bool
-    ensures { result ≡ list_any is_stop_by entries.now }
+fn has_stop(journal: &Journal) -> bool
+    ensures { result ≡ list_any is_stop_by journal.now.entries }
 {
-    entries.iter().any(|entry| is_stop(entry))
+    for i in 0..journal.len() {
+        if let Some(entry) = journal.get(i) {
+            if is_stop(&entry) {
+                return true;
+            }
+        }
+    }
+    false
 }
 
 fn is_stop(entry: &Entry) -> bool

@@ -6,7 +6,6 @@ use Rattle.xom_io.specs.declared.files.FileFault.TheVariants as file_fault
 use Rattle.xom_io.specs.declared.sink.SinkFault.{SinkFault}
 use Rattle.xom_io.specs.declared.sink.SinkFault.TheVariants as sink_fault
 use Rattle.xom_io.specs.Answers.{Appends, KeepsOthers, Rises, TakesAll, Told}
-use Rattle.trace_judge.specs.ReportText.{report_text}
 use Rattle.cli_base.specs.declared.answer.Answer.{Answer}
 use Rattle.xom_cli.specs.declared.ending.Ending.{Ending}
 use Rattle.xom_cli.specs.declared.ending.Ending.TheVariants as ending
@@ -19,14 +18,17 @@ use Rattle.xom_cli.specs.Endings.{Disk, Ends, EndsRow, EndsWords, Finishes, IsSi
 use Rattle.cli_base.specs.Commands.{IsDone}
 use Rattle.cli_base.specs.Inputs.{Held, without}
 use Rattle.xom_cli.specs.Outcome.{IsOutcome, IsPrinted, IsPrintedBy, Printed, printed, printed_words}
-use Rattle.xom_cli.specs.Promises.{ChangesOnly, FailsWriting, IsReadBy, IsUnprinted, IsUnput, Promises, WritesFile, WritesPrefix, WritesWhole, target_in}
+use Rattle.xom_cli.specs.Promises.{AsksForRun, ChangesOnly, FailsWriting, IsReadBy, IsUnprinted, IsUnput, Promises, WritesFile, WritesPrefix, WritesWhole, target_in}
 use Rattle.cli_base.specs.Readings.{IsRead, Meets, Refuses}
 use Rattle.cli_base.specs.Refusals.{line_of, refusal_status, words_line}
-use Rattle.xom_cli.specs.Rows.{Row, Trace, row_of, target_of}
-use Rattle.cli_trace.specs.Trace.{AllFollow, events_line, last_record, parts_of, report_of, traced}
+use Rattle.xom_cli.specs.Rows.{Row, Run, Trace, row_of, target_of}
+use Rattle.cli_trace.specs.Console.{console_of}
+use Rattle.cli_trace.specs.Run.{console_run}
+use Rattle.cli_trace.specs.Trace.{AllFollow, NamesFinding, last_record, parts_of, report_of, trace_of, trace_text, traced}
 use Rattle.xom_cli.proofs.Delivered.{done_not_1, done_not_2, done_not_3, done_not_4, done_not_5, fails-rising, lacks-count, lacks-held, never-long, puts-changes, puts-count, puts-file, puts-nothing, same-changes, same-count, takes-prefix}
 use Rattle.cli_trace.proofs.Headline.{all_follow}
-use Rattle.xom_cli.proofs.Targets.{trace-answer}
+use Rattle.cli_trace.proofs.Statuses.{nine-names}
+use Rattle.xom_cli.proofs.Targets.{parts-traced, run-answer, trace-answer}
 use Rattle.xom_cli.proofs.Unread.{row-unread}
 
 -- the sink took a text, and answered this
@@ -73,7 +75,10 @@ module _ (words : List (List ℕ)) (before after : Outside) where
     whole = leaves.whole;
     keeps = λ one. absurd (elim one [ inl e ↦ omega arith | inr other ↦ elim other [ inl e ↦ omega arith | inr e ↦ omega arith ] ]);
     unprinted = leaves.unprinted;
+    done_all = λ held told d. absurd (done_not_5 d);
     headline = λ held told run row d. absurd (done_not_5 d);
+    console = λ held told run row d. absurd (done_not_5 d);
+    finding_cause = λ held told run row nine. absurd (omega arith);
   }
 
   silent_prefix : after.output ≡ before.output → WritesPrefix words before after
@@ -127,7 +132,10 @@ module _ (words : List (List ℕ)) (before after : Outside) where
       whole = (same_leaves same).whole;
       keeps = λ _. same;
       unprinted = (same_leaves same).unprinted;
+      done_all = λ held told d. absurd (done_not_1 d);
       headline = λ held told run row d. absurd (done_not_1 d);
+      console = λ held told run row d. absurd (done_not_1 d);
+      finding_cause = λ held told run row nine. absurd (omega arith);
     }
 
     words_end : after.disk ≡ before.disk → after.reads ≡ before.reads → (put : Result (Unit {0}) SinkFault) → Took before.output after.output words_line put → Promises words before after (status_of (ended ending.NoRow ending.NoRow put))
@@ -172,13 +180,41 @@ module _ (words : List (List ℕ)) (before after : Outside) where
       answer_leaves : (put : Result (Unit {0}) FileFault) → PutsFile before.disk after.disk answer.file put → IsUnprinted before after → Leaves
       answer_leaves put puts unprinted = record { changes = answer_changes put puts; unput = answer_unput put puts; whole = answer_whole put puts; unprinted = unprinted }
 
+      -- the command is that of this row
+      is_wanted : (asked : Row) → row_of words ≡ Some asked → (held : Held) → before.disk.held ≡ Some held → IsOutcome asked held (Ok answer)
+      is_wanted asked named held told =
+          let same : row ≡ asked = cc in
+          subst (λ r. IsOutcome r held (Ok answer)) same (wanted held told)
+
       headline_here : Appends before.output.written after.output.written answer.text → (held : Held) → before.disk.held ≡ Some held → (run : List ℕ) → row_of words ≡ Some (Trace run)
-          → (parts : Parts) × (parts_of held run ≡ Ok parts) × Appends before.output.written after.output.written (report_text (report_of parts) ++ events_line (last_record parts)) × AllFollow (report_of parts)
+          → (parts : Parts) × (parts_of held run ≡ Ok parts) × Appends before.output.written after.output.written (trace_text (report_of parts) (last_record parts)) × AllFollow (report_of parts)
       unfolding traced
       headline_here whole held told run named =
-          let same : row ≡ Trace run = cc in
-          let found = trace-answer held run answer (subst (λ r. IsOutcome r held (Ok answer)) same (wanted held told)) in
+          let found = trace-answer held run answer (is_wanted (Trace run) named held told) in
           (found.0, found.1, subst (λ (a : Answer). Appends before.output.written after.output.written a.text) found.2 whole, all_follow found.0)
+
+      console_here : Appends before.output.written after.output.written answer.text → (held : Held) → before.disk.held ≡ Some held → (run : List ℕ) → row_of words ≡ Some (Run run)
+          → (parts : Parts) × (parts_of held run ≡ Ok parts) × (trace_of held run ≡ Ok (traced parts)) × (answer.status ≡ (traced parts).status)
+          × Appends before.output.written after.output.written (console_of (last_record parts).core.entries) × AllFollow (report_of parts)
+      unfolding traced console_run
+      console_here whole held told run named =
+          let found = run-answer held run answer (is_wanted (Run run) named held told) in (
+            found.0,
+            found.1,
+            parts-traced held run found.0 found.1,
+            ap (λ (a : Answer). a.status) found.2,
+            subst (λ (a : Answer). Appends before.output.written after.output.written a.text) found.2 whole,
+            all_follow found.0,
+          )
+
+      finding_here : answer.status ≡ 9 → (held : Held) → before.disk.held ≡ Some held → (run : List ℕ) → AsksForRun words run → (parts : Parts) × (parts_of held run ≡ Ok parts) × NamesFinding (report_of parts)
+      unfolding traced console_run
+      finding_here nine held told run (inl named) =
+          let found = run-answer held run answer (is_wanted (Run run) named held told) in
+          (found.0, found.1, nine-names found.0 (sym (ap (λ (a : Answer). a.status) found.2) ∙ nine))
+      finding_here nine held told run (inr named) =
+          let found = trace-answer held run answer (is_wanted (Trace run) named held told) in
+          (found.0, found.1, nine-names found.0 (sym (ap (λ (a : Answer). a.status) found.2) ∙ nine))
 
       -- the file was put, and all of the text
       delivered : (u : Unit {0}) → PutsFile before.disk after.disk answer.file (Ok u) → (v : Unit {0}) → Took before.output after.output answer.text (Ok v) → Promises words before after answer.status
@@ -198,7 +234,10 @@ module _ (words : List (List ℕ)) (before after : Outside) where
         whole = answer_whole (Ok u) puts;
         keeps = λ one. absurd (elim one [ inl e ↦ done_not_1 (subst IsDone e done) | inr other ↦ elim other [ inl e ↦ done_not_2 (subst IsDone e done) | inr e ↦ done_not_4 (subst IsDone e done) ] ]);
         unprinted = λ rises. absurd (let is : after.disk.writes ≡ before.disk.writes = puts-count before.disk after.disk answer.file u puts in omega arith);
+        done_all = λ held told _. (printed (Ok answer), answer_printed held told, refl, takes.1, puts-file before.disk after.disk answer.file u puts);
         headline = λ held told run named _. headline_here takes.1 held told run named;
+        console = λ held told run named _. console_here takes.1 held told run named;
+        finding_cause = λ held told run named nine. finding_here nine held told run named;
       }
 
       -- the file or the text couldn't be written
@@ -219,7 +258,10 @@ module _ (words : List (List ℕ)) (before after : Outside) where
         whole = leaves.whole;
         keeps = λ one. absurd (elim one [ inl e ↦ omega arith | inr other ↦ elim other [ inl e ↦ omega arith | inr e ↦ omega arith ] ]);
         unprinted = leaves.unprinted;
+        done_all = λ held told d. absurd (done_not_3 d);
         headline = λ held told run named d. absurd (done_not_3 d);
+        console = λ held told run named d. absurd (done_not_3 d);
+        finding_cause = λ held told run named nine. absurd (omega arith);
       }
 
       uncounted : after.disk.writes ≡ before.disk.writes → IsUnprinted before after
@@ -265,7 +307,10 @@ module _ (words : List (List ℕ)) (before after : Outside) where
         whole = (same_leaves same).whole;
         keeps = λ _. same;
         unprinted = (same_leaves same).unprinted;
+        done_all = λ held told d. absurd (done_not_4 d);
         headline = λ held told run named d. absurd (done_not_4 d);
+        console = λ held told run named d. absurd (done_not_4 d);
+        finding_cause = λ held told run named nine. absurd (omega arith);
       }
 
       bad_end : (put : Result (Unit {0}) SinkFault) → Took before.output after.output (line_of refusal) put → Promises words before after (status_of (ended ending.BadInput ending.BadInput put))
@@ -319,7 +364,10 @@ module _ (words : List (List ℕ)) (before after : Outside) where
         whole = (same_leaves same).whole;
         keeps = λ _. same;
         unprinted = (same_leaves same).unprinted;
+        done_all = λ held told d. absurd (done_not_2 d);
         headline = λ held told run named d. absurd (done_not_2 d);
+        console = λ held told run named d. absurd (done_not_2 d);
+        finding_cause = λ held told run named nine. absurd (omega arith);
       }
 
       unread_end : (put : Result (Unit {0}) SinkFault) → Took before.output after.output (line_of (Unread name)) put → Promises words before after (status_of (ended ending.Unread ending.Unread put))

@@ -11,7 +11,8 @@ use Rattle.cli_base.specs.Inputs.{◌>>=◌, Held, fetched, image_of}
 use Rattle.cli_programs.specs.Programs.{source_limit}
 use Rattle.xom_cli.specs.Outcome.{IsOutcome}
 use Rattle.cli_programs.specs.Programs.{disasm_of, plain_of, seal_of, values_of}
-use Rattle.xom_cli.specs.Rows.{Row, Asm, Disasm, Plain, Seal, Trace, target_of}
+use Rattle.xom_cli.specs.Rows.{Row, Asm, Disasm, Plain, Seal, Run, Trace, target_of}
+use Rattle.cli_trace.specs.Run.{console_run, run_of}
 use Rattle.cli_trace.specs.Trace.{parts_of, trace_of, traced}
 
 -- where two steps answer, the first did, and the second of what it gave
@@ -34,6 +35,27 @@ trace-file : (held : Held) (run : List ℕ) (answer : Answer) → trace_of held 
 trace-file held run answer is =
     let found = trace-answer held run answer is in
     ap (λ (a : Answer). a.file) found.2 ∙ traced-file found.0
+
+-- the answer of `run` is that of its parts
+pub run-answer : (held : Held) (run : List ℕ) (answer : Answer) → run_of held run ≡ Ok answer → (parts : Parts) × (parts_of held run ≡ Ok parts) × (answer ≡ console_run parts)
+unfolding run_of
+run-answer held run answer is =
+    let found = bind-ok (parts_of held run) (λ parts. Ok (console_run parts)) answer is in
+    (found.0, found.1, let last = found.2 in cc)
+
+console_run-file : (parts : Parts) → (console_run parts).file ≡ None
+unfolding console_run
+console_run-file parts = refl
+
+run-file : (held : Held) (run : List ℕ) (answer : Answer) → run_of held run ≡ Ok answer → answer.file ≡ None
+run-file held run answer is =
+    let found = run-answer held run answer is in
+    ap (λ (a : Answer). a.file) found.2 ∙ console_run-file found.0
+
+-- where the parts are read, they are traced
+pub parts-traced : (held : Held) (run : List ℕ) (parts : Parts) → parts_of held run ≡ Ok parts → trace_of held run ≡ Ok (traced parts)
+unfolding trace_of
+parts-traced held run parts is = ap (λ read. read >>= (λ p. Ok (traced p))) is
 
 asm_read-file : (source target : List ℕ) (read : Result (List ℕ) Refusal) (answer : Answer) (file : OutputFile) → AssemblesRead source target read (Ok answer) → answer.file ≡ Some file → file.name ≡ target
 asm_read-file source target (Ok text) answer file is written = let last = is.2 in cc
@@ -58,4 +80,5 @@ target-written (Asm source target) held answer file is written = ap Some (sym (a
 target-written (Disasm image) held answer file is written = let none = disasm-file held image answer is in absurd (cc)
 target-written (Plain image steps received) held answer file is written = let none = plain-file held image steps received answer is in absurd (cc)
 target-written (Seal image key id machine sealed) held answer file is written = ap Some (sym (seal-file held image key id machine sealed answer file is written))
+target-written (Run run) held answer file is written = let none = run-file held run answer is in absurd (cc)
 target-written (Trace run) held answer file is written = let none = trace-file held run answer is in absurd (cc)

@@ -14,7 +14,8 @@ use Rattle.cli_programs.specs.Programs.{received_of, source_limit}
 use Rattle.cli_trace.specs.Inputs.{run_file_of, script_of}
 use Rattle.xom_cli.specs.Outcome.{IsOutcome}
 use Rattle.cli_programs.specs.Programs.{disasm_of, plain_of, seal_of, values_of}
-use Rattle.xom_cli.specs.Rows.{Row, Asm, Disasm, Plain, Seal, Trace}
+use Rattle.xom_cli.specs.Rows.{Row, Asm, Disasm, Plain, Seal, Run, Trace}
+use Rattle.cli_trace.specs.Run.{run_of}
 use Rattle.cli_trace.specs.Trace.{parts_of, trace_of}
 
 -- where a step and what follows it are refused, one of them is
@@ -112,9 +113,17 @@ trace-unread held run name is = elim (bind-err (parts_of held run) _ (Unread nam
   | inr parts ↦ absurd (let last = parts.2 in cc)
 ]
 
+run-unread : (held : Held) (run name : List ℕ) → run_of held run ≡ Err (Unread name) → held name ≡ None
+unfolding run_of
+run-unread held run name is = elim (bind-err (parts_of held run) _ (Unread name) is) [
+  | inl here ↦ parts-unread held run name here
+  | inr parts ↦ absurd (let last = parts.2 in cc)
+]
+
 pub row-unread : (row : Row) (held : Held) (name : List ℕ) → IsOutcome row held (Err (Unread name)) → held name ≡ None
 row-unread (Asm source target) held name is = asm-unread held source target name is
 row-unread (Disasm image) held name is = disasm-unread held image name is
 row-unread (Plain image steps received) held name is = plain-unread held image steps received name is
 row-unread (Seal image key id machine sealed) held name is = seal-unread held image key id machine sealed name is
+row-unread (Run run) held name is = run-unread held run name is
 row-unread (Trace run) held name is = trace-unread held run name is

@@ -1,7 +1,6 @@
 -- What may be said of every call: its status with its cause, what it wrote, and what the owner of a guest may believe.
 use Rattle.std.specs.Prelude.{◌≡◌, ◌≢◌, ◌⊎◌, ℕ, ◌<◌, List, ◌++◌, Option, Some, None, Ok, Err, IsSomeAnd, MatchOption, option_and_then, take}
 use Rattle.xom_io.specs.Answers.{Appends, Holds, KeepsOthers, Rises}
-use Rattle.trace_judge.specs.ReportText.{report_text}
 use Rattle.cli_base.specs.declared.answer.OutputFile.{OutputFile}
 use Rattle.cli_trace.specs.declared.trace.Parts.{Parts}
 use Rattle.cli_base.specs.declared.refusal.Refusal.TheVariants.{Unread}
@@ -10,8 +9,9 @@ use Rattle.cli_base.specs.Commands.{IsDone}
 use Rattle.cli_base.specs.Inputs.{Held, without}
 use Rattle.xom_cli.specs.Outcome.{IsPrinted, Printed, printed}
 use Rattle.cli_base.specs.Refusals.{line_of}
-use Rattle.xom_cli.specs.Rows.{Trace, row_of, target_of}
-use Rattle.cli_trace.specs.Trace.{AllFollow, events_line, last_record, parts_of, report_of}
+use Rattle.xom_cli.specs.Rows.{Run, Trace, row_of, target_of}
+use Rattle.cli_trace.specs.Console.{console_of}
+use Rattle.cli_trace.specs.Trace.{AllFollow, NamesFinding, last_record, parts_of, report_of, trace_of, trace_text, traced}
 
 -- the statuses that there are
 abbrev pub IsStatus : ℕ → Type 0
@@ -74,6 +74,11 @@ abbrev pub WritesAll : List (List ℕ) → Outside → Outside → ℕ → Type 
 WritesAll words before after status = (held : Held) → before.disk.held ≡ Some held → ¬ Rises before.reads after.reads → ¬ FailsWriting before after → status ≢ 5
     → (p : Printed) × IsPrinted words held p × Appends before.output.written after.output.written p.text × WritesFile before.disk after.disk p.file
 
+-- A command that was carried out wrote all of the text and the file of the outcome whose status it has, whatever the counts stand at.
+abbrev pub WritesDone : List (List ℕ) → Outside → Outside → ℕ → Type 0
+WritesDone words before after status = (held : Held) → before.disk.held ≡ Some held → IsDone status
+    → (p : Printed) × IsPrinted words held p × (p.status ≡ status) × Appends before.output.written after.output.written p.text × WritesFile before.disk after.disk p.file
+
 -- the first n bytes of the text were written
 abbrev pub WritesFirst : Outside → Outside → ℕ → List ℕ → Type 0
 WritesFirst before after n text = Appends before.output.written after.output.written (take n text)
@@ -112,10 +117,27 @@ KeepsFiles before after status = (status ≡ 1) ⊎ (status ≡ 2) ⊎ (status �
 abbrev pub IsUnprinted : Outside → Outside → Type 0
 IsUnprinted before after = before.disk.writes < after.disk.writes → after.output ≡ before.output
 
--- The headline: where `trace` was carried out, its text is the report on the journal that the run made, and each installed guest's recorded steps are those of its owner's program, run alone with the values that it received.
+-- ---- What the owner of a guest may believe
+
+-- The headline: where `trace` was carried out, its text is the console of the run that the run file defines, the report on the journal that this run made, and the line of its events; and each installed guest's recorded steps are those of its owner's program, run alone with the values that it received.
 abbrev pub GuestsRunAlone : List (List ℕ) → Outside → Outside → ℕ → Type 0
 GuestsRunAlone words before after status = (held : Held) → before.disk.held ≡ Some held → (run : List ℕ) → row_of words ≡ Some (Trace run) → IsDone status
-    → (parts : Parts) × (parts_of held run ≡ Ok parts) × Appends before.output.written after.output.written (report_text (report_of parts) ++ events_line (last_record parts)) × AllFollow (report_of parts)
+    → (parts : Parts) × (parts_of held run ≡ Ok parts) × Appends before.output.written after.output.written (trace_text (report_of parts) (last_record parts)) × AllFollow (report_of parts)
+
+-- Where `run` was carried out, its text is the console of the run that `trace` makes of the same run file, and its status is that of this trace; and each guest's steps are those of its owner's program too.
+abbrev pub PrintsConsole : List (List ℕ) → Outside → Outside → ℕ → Type 0
+PrintsConsole words before after status = (held : Held) → before.disk.held ≡ Some held → (run : List ℕ) → row_of words ≡ Some (Run run) → IsDone status
+    → (parts : Parts) × (parts_of held run ≡ Ok parts) × (trace_of held run ≡ Ok (traced parts)) × (status ≡ (traced parts).status)
+    × Appends before.output.written after.output.written (console_of (last_record parts).core.entries) × AllFollow (report_of parts)
+
+-- the words ask for the run of this run file
+abbrev pub AsksForRun : List (List ℕ) → List ℕ → Type 0
+AsksForRun words run = (row_of words ≡ Some (Run run)) ⊎ (row_of words ≡ Some (Trace run))
+
+-- Under `run` and `trace` 9 comes only where the report names a forged entry or a collision: no guest departs there, and each has an owner.
+abbrev pub FindingCause : List (List ℕ) → Outside → ℕ → Type 0
+FindingCause words before status = (held : Held) → before.disk.held ≡ Some held → (run : List ℕ) → AsksForRun words run → status ≡ 9
+    → (parts : Parts) × (parts_of held run ≡ Ok parts) × NamesFinding (report_of parts)
 
 -- all of this, of a call with these words
 pub record Promises (words : List (List ℕ)) (before after : Outside) (status : ℕ) : Type 0 where
@@ -128,6 +150,7 @@ pub record Promises (words : List (List ℕ)) (before after : Outside) (status :
   pub defined : IsDefined words before status
   pub sure : IsSure words before after status
   pub all : WritesAll words before after status
+  pub done_all : WritesDone words before after status
   pub prefix : WritesPrefix words before after
   pub changes : ChangesOnly words before after
   pub unput : IsUnput words before after
@@ -135,3 +158,5 @@ pub record Promises (words : List (List ℕ)) (before after : Outside) (status :
   pub keeps : KeepsFiles before after status
   pub unprinted : IsUnprinted before after
   pub headline : GuestsRunAlone words before after status
+  pub console : PrintsConsole words before after status
+  pub finding_cause : FindingCause words before status

@@ -16,7 +16,9 @@ pub data Row : Type 0 where
   Plain : (image : List ℕ) → (steps : ℕ) → (received : Option (List ℕ)) → Row
   -- seals a plain image under an owner's key and id for a machine, and writes it
   Seal : (image : List ℕ) → (key : Key256) → (id : ImageId) → (machine : Key256) → (sealed : List ℕ) → Row
-  -- makes the run of a run file and judges its journal
+  -- makes the run of a run file, and prints its console
+  Run : (run : List ℕ) → Row
+  -- makes the run of a run file, and prints its console and the judgement of its journal
   Trace : (run : List ℕ) → Row
 
 -- at most so many steps are asked for
@@ -39,7 +41,8 @@ seal_row image key id machine sealed = do
 abbrev pub row_of_one : List ℕ → List ℕ → Option Row
 row_of_one command a =
     if bytes_eq command (codes "disasm") then Some (Disasm a)
-    else (if bytes_eq command (codes "trace") then Some (Trace a) else None)
+    else (if bytes_eq command (codes "run") then Some (Run a)
+    else (if bytes_eq command (codes "trace") then Some (Trace a) else None))
 
 abbrev pub row_of_two : List ℕ → List ℕ → List ℕ → Option Row
 row_of_two command a b =
@@ -66,4 +69,5 @@ target_of (Asm source image) = Some image
 target_of (Disasm image) = None
 target_of (Plain image steps received) = None
 target_of (Seal image key id machine sealed) = Some sealed
+target_of (Run run) = None
 target_of (Trace run) = None

@@ -33,6 +33,10 @@ pub enum Row<'a> {
         machine: Key256,
         sealed: &'a String,
     },
+    /// `run RUN`
+    Run {
+        run: &'a String,
+    },
     /// `trace RUN`
     Trace {
         run: &'a String,
@@ -58,6 +62,7 @@ fn row_of_one<'a>(command: &String, a: &'a String) -> Option<Row<'a>>
 {
     match command.as_str() {
         "disasm" => Some(Row::Disasm { image: a }),
+        "run" => Some(Row::Run { run: a }),
         "trace" => Some(Row::Trace { run: a }),
         _ => None,
     }

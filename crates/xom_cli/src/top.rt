@@ -14,6 +14,7 @@ use cli_programs::asm::asm;
 use cli_programs::disasm::disasm;
 use cli_programs::plain::plain;
 use cli_programs::seal::seal;
+use cli_trace::run::run;
 use cli_trace::trace::trace;
 use std::alloc::Global;
 use xom_io::{Files, Sink};
@@ -27,7 +28,10 @@ use xom_io::{Files, Sink};
 ///   STEPS steps, and print each; the values that it receives come from a received file.
 /// - `seal IMAGE KEY ID MACHINE SEALED` seals a plain image under its owner's key and id for a
 ///   machine, and writes it as the file SEALED.
-/// - `trace RUN` makes the run of a run file and prints the judgement of its journal.
+/// - `run RUN` makes the run of a run file and prints its console: the bytes that its kernel wrote
+///   there. Where there is none nothing is put.
+/// - `trace RUN` makes the same run, with the same status, and prints its console and the judgement of
+///   its journal.
 ///
 /// 0: carried out; for a run, the kernel halted. 1: the words match no command. 2: a file can't be
 /// read. 3: the output can't be written. 4: a file is too long, or off its format. 5: no memory was
@@ -87,6 +91,7 @@ fn answer<F: Files>(alloc: Global, row: Row<'_>, files: &mut F) -> Result<Answer
             machine,
             sealed,
         } => seal(alloc, files, image, key, id, &machine, sealed),
+        Row::Run { run: name } => run(alloc, files, name),
         Row::Trace { run } => trace(alloc, files, run),
     }
 }

@@ -21,7 +21,7 @@ pub fn operate(core: &mut Core, op: Op) -> u32
     ensures status { result ≡ (operation (core_of core.old) op).1 }
     ensures kept { ((slot : ℕ) → ¬ IsRunning (core_of core.old) slot) → (owners : List Owner) → Holds owners (core_of core.old) → Holds owners (core_of core.new) }
     ensures refused { 1 ≤ result → result ≤ 7 → core_of core.new ≡ core_of core.old }
-    ensures stopped { (result ≡ 8) ↔ AddsStop (core_of core.old) (core_of core.new) }
+    ensures stopped { (result ≡ 8) ↔ AddsStop op (core_of core.old) (core_of core.new) }
     ensures room { core.old.journal.spare ≤ core.new.journal.spare + EVENT_ROOM }
 {
     carry_out(core, op)
@@ -81,7 +81,7 @@ fn enter(core: &mut Core, slot: u8) -> u32
     match session.state {
         SlotState::Free => 1,
         SlotState::Fresh => {
-            core.table.set(slot, &session.entered());
+            *core.table.session_mut(slot) = session.entered();
             0
         }
         _ => 2,
@@ -136,7 +136,7 @@ fn go_on(core: &mut Core, slot: u8, reg: Option<u8>) -> u32
     match reg {
         None => {
             let session = *core.table.session(slot);
-            core.table.set(slot, &session.resumed());
+            *core.table.session_mut(slot) = session.resumed();
             0
         }
         Some(reg) => {

@@ -1,0 +1,19 @@
+-- `run RUN`: the console of the run that `trace RUN` makes, with the status of that trace.
+use Rattle.std.specs.Prelude.{ℕ, List, None, Result, Ok}
+use Rattle.cli_base.specs.declared.answer.Answer.{Answer}
+use Rattle.cli_base.specs.declared.refusal.Refusal.{Refusal}
+use Rattle.cli_base.specs.Inputs.{◌>>=◌, Held}
+use Rattle.cli_trace.specs.declared.trace.Parts.{Parts}
+use Rattle.cli_trace.specs.Console.{console_of}
+use Rattle.cli_trace.specs.Trace.{last_record, parts_of, report_of, trace_status}
+
+-- the console alone, with the status of the trace
+unfoldable pub console_run : Parts → Answer
+console_run parts =
+    record { text = console_of (last_record parts).core.entries; file = None; status = trace_status (report_of parts) (last_record parts) }
+
+-- the answer of the command
+unfoldable pub run_of : Held → List ℕ → Result Answer Refusal
+run_of held run = do
+  parts ← parts_of held run
+  Ok (console_run parts)

@@ -1,0 +1,41 @@
+ghost use Rattle.std.specs.Prelude.{◌≡◌, IfOk, string_bytes};
+ghost use Rattle.cli_base.specs.Commands.{IsDone};
+ghost use Rattle.cli_base.specs.Readings.{Gives};
+ghost use Rattle.cli_trace.specs.Run.{console_run, run_of};
+ghost use Rattle.cli_trace.specs.Trace.{IsRunnable};
+
+use crate::console::console;
+use crate::trace::{Parts, judged, read_parts, status};
+use cli_base::{Answer, Stop};
+use std::alloc::Global;
+use xom_base::{ByteList, NoMemory};
+use xom_io::Files;
+
+/// `run RUN`: makes the run that `trace` makes, and prints its console alone. The status is that of
+/// its trace, for which the journal is judged here too.
+#[tactic(auto, unfolding(crate::specs::Run::run_of))]
+pub fn run<F: Files>(alloc: Global, files: &mut F, run: &String) -> Result<Answer, Stop>
+    ensures gives { Gives (F.held files.old) (λ held. run_of held (string_bytes run.now))
+        (F.reads files.old) (F.reads files.new) result }
+    ensures done { IfOk result (λ answer. IsDone answer.status) }
+    ensures names { F.held files.new ≡ F.held files.old }
+    ensures writes { F.writes files.new ≡ F.writes files.old }
+{
+    let parts = read_parts(alloc, files, run)?;
+    Ok(console_alone(alloc, parts)?)
+}
+
+/// Makes the run, and prints its console.
+#[tactic(auto, unfolding(crate::specs::Run::console_run))]
+fn console_alone(alloc: Global, parts: Parts) -> Result<Answer, NoMemory>
+    requires { IsRunnable parts.file }
+    ensures { IfOk result (λ answer. answer ≡ console_run parts) }
+{
+    let made = judged(alloc, parts)?;
+    let text = console(alloc, made.machine.journal())?;
+    Ok(Answer {
+        text: ByteList::from_vec(text),
+        file: None,
+        status: status(&made.report, &made.machine),
+    })
+}
