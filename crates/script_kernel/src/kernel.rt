@@ -1,5 +1,6 @@
 ghost use Rattle.std.specs.Prelude.{◌≡◌, true};
 ghost use Rattle.script_kernel.specs.Turns.{is_built, is_built_line, is_built_op, ops_of};
+ghost use Rattle.xom_script.specs.declared.script_line.ScriptLine.TheVariants as script_line;
 
 use std::marker::Model;
 use xom_base::{Op, Turn};
@@ -15,7 +16,7 @@ pub struct ScriptKernel {
 }
 
 impl Model for ScriptKernel {
-    ghost use Rattle.std.specs.Prelude.{◌≡◌, ◌×◌, List, drop, length, ◌≤◌, true};
+    ghost use Rattle.std.specs.Prelude.{◌≡◌, List, drop, length, ◌≤◌, true};
     ghost use Rattle.xom_base.specs.declared.event.Op.{Op};
     ghost use Rattle.script_kernel.specs.Turns.{is_built, ops_of};
 
@@ -31,7 +32,11 @@ impl Model for ScriptKernel {
 pub fn is_built(script: &Script) -> bool
     ensures { result ≡ is_built script.now }
 {
-    script.lines.as_slice().iter().all(|line| is_built_line(line))
+    script
+        .lines
+        .as_slice()
+        .iter()
+        .all(|line| is_built_line(line))
 }
 
 fn is_built_line(line: &ScriptLine) -> bool
@@ -92,7 +97,7 @@ impl Kernel for ScriptKernel {
 /// The operation of a line that the kernel has.
 fn op_in(line: &ScriptLine) -> Op
     requires { is_built_line line.now ≡ true }
-    ensures { line.now ≡ line.Do result }
+    ensures { line.now ≡ script_line.Do result }
 {
     match line {
         ScriptLine::Do(op) => *op,

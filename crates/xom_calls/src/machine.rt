@@ -8,8 +8,8 @@ use std::alloc::Global;
 use std::test::Fail;
 use tag_regs::Cells;
 use xom_base::{
-    Cause, Event, ImageId, Interrupts, Key256, NoMemory, NumberList, Op, Outcome, OwnFault, Rule,
-    RunEnd, Schedule, Stored, Turn,
+    Cause, Event, ImageId, Interrupts, Key256, NoMemory, NumberList, Op, Outcome, OwnFault,
+    PokeList, Rule, RunEnd, Schedule, Stored, Turn,
 };
 use xom_guest::guest_event;
 use xom_machine::{Kernel, Machine, View, next_event, run};
