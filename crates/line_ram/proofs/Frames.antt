@@ -38,8 +38,8 @@ stored-inside_twice ram one other address count first second held fits fits_too 
     ∙ stored-inside now other address count second (omega arith) fits_too
     ∙ ap (λ l. stored l (address + second) other) (stored-inside ram one address count first held fits)
 
-pub frame_with_line : LinesAreLent
-frame_with_line ram ciphertext tag frame index held low ciphertext_long tag_long =
+pub lines-lent : LinesAreLent
+lines-lent ram ciphertext tag frame index held low ciphertext_long tag_long =
     let at = frame * frame_size in let range = bytes_at ram at frame_size in
     let long : length range ≡ frame_size = length-take-le frame_size (drop at ram) (omega (arith, length-drop at ram)) in
     let once : length (stored range (32 * index) ciphertext) ≡ length range = length-stored range ciphertext (32 * index) (omega arith) in

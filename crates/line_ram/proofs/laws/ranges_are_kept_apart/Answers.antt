@@ -1,5 +1,5 @@
 -- The laws that are proved over plain lists.
-use Rattle.line_ram.proofs.Frames.{frame_with_line}
+use Rattle.line_ram.proofs.Frames.{lines-lent}
 use Rattle.line_ram.proofs.Ranges.{bytes-stored_apart, stored-inside}
 use Rattle.line_ram.proofs.laws.ranges_are_kept_apart.Goals as goal
 
@@ -10,4 +10,4 @@ pub returns-clause-inside : goal.returns-clause-inside
 returns-clause-inside c = stored-inside
 
 pub returns-clause-lines : goal.returns-clause-lines
-returns-clause-lines c = frame_with_line
+returns-clause-lines c = lines-lent
