@@ -1,9 +1,10 @@
 -- A line that is written in the bytes of its frame is written in RAM.
-use Rattle.std.proofs.Common.{◌≡◌, ℕ, ◌+◌, ◌*◌, ◌<◌, ◌≤◌, List, ◌++◌, length, take, drop, sym, ◌∙◌, ap, arith}
+use Rattle.std.proofs.Common.{◌≡◌, ℕ, ◌+◌, ◌*◌, ◌≤◌, List, ◌++◌, length, take, drop, sym, ◌∙◌, ap, arith}
 use Rattle.std.proofs.lemmas.List.{append_assoc, length-append, length-drop, length-take-le, take_at}
 use Rattle.std.proofs.lemmas.Slice.{drop-append-drop}
-use Rattle.line_ram.specs.Bytes.{HoldsFrame, HoldsRange, bytes_at, frame_size, stored, with_line}
+use Rattle.line_ram.specs.Bytes.{HoldsRange, bytes_at, frame_size, stored}
 use Rattle.line_ram.specs.Lending.{stored_through}
+use Rattle.line_ram.specs.Laws.{LinesAreLent}
 use Rattle.line_ram.proofs.Ranges.{bytes-stored_same, length-stored, stored-inside}
 
 -- what was stored first is of no account where as many bytes are stored over it
@@ -37,10 +38,8 @@ stored-inside_twice ram one other address count first second held fits fits_too 
     ∙ stored-inside now other address count second (omega arith) fits_too
     ∙ ap (λ l. stored l (address + second) other) (stored-inside ram one address count first held fits)
 
-pub frame_with_line : (ram ciphertext tag : List ℕ) (frame index : ℕ) → HoldsFrame ram frame → index < 128 → length ciphertext ≡ 32 → length tag ≡ 32
-    → stored_through ram (frame * frame_size) (stored (stored (bytes_at ram (frame * frame_size) frame_size) (32 * index) ciphertext) (4096 + 32 * index) tag)
-    ≡ with_line ram frame index ciphertext tag
-frame_with_line ram ciphertext tag frame index held low ciphertext_long tag_long =
+pub lines-lent : LinesAreLent
+lines-lent ram ciphertext tag frame index held low ciphertext_long tag_long =
     let at = frame * frame_size in let range = bytes_at ram at frame_size in
     let long : length range ≡ frame_size = length-take-le frame_size (drop at ram) (omega (arith, length-drop at ram)) in
     let once : length (stored range (32 * index) ciphertext) ≡ length range = length-stored range ciphertext (32 * index) (omega arith) in

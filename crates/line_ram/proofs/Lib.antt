@@ -1,3 +1,4 @@
 pub mod Ranges
 pub mod Frames
 mod TwoLoans
+mod Touched

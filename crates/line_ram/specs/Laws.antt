@@ -1,6 +1,7 @@
 -- What whoever writes ranges may know of the bytes that are there afterwards.
-use Rattle.std.specs.Prelude.{◌≡◌, ◌⊎◌, ℕ, ◌+◌, ◌≤◌, List, length}
-use Rattle.line_ram.specs.Bytes.{HoldsRange, bytes_at, stored}
+use Rattle.std.specs.Prelude.{◌≡◌, ◌⊎◌, ℕ, ◌+◌, ◌*◌, ◌≤◌, ◌<◌, List, length}
+use Rattle.line_ram.specs.Bytes.{HoldsFrame, HoldsRange, bytes_at, frame_lines, frame_size, line_size, stored, tags_offset, with_line}
+use Rattle.line_ram.specs.Lending.{stored_through}
 
 -- the first range ends before the second begins, or behind it
 abbrev pub AreApart : ℕ → ℕ → ℕ → ℕ → Type 0
@@ -23,3 +24,16 @@ SizeStays = (ram bytes : List ℕ) (address : ℕ) → HoldsRange ram address (l
 abbrev pub StoredInside : Type 0
 StoredInside = (ram bytes : List ℕ) (address count place : ℕ) → HoldsRange ram address count → place + length bytes ≤ count
     → stored ram address (stored (bytes_at ram address count) place bytes) ≡ stored ram (address + place) bytes
+
+-- the bytes of a frame with a ciphertext and a tag at a line
+abbrev pub frame_with_line : List ℕ → ℕ → List ℕ → List ℕ → List ℕ
+frame_with_line bytes index ciphertext tag =
+    stored (stored bytes (line_size * index) ciphertext) (tags_offset + line_size * index) tag
+
+-- a frame in which a line was written through its two loans, put back, is RAM with that line
+abbrev pub LinesAreLent : Type 0
+LinesAreLent = (ram ciphertext tag : List ℕ) (frame index : ℕ)
+    → HoldsFrame ram frame → index < frame_lines → length ciphertext ≡ line_size → length tag ≡ line_size
+    → let bytes = bytes_at ram (frame * frame_size) frame_size in
+    stored_through ram (frame * frame_size) (frame_with_line bytes index ciphertext tag)
+    ≡ with_line ram frame index ciphertext tag

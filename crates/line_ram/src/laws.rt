@@ -1,10 +1,12 @@
-ghost use Rattle.line_ram.specs.Laws.{OthersStay, SizeStays, StoredInside, StoredIsRead};
+ghost use Rattle.line_ram.specs.Laws.{LinesAreLent, OthersStay, SizeStays, StoredInside, StoredIsRead};
 
 /// Laws and no code: what was stored is read again, a range apart from it is as before, and so is the
-/// size. A range in which bytes were stored, put back, is RAM in which they were stored.
+/// size. A range in which bytes were stored, put back, is RAM in which they were stored; so is a frame in
+/// which a line was written through its two loans.
 pub fn ranges_are_kept_apart()
     ensures read { StoredIsRead }
     ensures others { OthersStay }
     ensures size { SizeStays }
     ensures inside { StoredInside }
+    ensures lines { LinesAreLent }
 {}

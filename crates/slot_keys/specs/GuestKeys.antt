@@ -45,6 +45,11 @@ pub record IsKeyTable (table : List GuestKeys) : Type 0 where
 abbrev pub AreKeysOf : List GuestKeys → ℕ → Key256 → ImageId → ℕ → ℕ → ℕ → Type 0
 AreKeysOf table slot key id boot install epoch = keys_at table slot ≡ keys_of_install key id boot install epoch
 
+-- where the slot had the keys of this install under some epoch, it has those under the new one
+abbrev pub AreRenewed : List GuestKeys → List GuestKeys → ℕ → Key256 → ℕ → ℕ → ℕ → Type 0
+AreRenewed old new slot key boot install epoch = (id : ImageId) (before : ℕ)
+    → AreKeysOf old slot key id boot install before → AreKeysOf new slot key id boot install epoch
+
 -- every slot but this one has the keys that it had
 abbrev pub OthersKeep : List GuestKeys → List GuestKeys → ℕ → Type 0
 OthersKeep old new slot = (other : ℕ) → other ≢ slot → keys_at new other ≡ keys_at old other

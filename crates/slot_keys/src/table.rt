@@ -1,5 +1,5 @@
 ghost use Rattle.std.specs.Prelude.{◌≡◌, ◌≤◌, IfOk};
-ghost use Rattle.slot_keys.specs.GuestKeys.{AreKeysOf, IsKeyTable, OthersKeep, keys_at, no_keys, none_ready, with_registers};
+ghost use Rattle.slot_keys.specs.GuestKeys.{AreKeysOf, AreRenewed, IsKeyTable, OthersKeep, keys_at, no_keys, none_ready, with_registers};
 ghost use Rattle.xom_seal.specs.Keys.{register_keys as register_keys_of};
 
 use crate::SlotKeys;
@@ -52,11 +52,12 @@ impl KeyTable {
         self.places[usize::from(slot)] = SlotKeys::new(key, id, boot, install);
     }
 
-    /// Makes the keys of registers of a slot, 1 to 16, those of an epoch.
+    /// Makes the keys of registers of a slot, 1 to 16, those of an epoch. Its other keys stay.
     pub fn renew(&mut self, slot: u8, key: &Key256, boot: u64, install: u64, epoch: u64)
         requires some { 1 ≤ slot }
         requires known { slot ≤ 16 }
         ensures keys { keys_at self.new slot ≡ with_registers (keys_at self.old slot) (register_keys_of key.now boot install epoch) }
+        ensures install { AreRenewed self.old self.new slot key.now boot install epoch }
         ensures others { OthersKeep self.old self.new slot }
     {
         self.places[usize::from(slot)].renew(key, boot, install, epoch);

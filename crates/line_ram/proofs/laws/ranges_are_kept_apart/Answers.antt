@@ -1,4 +1,5 @@
 -- The laws that are proved over plain lists.
+use Rattle.line_ram.proofs.Frames.{lines-lent}
 use Rattle.line_ram.proofs.Ranges.{bytes-stored_apart, stored-inside}
 use Rattle.line_ram.proofs.laws.ranges_are_kept_apart.Goals as goal
 
@@ -7,3 +8,6 @@ returns-clause-others c = bytes-stored_apart
 
 pub returns-clause-inside : goal.returns-clause-inside
 returns-clause-inside c = stored-inside
+
+pub returns-clause-lines : goal.returns-clause-lines
+returns-clause-lines c = lines-lent
