@@ -64,7 +64,7 @@ abbrev low : ℕ → ℕ → List ℕ
 low count value = drop (4 - count) (to_be_bytes w32 value)
 
 -- a count of 1 to 4, case by case
-counted : (P : ℕ → Type 0) → P 1 → P 2 → P 3 → P 4 → (count : ℕ) → 1 ≤ count → count < 5 → P count
+pub counted : (P : ℕ → Type 0) → P 1 → P 2 → P 3 → P 4 → (count : ℕ) → 1 ≤ count → count < 5 → P count
 counted P one two three four zero least most = absurd (omega arith)
 counted P one two three four (suc zero) least most = one
 counted P one two three four (suc (suc zero)) least most = two
