@@ -3,6 +3,4 @@
 
 mod law;
 
-pub use law::{
-    a_text_is_one_journal, what_is_printed_is_read_again, what_is_read_keeps_the_rules,
-};
+pub use law::{a_text_is_one_journal, what_is_printed_is_read_again, what_is_read_keeps_the_rules};
