@@ -4,15 +4,15 @@ ghost use Rattle.journal_text.specs.JournalTexts.{journal_text};
 ghost use Rattle.journal_text.specs.Readings.{IsJournal};
 ghost use Rattle.journal_round_trip.specs.KeepsRules.{KeepsRules};
 
-/// A law and no code: the text that is printed of entries that keep the format's rules is a journal of
-/// these entries, the same in every field and in their order.
+/// A law and no code: the text that is printed of entries is a journal of these entries, so a reader gives
+/// them back, each the same in every field and in their order. It speaks of entries that keep the rules
+/// of the text.
 pub fn what_is_printed_is_read_again()
     ensures { (entries : List Entry) → KeepsRules entries → IsJournal (journal_text entries) entries }
 {}
 
-/// A law and no code: the entries of a journal's text keep the format's rules, whoever wrote the text.
-/// So the rules are just those that the reader holds to, and the first law is true of each journal that
-/// was read.
+/// A law and no code: the entries of a journal's text keep the rules, whoever wrote the text. So the
+/// rules ask for no more than a reader does, and where entries break one, no text is a journal of them.
 pub fn what_is_read_keeps_the_rules()
     ensures { (text : List ℕ) (entries : List Entry) → IsJournal text entries → KeepsRules entries }
 {}
