@@ -3,3 +3,4 @@ pub mod PieceLaws
 pub mod FieldLaws
 pub mod EntryLaws
 pub mod TextLaws
+pub mod KeptLaws

@@ -13,7 +13,7 @@ use Rattle.hex.specs.Hex.{IsBytes, encode_lower}
 use Rattle.hex.proofs.HexLemmas.{decode_sized-encode_lower}
 use Rattle.text_pieces.specs.Pieces.{hex8}
 use Rattle.xom_base.specs.Hex.{IsHex}
-use Rattle.xom_base.specs.Numbers.{IsDecimal, Writes}
+use Rattle.xom_base.specs.Numbers.{IsDecimal, IsNumeral, Writes}
 use Rattle.xom_base.proofs.HexLaws.{decoded_is, hex_of-exact}
 use Rattle.xom_base.proofs.NumberLaws.{digits_from, value_is}
 use Rattle.step_text.specs.StepFields.{IsHex8}
@@ -25,16 +25,21 @@ use Rattle.journal_round_trip.proofs.WordLaws.{IsPlain, IsWord, ends}
 ends-digit : (d : ℕ) → digit_value d < 16 → ends d ≡ false
 ends-digit d digit = grind (arith, nat_tests)
 
-plain-digits : (base : ℕ) (word : List ℕ) → base ≤ 16 → AllByRecursion (λ d. digit_value d < base) word → IsPlain word
+plain-digits : (base : ℕ) (word : List ℕ) → base ≤ 16
+    → AllByRecursion (λ d. digit_value d < base) word → IsPlain word
 plain-digits base [] small each = refl
-plain-digits base (d ∷ word) small each = or_from (ends d) (list_any ends word) (ends-digit d (omega (arith, each.0))) (plain-digits base word small each.1)
+plain-digits base (d ∷ word) small each =
+    or_from (ends d) (list_any ends word)
+    (ends-digit d (omega (arith, each.0))) (plain-digits base word small each.1)
 
 -- ---- numbers
 
 pub decimal-printed : (n : ℕ) → n < 2 ^ 64 → IsDecimal (decimal n) n
 decimal-printed n small =
     let d = decimal_is_IsNumeral n small in
-    (record { some = d.0.0; digits = digits_from 10 (decimal n) d.0.1 }, sym d.1 ∙ value_is 10 (decimal n), small)
+    let numeral : IsNumeral 10 (decimal n) =
+    record { some = d.0.0; digits = digits_from 10 (decimal n) d.0.1 } in
+    (numeral, sym d.1 ∙ value_is 10 (decimal n), small)
 
 pub number-printed : (bound n : ℕ) → n < bound → n < 2 ^ 64 → Writes bound (decimal n) n
 number-printed bound n below small = (inl (decimal-printed n small), below)
@@ -46,12 +51,15 @@ word-decimal n small =
 
 -- ---- bytes
 
-pub hex-printed : (count : ℕ) (bytes : List ℕ) → length bytes ≡ count → IsBytes bytes → IsHex count (encode_lower bytes) bytes
+pub hex-printed : (count : ℕ) (bytes : List ℕ) → length bytes ≡ count → IsBytes bytes
+    → IsHex count (encode_lower bytes) bytes
 hex-printed count bytes sized all =
     (hex_of-exact count (encode_lower bytes) bytes).0
-    (sym (decoded_is count (encode_lower bytes)) ∙ ap result_ok (decode_sized-encode_lower bytes count sized all))
+    (sym (decoded_is count (encode_lower bytes))
+    ∙ ap result_ok (decode_sized-encode_lower bytes count sized all))
 
-pub word-hex : (count : ℕ) (bytes : List ℕ) → length bytes ≡ count → 0 < count → IsBytes bytes → IsWord (encode_lower bytes)
+pub word-hex : (count : ℕ) (bytes : List ℕ) → length bytes ≡ count → 0 < count → IsBytes bytes
+    → IsWord (encode_lower bytes)
 word-hex count bytes sized some all =
     let h = hex-printed count bytes sized all in
     (omega (arith, h.sized), plain-digits 16 (encode_lower bytes) (omega arith) h.digits)
@@ -66,7 +74,9 @@ number-bytes n (suc (suc (suc zero))) = omega arith
 number-bytes n (suc (suc (suc (suc i)))) = omega arith
 
 pub hex8-printed : (n : ℕ) → n < 2 ^ 32 → IsHex8 (hex8 n) n
-hex8-printed n small = (to_be_bytes w32 n, hex-printed 4 (to_be_bytes w32 n) refl (number-bytes n), sym (from_be_bytes-to_be_bytes_4 n small))
+hex8-printed n small =
+    let digits = hex-printed 4 (to_be_bytes w32 n) refl (number-bytes n) in
+    (to_be_bytes w32 n, digits, sym (from_be_bytes-to_be_bytes_4 n small))
 
 pub word-hex8 : (n : ℕ) → IsWord (hex8 n)
 word-hex8 n = word-hex 4 (to_be_bytes w32 n) refl (omega arith) (number-bytes n)
