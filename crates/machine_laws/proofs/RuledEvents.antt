@@ -53,18 +53,24 @@ use Rattle.machine_laws.proofs.ShortEffects.{IsShortEffect, IsShortSeen}
 
 -- ---- one more entry
 
-KeepsRulesBehind-append : (last : ℕ) (entries : List Entry) (e : Entry) → KeepsRulesBehind last entries → KeepsEntry (last_install_behind last entries) e → KeepsRulesBehind last (entries ++ e ∷ [])
+KeepsRulesBehind-append : (last : ℕ) (entries : List Entry) (e : Entry)
+    → KeepsRulesBehind last entries → KeepsEntry (last_install_behind last entries) e
+    → KeepsRulesBehind last (entries ++ e ∷ [])
 KeepsRulesBehind-append last [] e keeps next = (next, tt)
-KeepsRulesBehind-append last (first ∷ entries) e keeps next = (keeps.0, KeepsRulesBehind-append (last_behind last first) entries e keeps.1 next)
+KeepsRulesBehind-append last (first ∷ entries) e keeps next =
+    (keeps.0, KeepsRulesBehind-append (last_behind last first) entries e keeps.1 next)
 
-last_install-append : (last : ℕ) (entries : List Entry) (e : Entry) → last_install_behind last (entries ++ e ∷ []) ≡ last_behind (last_install_behind last entries) e
+last_install-append : (last : ℕ) (entries : List Entry) (e : Entry)
+    → last_install_behind last (entries ++ e ∷ []) ≡ last_behind (last_install_behind last entries) e
 last_install-append last [] e = refl
-last_install-append last (first ∷ entries) e = last_install-append (last_behind last first) entries e
+last_install-append last (first ∷ entries) e =
+    last_install-append (last_behind last first) entries e
 
 -- ---- the parts of a core
 
 -- what is read of a list, or outside it, is as each element is
-All-at : {X : Type 0} (P : X → Type 0) (xs : List X) (i : ℕ) (d : X) → P d → All P xs → P (get_or xs i d)
+All-at : {X : Type 0} (P : X → Type 0) (xs : List X) (i : ℕ) (d : X) → P d → All P xs
+    → P (get_or xs i d)
 All-at P xs i d outside all = elim (dec_lt i (length xs)) [
   | yes within ↦ all i d within
   | no past ↦ subst P (sym (get_or_past xs i d (omega arith))) outside
@@ -72,11 +78,13 @@ All-at P xs i d outside all = elim (dec_lt i (length xs)) [
 
 -- a free slot's session is sound, whatever the last install
 free-IsSoundSession : (last : ℕ) → IsSoundSession last free
-free-IsSoundSession last = record { entry = lit< tt; pc = lit< tt; npc = lit< tt; install = λ live. absurd (cc) }
+free-IsSoundSession last =
+    record { entry = lit< tt; pc = lit< tt; npc = lit< tt; install = λ live. absurd (cc) }
 
 module _ (core : CoreState) (holds : RulesHold core) where
   session_of-IsSoundSession : (slot : ℕ) → IsSoundSession core.installs (session_of core slot)
-  session_of-IsSoundSession slot = All-at (IsSoundSession core.installs) core.sessions slot free (free-IsSoundSession core.installs) holds.sessions
+  session_of-IsSoundSession slot =
+      All-at (IsSoundSession core.installs) core.sessions slot free (free-IsSoundSession core.installs) holds.sessions
 
   cell_at-short : (reg : ℕ) → IsShort (cell_at core.cells reg).value
   cell_at-short reg = All-at IsShortCell core.cells reg empty (lit< tt) holds.cells
@@ -84,7 +92,8 @@ module _ (core : CoreState) (holds : RulesHold core) where
   memory_of-IsBytes : (slot : ℕ) → IsBytes (memory_of core slot)
   memory_of-IsBytes slot = All-at IsBytes core.memories slot [] IsBytes-none holds.memories
 
-  noted-holds : (e : Entry) → KeepsEntry core.installs e → last_behind core.installs e ≡ core.installs → RulesHold (noted core e)
+  noted-holds : (e : Entry) → KeepsEntry core.installs e
+      → last_behind core.installs e ≡ core.installs → RulesHold (noted core e)
   noted-holds e keeps same = record {
     journal = KeepsRulesBehind-append 0 core.entries e holds.journal (subst (λ last. KeepsEntry last e) (sym holds.last) keeps);
     last = last_install-append 0 core.entries e ∙ ap (λ last. last_behind last e) holds.last ∙ same;
@@ -93,7 +102,8 @@ module _ (core : CoreState) (holds : RulesHold core) where
     memories = holds.memories;
   }
 
-  with_session-holds : (slot : ℕ) (s : Session) → IsSoundSession core.installs s → RulesHold (with_session core slot s)
+  with_session-holds : (slot : ℕ) (s : Session) → IsSoundSession core.installs s
+      → RulesHold (with_session core slot s)
   with_session-holds slot s sound = record {
     journal = holds.journal;
     last = holds.last;
@@ -103,7 +113,8 @@ module _ (core : CoreState) (holds : RulesHold core) where
   }
 
   with_cells-holds : (cells : List Cell) → All IsShortCell cells → RulesHold (with_cells core cells)
-  with_cells-holds cells short = record { journal = holds.journal; last = holds.last; sessions = holds.sessions; cells = short; memories = holds.memories }
+  with_cells-holds cells short =
+      record { journal = holds.journal; last = holds.last; sessions = holds.sessions; cells = short; memories = holds.memories }
 
   stored_at-IsBytes : (slot : ℕ) (kept : Stored) → All IsBytes (stored_at core.memories slot kept)
   stored_at-IsBytes slot stored.Nothing = holds.memories
@@ -111,28 +122,35 @@ module _ (core : CoreState) (holds : RulesHold core) where
       All-set IsBytes core.memories slot (written_at (memory_of core slot) address (low_bytes count value)) (written_at-IsBytes (memory_of core slot) address count value (memory_of-IsBytes slot)) holds.memories
 
   with_stored-holds : (slot : ℕ) (kept : Stored) → RulesHold (with_stored core slot kept)
-  with_stored-holds slot kept = record { journal = holds.journal; last = holds.last; sessions = holds.sessions; cells = holds.cells; memories = stored_at-IsBytes slot kept }
+  with_stored-holds slot kept =
+      record { journal = holds.journal; last = holds.last; sessions = holds.sessions; cells = holds.cells; memories = stored_at-IsBytes slot kept }
 
 -- ---- cells
 
-scrubbed-short : (slot : ℕ) (cells : List Cell) → All IsShortCell cells → All IsShortCell (scrubbed slot cells)
+scrubbed-short : (slot : ℕ) (cells : List Cell) → All IsShortCell cells
+    → All IsShortCell (scrubbed slot cells)
 scrubbed-short slot cells short =
     All-map IsShortCell (scrubbed_cell slot) cells
     (λ k d within. cond_both ((get_or cells k d).tag == slot) empty (get_or cells k d) IsShortCell (λ _. lit< tt) (λ _. short k d within))
 
-tagged-short : (slot : ℕ) (cells : List Cell) (w : Writes) → KeepsWrites w → All IsShortCell cells → All IsShortCell (tagged slot cells w)
+tagged-short : (slot : ℕ) (cells : List Cell) (w : Writes) → KeepsWrites w → All IsShortCell cells
+    → All IsShortCell (tagged slot cells w)
 tagged-short slot cells writes.Nothing keeps short = short
-tagged-short slot cells (writes.One reg value) keeps short = All-set IsShortCell cells reg (record { value = value; tag = slot }) keeps.2 short
+tagged-short slot cells (writes.One reg value) keeps short =
+    All-set IsShortCell cells reg (record { value = value; tag = slot }) keeps.2 short
 tagged-short slot cells (writes.Pair hi lo) keeps short =
     All-set IsShortCell (set cells 32 (record { value = hi; tag = slot })) 33 (record { value = lo; tag = slot }) keeps.1
     (All-set IsShortCell cells 32 (record { value = hi; tag = slot }) keeps.0 short)
 
-untagged-short : (cells : List Cell) (out : Released) → KeepsReleased out → All IsShortCell cells → All IsShortCell (untagged cells out)
+untagged-short : (cells : List Cell) (out : Released) → KeepsReleased out → All IsShortCell cells
+    → All IsShortCell (untagged cells out)
 untagged-short cells released.Nothing keeps short = short
-untagged-short cells (released.Cell reg value) keeps short = All-set IsShortCell cells reg (record { value = value; tag = 0 }) keeps.2 short
+untagged-short cells (released.Cell reg value) keeps short =
+    All-set IsShortCell cells reg (record { value = value; tag = 0 }) keeps.2 short
 untagged-short cells (released.Null address value) keeps short = short
 
-cells_after-short : (slot : ℕ) (cells : List Cell) (step : Step) → KeepsStep step → All IsShortCell cells → All IsShortCell (cells_after slot cells step)
+cells_after-short : (slot : ℕ) (cells : List Cell) (step : Step) → KeepsStep step
+    → All IsShortCell cells → All IsShortCell (cells_after slot cells step)
 cells_after-short slot cells step keeps short =
     untagged-short (tagged slot cells step.writes) step.released keeps.5 (tagged-short slot cells step.writes keeps.2 short)
 
@@ -156,10 +174,13 @@ module _ (core : CoreState) (slot : ℕ) (live : IsLive core slot) (holds : Rule
       (entry.Trap (session_of core slot).install why) (sound.install live, keeps) refl
 
   -- for good, in whatever way
-  left-IsSoundSession : (final : SlotState) → IsSoundSession core.installs (left (session_of core slot) final)
-  left-IsSoundSession final = record { entry = sound.entry; pc = sound.pc; npc = sound.npc; install = λ _. sound.install live }
+  left-IsSoundSession : (final : SlotState)
+      → IsSoundSession core.installs (left (session_of core slot) final)
+  left-IsSoundSession final =
+      record { entry = sound.entry; pc = sound.pc; npc = sound.npc; install = λ _. sound.install live }
 
-  left-holds : (final : SlotState) → RulesHold (with_session (with_cells core (scrubbed slot core.cells)) slot (left (session_of core slot) final))
+  left-holds : (final : SlotState)
+      → RulesHold (with_session (with_cells core (scrubbed slot core.cells)) slot (left (session_of core slot) final))
   left-holds final =
       with_session-holds (with_cells core (scrubbed slot core.cells)) (with_cells-holds core holds (scrubbed slot core.cells) (scrubbed-short slot core.cells holds.cells)) slot
       (left (session_of core slot) final) (left-IsSoundSession final)
@@ -169,7 +190,8 @@ module _ (core : CoreState) (slot : ℕ) (live : IsLive core slot) (holds : Rule
       noted-holds (with_session (with_cells core (scrubbed slot core.cells)) slot (left (session_of core slot) (state.Stopped why)))
       (left-holds (state.Stopped why)) (entry.Stop (session_of core slot).install why) (sound.install live, keeps) refl
 
-  retired-holds : (effect : Effect) (step : Step) → IsShortEffect effect → KeepsStep step → RulesHold (retired core slot effect step)
+  retired-holds : (effect : Effect) (step : Step) → IsShortEffect effect → KeepsStep step
+      → RulesHold (retired core slot effect step)
   retired-holds effect step short keeps =
       let cells = cells_after slot core.cells step in
       let s = moved (session_of core slot) effect step in
@@ -180,7 +202,8 @@ module _ (core : CoreState) (slot : ℕ) (live : IsLive core slot) (holds : Rule
       (entry.Step (session_of core slot).install step) (sound.install live, keeps) refl
 
   retired-live : (effect : Effect) (step : Step) → IsLive (retired core slot effect step) slot
-  retired-live effect step = ap (λ s. is_live s.state) (get_or-set_same core.sessions slot (moved (session_of core slot) effect step) free (live-within core slot live)) ∙ live
+  retired-live effect step =
+      ap (λ s. is_live s.state) (get_or-set_same core.sessions slot (moved (session_of core slot) effect step) free (live-within core slot live)) ∙ live
 
   resumed-holds : RulesHold (with_session core slot (resumed (session_of core slot)))
   resumed-holds = with_session-holds core holds slot (resumed (session_of core slot)) (record { entry = sound.entry; pc = sound.pc; npc = sound.npc; install = λ _. sound.install live })
@@ -188,15 +211,20 @@ module _ (core : CoreState) (slot : ℕ) (live : IsLive core slot) (holds : Rule
   entered-holds : RulesHold (with_session core slot (entered (session_of core slot)))
   entered-holds = with_session-holds core holds slot (entered (session_of core slot)) (record { entry = sound.entry; pc = sound.entry; npc = omega arith; install = λ _. sound.install live })
 
-after_step-holds : (core : CoreState) (slot : ℕ) (interrupt : Bool) (step : Step) → KeepsStep step → IsLive core slot → RulesHold core → (end : StepEnd) → step.end ≡ end → RulesHold (after_step core slot interrupt end).0
+after_step-holds : (core : CoreState) (slot : ℕ) (interrupt : Bool) (step : Step) → KeepsStep step
+    → IsLive core slot → RulesHold core → (end : StepEnd) → step.end ≡ end
+    → RulesHold (after_step core slot interrupt end).0
 after_step-holds core slot interrupt step keeps live holds (ended.Call code) is =
     trapped-holds core slot live holds (cause.Call code) (let low = keeps.6 in rw is at low)
-after_step-holds core slot interrupt step keeps live holds ended.Exit is = left-holds core slot live holds state.Ended
-after_step-holds core slot true step keeps live holds ended.Goes is = trapped-holds core slot live holds cause.Interrupt tt
+after_step-holds core slot interrupt step keeps live holds ended.Exit is =
+    left-holds core slot live holds state.Ended
+after_step-holds core slot true step keeps live holds ended.Goes is =
+    trapped-holds core slot live holds cause.Interrupt tt
 after_step-holds core slot false step keeps live holds ended.Goes is = holds
 
 -- what comes from outside
-received_by-short : (core : CoreState) (wished : Wish) → RulesHold core → IsShort (received_by core.cells wished)
+received_by-short : (core : CoreState) (wished : Wish) → RulesHold core
+    → IsShort (received_by core.cells wished)
 received_by-short core wish.Nothing holds = lit< tt
 received_by-short core (wish.Load reg address how old) holds = lit< tt
 received_by-short core (wish.Store address count value) holds = lit< tt
@@ -208,7 +236,8 @@ received_by-short core (wish.Call code) holds = lit< tt
 received_by-short core (wish.Do operation) holds = lit< tt
 received_by-short core (wish.Ask reg what) holds = lit< tt
 
-seen_by-short : (core : CoreState) (slot : ℕ) → RulesHold core → (reg : ℕ) → IsShortSeen (seen_by slot core.cells reg)
+seen_by-short : (core : CoreState) (slot : ℕ) → RulesHold core → (reg : ℕ)
+    → IsShortSeen (seen_by slot core.cells reg)
 seen_by-short core slot holds reg =
     cond_both (reg == 0) _ _ IsShortSeen (λ _. lit< tt)
     (λ _. cond_both ((cell_at core.cells reg).tag == slot) _ _ IsShortSeen (λ _. cell_at-short core holds reg) (λ _. tt))
@@ -217,7 +246,9 @@ module _ (core : CoreState) (slot : ℕ) (interrupt : Bool) (live : IsLive core 
   abbrev its : Session
   its = session_of core slot
 
-  ran-holds : (result : Result Effect OwnFault) → tried (seen_by slot core.cells) (fetched (memory_of core slot) its.pc) its.pc its.npc ≡ result → RulesHold (ran core slot interrupt result).0
+  ran-holds : (result : Result Effect OwnFault)
+      → tried (seen_by slot core.cells) (fetched (memory_of core slot) its.pc) its.pc its.npc ≡ result
+      → RulesHold (ran core slot interrupt result).0
   ran-holds (Err fault) is = trapped-holds core slot live holds (cause.Fault fault) tt
   ran-holds (Ok effect) is =
       let fits = fetched-Fits (memory_of core slot) its.pc in
@@ -235,7 +266,8 @@ module _ (core : CoreState) (slot : ℕ) (interrupt : Bool) (live : IsLive core 
 -- ---- an operation
 
 -- a missing cell is one of those looked at
-missing_from-below : (slot mask : ℕ) (cells : List Cell) (count reg lost : ℕ) → missing_from slot mask cells count reg ≡ Some lost → lost < reg + count
+missing_from-below : (slot mask : ℕ) (cells : List Cell) (count reg lost : ℕ)
+    → missing_from slot mask cells count reg ≡ Some lost → lost < reg + count
 missing_from-below slot mask cells zero reg lost is = absurd (cc)
 missing_from-below slot mask cells (suc count) reg lost is =
     elim (is_missing slot mask cells reg) as (λ b. cond b (Some reg) (missing_from slot mask cells count (reg + 1)) ≡ Some lost → lost < reg + suc count) [
@@ -243,16 +275,20 @@ missing_from-below slot mask cells (suc count) reg lost is =
       | false ↦ λ later. let low = missing_from-below slot mask cells count (reg + 1) lost later in omega arith
     ] is
 
-missing-short : (slot mask : ℕ) (cells : List Cell) (lost : ℕ) → missing slot mask cells ≡ Some lost → lost < 2 ^ 8
+missing-short : (slot mask : ℕ) (cells : List Cell) (lost : ℕ) → missing slot mask cells ≡ Some lost
+    → lost < 2 ^ 8
 unfolding missing
-missing-short slot mask cells lost is = let low = missing_from-below slot mask cells 33 1 lost is in omega arith
+missing-short slot mask cells lost is =
+    let low = missing_from-below slot mask cells 33 1 lost is in omega arith
 
 module _ (core : CoreState) (holds : RulesHold core) where
-  either-holds : (b : Bool) (one other : CoreState × ℕ) → (b ≡ true → RulesHold one.0) → RulesHold other.0 → RulesHold (cond b one other).0
+  either-holds : (b : Bool) (one other : CoreState × ℕ) → (b ≡ true → RulesHold one.0)
+      → RulesHold other.0 → RulesHold (cond b one other).0
   either-holds true one other first second = first refl
   either-holds false one other first second = second
 
-  enter-holds : (slot : ℕ) (at : SlotState) → (session_of core slot).state ≡ at → RulesHold (enter core slot at).0
+  enter-holds : (slot : ℕ) (at : SlotState) → (session_of core slot).state ≡ at
+      → RulesHold (enter core slot at).0
   enter-holds slot state.Free is = holds
   enter-holds slot state.Fresh is = entered-holds core slot (rw is refl) holds
   enter-holds slot state.Running is = holds
@@ -260,11 +296,15 @@ module _ (core : CoreState) (holds : RulesHold core) where
   enter-holds slot state.Ended is = holds
   enter-holds slot (state.Stopped why) is = holds
 
-  go_on-holds : (slot : ℕ) → (session_of core slot).state ≡ state.Paused → (lost : Option ℕ) → missing slot (session_of core slot).mask core.cells ≡ lost → RulesHold (go_on core slot lost).0
+  go_on-holds : (slot : ℕ) → (session_of core slot).state ≡ state.Paused → (lost : Option ℕ)
+      → missing slot (session_of core slot).mask core.cells ≡ lost
+      → RulesHold (go_on core slot lost).0
   go_on-holds slot is None none = resumed-holds core slot (rw is refl) holds
-  go_on-holds slot is (Some reg) found = stopped-holds core slot (rw is refl) holds (rule.RegisterMissing reg) (missing-short slot (session_of core slot).mask core.cells reg found)
+  go_on-holds slot is (Some reg) found =
+      stopped-holds core slot (rw is refl) holds (rule.RegisterMissing reg) (missing-short slot (session_of core slot).mask core.cells reg found)
 
-  resume-holds : (slot signal : ℕ) (at : SlotState) → (session_of core slot).state ≡ at → RulesHold (resume core slot signal at).0
+  resume-holds : (slot signal : ℕ) (at : SlotState) → (session_of core slot).state ≡ at
+      → RulesHold (resume core slot signal at).0
   resume-holds slot signal state.Free is = holds
   resume-holds slot signal state.Fresh is = holds
   resume-holds slot signal state.Running is = holds
@@ -280,11 +320,15 @@ module _ (core : CoreState) (holds : RulesHold core) where
       either-holds (is_cell reg) (with_cells core (set core.cells reg (record { value = value; tag = 0 })), 0) (core, 7)
       (λ _. with_cells-holds core holds (set core.cells reg (record { value = value; tag = 0 })) (All-set IsShortCell core.cells reg (record { value = value; tag = 0 }) short holds.cells)) holds
 
-operation-holds : (core : CoreState) (op : Op) → IsShortOp op → RulesHold core → RulesHold (operation core op).0
+operation-holds : (core : CoreState) (op : Op) → IsShortOp op → RulesHold core
+    → RulesHold (operation core op).0
 unfolding operation
-operation-holds core (Enter slot) short holds = either-holds core holds (is_slot slot) (enter core slot (session_of core slot).state) (core, 1) (λ _. enter-holds core holds slot _ refl) holds
-operation-holds core (Resume slot signal) short holds = either-holds core holds (is_slot slot) (resume core slot signal (session_of core slot).state) (core, 1) (λ _. resume-holds core holds slot signal _ refl) holds
-operation-holds core (SetReg reg value) short holds = set_register-holds core holds reg value short.1
+operation-holds core (Enter slot) short holds =
+    either-holds core holds (is_slot slot) (enter core slot (session_of core slot).state) (core, 1) (λ _. enter-holds core holds slot _ refl) holds
+operation-holds core (Resume slot signal) short holds =
+    either-holds core holds (is_slot slot) (resume core slot signal (session_of core slot).state) (core, 1) (λ _. resume-holds core holds slot signal _ refl) holds
+operation-holds core (SetReg reg value) short holds =
+    set_register-holds core holds reg value short.1
 operation-holds core Halt short holds = holds
 operation-holds core (Install slot envelope area) short holds = holds
 operation-holds core (Save slot reg address) short holds = holds
@@ -296,7 +340,8 @@ operation-holds core (Out byte) short holds = holds
 
 -- ---- events
 
-guest_turn-holds : (r : Record) (interrupt : Bool) (at : Option ℕ) → running r ≡ at → RulesHold r.core → RulesHold (guest_turn r interrupt at).0.core
+guest_turn-holds : (r : Record) (interrupt : Bool) (at : Option ℕ) → running r ≡ at
+    → RulesHold r.core → RulesHold (guest_turn r interrupt at).0.core
 guest_turn-holds r interrupt None is holds = holds
 guest_turn-holds r interrupt (Some slot) is holds =
     subst RulesHold (sym (ran_on-core r slot (guest r.core slot interrupt).0 (guest r.core slot interrupt).1))
@@ -305,7 +350,8 @@ guest_turn-holds r interrupt (Some slot) is holds =
 pub events_keep_rules : EventsKeepRules
 unfolding on
 events_keep_rules r (event.Do op) short holds = operation-holds r.core op short holds
-events_keep_rules r (event.Guest interrupt) short holds = guest_turn-holds r interrupt (running r) refl holds
+events_keep_rules r (event.Guest interrupt) short holds =
+    guest_turn-holds r interrupt (running r) refl holds
 events_keep_rules r event.Null short holds = holds
 events_keep_rules r (event.Write address length) short holds = holds
 events_keep_rules r (event.Poke address length) short holds = holds
@@ -326,14 +372,16 @@ start-holds = record {
 }
 
 -- the sessions are sound under a higher last install
-IsSoundSession-more : (last : ℕ) (sessions : List Session) → All (IsSoundSession last) sessions → All (IsSoundSession (last + 1)) sessions
+IsSoundSession-more : (last : ℕ) (sessions : List Session) → All (IsSoundSession last) sessions
+    → All (IsSoundSession (last + 1)) sessions
 IsSoundSession-more last sessions all k d within =
     let each = all k d within in
     record {
       entry = each.entry;
       pc = each.pc;
       npc = each.npc;
-      install = λ live. let made = each.install live in (made.0, let low : (get_or sessions k d).install ≤ last = made.1 in omega arith);
+      install = λ live. let made =
+          each.install live in (made.0, let low : (get_or sessions k d).install ≤ last = made.1 in omega arith);
     }
 
 pub installs_keep_rules : InstallsKeepRules

@@ -86,23 +86,27 @@ bit_if-short : (b : Bool) → IsShort (bit_if b)
 bit_if-short true = lit< tt
 bit_if-short false = lit< tt
 
-jump_target-short : (following index : ℕ) → IsShort following → index < 2 ^ 26 → IsShort (jump_target following index)
+jump_target-short : (following index : ℕ) → IsShort following → index < 2 ^ 26
+    → IsShort (jump_target following index)
 jump_target-short following index short low = omega arith
 
 halves-short : (n : ℕ) → n < 2 ^ 64 → AreShortWrites (halves n)
 halves-short n low = (omega arith, omega arith)
 
 divided-short : (s t : ℕ) → IsShort s → AreShortWrites (divided s t)
-divided-short s t short = cond_both (t == 0) _ _ AreShortWrites (λ _. (short, lit< tt)) (λ _. (reduced-short _, reduced-short _))
+divided-short s t short =
+    cond_both (t == 0) _ _ AreShortWrites (λ _. (short, lit< tt)) (λ _. (reduced-short _, reduced-short _))
 
 divided_unsigned-short : (s t : ℕ) → IsShort s → AreShortWrites (divided_unsigned s t)
-divided_unsigned-short s t short = cond_both (t == 0) _ _ AreShortWrites (λ _. (short, lit< tt)) (λ _. (let low : s % t ≤ s = mod-le s t in omega arith, div-short s t short))
+divided_unsigned-short s t short =
+    cond_both (t == 0) _ _ AreShortWrites (λ _. (short, lit< tt)) (λ _. (let low : s % t ≤ s = mod-le s t in omega arith, div-short s t short))
 
 pub set-short : (reg value : ℕ) → IsShort value → AreShortWrites (set reg value)
 set-short reg value short = cond_both (reg == 0) _ _ AreShortWrites (λ _. tt) (λ _. short)
 
 -- the high bytes of a word, from a place to its end
-left-low : (place value : ℕ) → place < 4 → IsShort value → value / 2 ^ (8 * place) < 2 ^ (8 * (4 - place))
+left-low : (place value : ℕ) → place < 4 → IsShort value
+    → value / 2 ^ (8 * place) < 2 ^ (8 * (4 - place))
 left-low zero value low short = omega arith
 left-low (suc zero) value low short = omega arith
 left-low (suc (suc zero)) value low short = omega arith
@@ -112,42 +116,59 @@ left-low (suc (suc (suc (suc place)))) value low short = absurd (omega arith)
 -- ---- the instructions, of values that are short
 
 module _ (s t d following : ℕ) (short_s : IsShort s) (short_t : IsShort t) (short_following : IsShort following) where
-  goes_on-short : (written : Writes) (wished : Wish) → AreShortWrites written → IsShortWish wished → IfOk (goes_on written wished following) IsShortEffect
-  goes_on-short written wished short_writes short_wish = record { writes = short_writes; wish = short_wish; pc = short_following; npc = mod-short _ }
+  goes_on-short : (written : Writes) (wished : Wish) → AreShortWrites written → IsShortWish wished
+      → IfOk (goes_on written wished following) IsShortEffect
+  goes_on-short written wished short_writes short_wish =
+      record { writes = short_writes; wish = short_wish; pc = short_following; npc = mod-short _ }
 
-  writes-short : (written : Writes) → AreShortWrites written → IfOk (writes_only written following) IsShortEffect
+  writes-short : (written : Writes) → AreShortWrites written
+      → IfOk (writes_only written following) IsShortEffect
   writes-short written short = goes_on-short written wish.Nothing short tt
 
   wishes-short : (wished : Wish) → IsShortWish wished → IfOk (wishes wished following) IsShortEffect
   wishes-short wished short = goes_on-short writes.Nothing wished tt short
 
   sets-short : (reg value : ℕ) → IsShort value → IfOk (sets reg value following) IsShortEffect
-  sets-short reg value short = goes_on-short (set reg value) wish.Nothing (set-short reg value short) tt
+  sets-short reg value short =
+      goes_on-short (set reg value) wish.Nothing (set-short reg value short) tt
 
   in_32-short : (reg : ℕ) (z : ℤ) → IfOk (sets_or_overflows reg (in_32 z) following) IsShortEffect
-  in_32-short reg z = cond_both _ (Some (reduced z)) None (λ o. IfOk (sets_or_overflows reg o following) IsShortEffect) (λ _. sets-short reg _ (reduced-short z)) (λ _. tt)
+  in_32-short reg z =
+      cond_both _ (Some (reduced z)) None (λ o. IfOk (sets_or_overflows reg o following) IsShortEffect) (λ _. sets-short reg _ (reduced-short z)) (λ _. tt)
 
-  jumps-short : (written : Writes) (to : ℕ) → AreShortWrites written → IsShort to → IfOk (jumps written to following) IsShortEffect
-  jumps-short written to short short_to = record { writes = short; wish = tt; pc = short_following; npc = short_to }
+  jumps-short : (written : Writes) (to : ℕ) → AreShortWrites written → IsShort to
+      → IfOk (jumps written to following) IsShortEffect
+  jumps-short written to short short_to =
+      record { writes = short; wish = tt; pc = short_following; npc = short_to }
 
   way-short : (taken : Bool) (imm : ℕ) → IsShort (way taken imm following)
   way-short true imm = reduced-short _
   way-short false imm = mod-short _
 
-  loads-short : (how : LoadKind) (reg address old : ℕ) → IsShort old → IfOk (loads Guest how reg address old following) IsShortEffect
-  loads-short how reg address old short = cond_both (is_open Guest (size_of how) address) _ _ (λ r. IfOk r IsShortEffect) (λ _. wishes-short (wish.Load reg address how old) short) (λ _. tt)
+  loads-short : (how : LoadKind) (reg address old : ℕ) → IsShort old
+      → IfOk (loads Guest how reg address old following) IsShortEffect
+  loads-short how reg address old short =
+      cond_both (is_open Guest (size_of how) address) _ _ (λ r. IfOk r IsShortEffect) (λ _. wishes-short (wish.Load reg address how old) short) (λ _. tt)
 
-  stores-short : (count address value : ℕ) → value < 2 ^ (8 * count) → IfOk (stores Guest count address value following) IsShortEffect
-  stores-short count address value short = cond_both (is_open Guest count address) _ _ (λ r. IfOk r IsShortEffect) (λ _. wishes-short (wish.Store address count value) short) (λ _. tt)
+  stores-short : (count address value : ℕ) → value < 2 ^ (8 * count)
+      → IfOk (stores Guest count address value following) IsShortEffect
+  stores-short count address value short =
+      cond_both (is_open Guest count address) _ _ (λ r. IfOk r IsShortEffect) (λ _. wishes-short (wish.Store address count value) short) (λ _. tt)
 
-  part-short : (address first count value : ℕ) → value < 2 ^ (8 * count) → IfOk (stores_part Guest address (wish.Store first count value) following) IsShortEffect
-  part-short address first count value short = cond_both (is_open Guest 1 address) _ _ (λ r. IfOk r IsShortEffect) (λ _. wishes-short (wish.Store first count value) short) (λ _. tt)
+  part-short : (address first count value : ℕ) → value < 2 ^ (8 * count)
+      → IfOk (stores_part Guest address (wish.Store first count value) following) IsShortEffect
+  part-short address first count value short =
+      cond_both (is_open Guest 1 address) _ _ (λ r. IfOk r IsShortEffect) (λ _. wishes-short (wish.Store first count value) short) (λ _. tt)
 
-  stores_left-short : (address value : ℕ) → IsShort value → IfOk (stores_left Guest address value following) IsShortEffect
-  stores_left-short address value short = part-short address address (4 - address % 4) _ (left-low (address % 4) value (omega arith) short)
+  stores_left-short : (address value : ℕ) → IsShort value
+      → IfOk (stores_left Guest address value following) IsShortEffect
+  stores_left-short address value short =
+      part-short address address (4 - address % 4) _ (left-low (address % 4) value (omega arith) short)
 
-  stores_right-short : (address value : ℕ) → IfOk (stores_right Guest address value following) IsShortEffect
-  stores_right-short address value = part-short address (address - address % 4) (address % 4 + 1) _ (mod_below value (2 ^ (8 * (address % 4 + 1))) (pow_pos (8 * (address % 4 + 1))))
+  stores_right-short : (address value : ℕ)
+      → IfOk (stores_right Guest address value following) IsShortEffect
+  stores_right-short address value =
+      part-short address (address - address % 4) (address % 4 + 1) _ (mod_below value (2 ^ (8 * (address % 4 + 1))) (pow_pos (8 * (address % 4 + 1))))
 
   act-short : (i : Ins) → Fits i → IfOk (act i Guest s t d following) IsShortEffect
   unfolding act
@@ -158,7 +179,8 @@ module _ (s t d following : ℕ) (short_s : IsShort s) (short_t : IsShort t) (sh
   act-short (Srlv rd rt rs) fits = sets-short rd _ (shifted-short t (s % 2 ^ 5) short_t)
   act-short (Srav rd rt rs) fits = sets-short rd _ (reduced-short _)
   act-short (Jr rs) fits = jumps-short writes.Nothing s tt short_s
-  act-short (Jalr rd rs) fits = jumps-short (set rd (after following)) s (set-short rd _ (mod-short _)) short_s
+  act-short (Jalr rd rs) fits =
+      jumps-short (set rd (after following)) s (set-short rd _ (mod-short _)) short_s
   act-short (Syscall code) fits = wishes-short (wish.Call code) tt
   act-short (Break code) fits = tt
   act-short (Mfhi rd) fits = sets-short rd _ short_s
@@ -166,7 +188,8 @@ module _ (s t d following : ℕ) (short_s : IsShort s) (short_t : IsShort t) (sh
   act-short (Mflo rd) fits = sets-short rd _ short_s
   act-short (Mtlo rs) fits = writes-short _ short_s
   act-short (Mult rs rt) fits = writes-short _ (halves-short _ (reduced_64-short _))
-  act-short (Multu rs rt) fits = writes-short _ (halves-short _ (mul-lt s t (2 ^ 32) (2 ^ 32) short_s short_t))
+  act-short (Multu rs rt) fits =
+      writes-short _ (halves-short _ (mul-lt s t (2 ^ 32) (2 ^ 32) short_s short_t))
   act-short (Div rs rt) fits = writes-short _ (divided-short s t short_s)
   act-short (Divu rs rt) fits = writes-short _ (divided_unsigned-short s t short_s)
   act-short (Add rd rs rt) fits = in_32-short rd (signed s +ℤ signed t)
@@ -181,10 +204,14 @@ module _ (s t d following : ℕ) (short_s : IsShort s) (short_t : IsShort t) (sh
   act-short (Sltu rd rs rt) fits = sets-short rd _ (bit_if-short _)
   act-short (Bltz rs imm) fits = jumps-short writes.Nothing _ tt (way-short _ imm)
   act-short (Bgez rs imm) fits = jumps-short writes.Nothing _ tt (way-short _ imm)
-  act-short (Bltzal rs imm) fits = jumps-short (set 31 (after following)) _ (set-short 31 _ (mod-short _)) (way-short _ imm)
-  act-short (Bgezal rs imm) fits = jumps-short (set 31 (after following)) _ (set-short 31 _ (mod-short _)) (way-short _ imm)
-  act-short (J index) fits = jumps-short writes.Nothing _ tt (jump_target-short following index short_following fits)
-  act-short (Jal index) fits = jumps-short (set 31 (after following)) _ (set-short 31 _ (mod-short _)) (jump_target-short following index short_following fits)
+  act-short (Bltzal rs imm) fits =
+      jumps-short (set 31 (after following)) _ (set-short 31 _ (mod-short _)) (way-short _ imm)
+  act-short (Bgezal rs imm) fits =
+      jumps-short (set 31 (after following)) _ (set-short 31 _ (mod-short _)) (way-short _ imm)
+  act-short (J index) fits =
+      jumps-short writes.Nothing _ tt (jump_target-short following index short_following fits)
+  act-short (Jal index) fits =
+      jumps-short (set 31 (after following)) _ (set-short 31 _ (mod-short _)) (jump_target-short following index short_following fits)
   act-short (Beq rs rt imm) fits = jumps-short writes.Nothing _ tt (way-short _ imm)
   act-short (Bne rs rt imm) fits = jumps-short writes.Nothing _ tt (way-short _ imm)
   act-short (Blez rs imm) fits = jumps-short writes.Nothing _ tt (way-short _ imm)
@@ -238,18 +265,23 @@ number_of-short Foreign short = lit< tt
 seen_at-short : (cell : ℕ) (v : Seen) → IsShortSeen v → IsShortSeen (seen_at cell v)
 seen_at-short cell v short = cond_both (cell == 0) _ _ IsShortSeen (λ _. lit< tt) (λ _. short)
 
-judged-short : (i : Ins) (a b c : Seen) (following : ℕ) → Fits i → IsShortSeen a → IsShortSeen b → IsShort following → IfOk (judged i Guest a b c following) IsShortEffect
+judged-short : (i : Ins) (a b c : Seen) (following : ℕ) → Fits i → IsShortSeen a → IsShortSeen b
+    → IsShort following → IfOk (judged i Guest a b c following) IsShortEffect
 judged-short i a b c following fits short_a short_b short =
     cond_both (is_reserved Guest i) (Err fault.Reserved) _ (λ r. IfOk r IsShortEffect) (λ _. tt)
     (λ _. cond_both (is_barred Guest i a b c) (Err fault.Foreign) _ (λ r. IfOk r IsShortEffect) (λ _. tt)
     (λ _. act-short (number_of a) (number_of b) (number_of c) following (number_of-short a short_a) (number_of-short b short_b) short i fits))
 
 -- a guest's effect is short where what it sees is
-effect_of-short : (i : Ins) (a b c : Seen) (pc npc : ℕ) → Fits i → IsShortSeen a → IsShortSeen b → IsShort npc → IfOk (effect_of i Guest a b c pc npc) IsShortEffect
+effect_of-short : (i : Ins) (a b c : Seen) (pc npc : ℕ) → Fits i → IsShortSeen a → IsShortSeen b
+    → IsShort npc → IfOk (effect_of i Guest a b c pc npc) IsShortEffect
 unfolding effect_of
 effect_of-short i a b c pc npc fits short_a short_b short =
     judged-short i (seen_at (sources_of i).0 a) (seen_at (sources_of i).1 b) (seen_at (sources_of i).2 c) npc fits (seen_at-short _ a short_a) (seen_at-short _ b short_b) short
 
 -- the same of an effect that is told
-pub effect_of-IsShortEffect : (i : Ins) (a b c : Seen) (pc npc : ℕ) (e : Effect) → Fits i → IsShortSeen a → IsShortSeen b → IsShort npc → effect_of i Guest a b c pc npc ≡ Ok e → IsShortEffect e
-effect_of-IsShortEffect i a b c pc npc e fits short_a short_b short is = let all = effect_of-short i a b c pc npc fits short_a short_b short in rw is at all
+pub effect_of-IsShortEffect : (i : Ins) (a b c : Seen) (pc npc : ℕ) (e : Effect) → Fits i
+    → IsShortSeen a → IsShortSeen b → IsShort npc → effect_of i Guest a b c pc npc ≡ Ok e
+    → IsShortEffect e
+effect_of-IsShortEffect i a b c pc npc e fits short_a short_b short is =
+    let all = effect_of-short i a b c pc npc fits short_a short_b short in rw is at all

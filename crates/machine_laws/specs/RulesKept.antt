@@ -1,6 +1,8 @@
--- What may be said of a machine's journal and the rules of its text.
+-- A machine's journal and the rules of its text: what an install and each event keep, and what
+-- follows for whole runs.
 use Rattle.std.specs.Prelude.{◌≡◌, ◌+◌, ◌^◌, ◌<◌, ◌≤◌, List, [], ◌∷◌, All, length}
 use Rattle.hex.specs.Hex.{IsBytes}
+use Rattle.xom_base.specs.declared.entry.Entry.{Entry}
 use Rattle.xom_base.specs.declared.event.Event.{Event}
 use Rattle.xom_base.specs.declared.event.Event.TheVariants as event
 use Rattle.xom_base.specs.declared.event.Op.{Op}
@@ -38,7 +40,8 @@ IsShortEvent event.Null = Unit {0}
 IsShortEvent (event.Write address length) = IsShort address × IsShort length
 IsShortEvent (event.Poke address length) = IsShort address × IsShort length
 
--- an image with its id: 16 bytes of an id, an entry in private memory, and no more bytes than private memory has
+-- an image and its id, as a program's types have them: 16 bytes of an id, an entry in private
+-- memory, and no more bytes than private memory has
 pub record IsInstallable (id : ImageId) (image : PlainImage) : Type 0 where
   pub id_bytes : IsBytes id.0
   pub id_length : length id.0 ≡ 16
@@ -49,28 +52,37 @@ pub record IsInstallable (id : ImageId) (image : PlainImage) : Type 0 where
 -- an install keeps the rules, up to the largest number of 64 bits
 abbrev pub InstallsKeepRules : Type 0
 InstallsKeepRules = (core : CoreState) (id : ImageId) (key : Key256) (image : PlainImage)
-    → IsInstallable id image → core.installs + 1 < 2 ^ 64 → RulesHold core → RulesHold (installed core id key image)
+    → IsInstallable id image → core.installs + 1 < 2 ^ 64
+    → RulesHold core → RulesHold (installed core id key image)
 
 -- and so does each event
 abbrev pub EventsKeepRules : Type 0
-EventsKeepRules = (r : Record) (e : Event) → IsShortEvent e → RulesHold r.core → RulesHold (on r e).0.core
+EventsKeepRules = (r : Record) (e : Event)
+    → IsShortEvent e → RulesHold r.core → RulesHold (on r e).0.core
 
--- the machine after these events, one behind the other
-abbrev pub after_events : Record → List Event → Record
-after_events r [] = r
-after_events r (e ∷ events) = after_events (on r e).0 events
+-- the machine at power-on with a guest given to it
+abbrev pub record_with_guest : ImageId → Key256 → PlainImage → Record
+record_with_guest id key image = given power_on id key image
 
--- the machine that was given an image at power-on
-abbrev pub begun : ImageId → Key256 → PlainImage → Record
-begun id key image = given power_on id key image
+-- the machine after these events, in their order
+abbrev pub record_after : Record → List Event → Record
+record_after r [] = r
+record_after r (e ∷ events) = record_after (on r e).0 events
 
--- so the journal of a machine that was given an image keeps the rules after any events
+-- what a machine has recorded of a guest that it was given, after these events
+abbrev pub recorded_entries : ImageId → Key256 → PlainImage → List Event → List Entry
+recorded_entries id key image events =
+    (record_after (record_with_guest id key image) events).core.entries
+
+-- it keeps the rules of the journal's text, whatever the events
 abbrev pub JournalsKeepRules : Type 0
 JournalsKeepRules = (id : ImageId) (key : Key256) (image : PlainImage) (events : List Event)
-    → IsInstallable id image → All IsShortEvent events → KeepsRules (after_events (begun id key image) events).core.entries
+    → IsInstallable id image → All IsShortEvent events
+    → KeepsRules (recorded_entries id key image events)
 
--- and what is printed of it is a journal of the same entries
+-- and the text that is printed of it is a journal of the same entries
 abbrev pub JournalsAreReadAgain : Type 0
 JournalsAreReadAgain = (id : ImageId) (key : Key256) (image : PlainImage) (events : List Event)
     → IsInstallable id image → All IsShortEvent events
-    → IsJournal (journal_text (after_events (begun id key image) events).core.entries) (after_events (begun id key image) events).core.entries
+    → IsJournal (journal_text (recorded_entries id key image events))
+    (recorded_entries id key image events)

@@ -1,4 +1,5 @@
--- What is true of the processor's record at every moment between events, so that each entry that comes next keeps the rules of the journal's text.
+-- What is true of the processor at every moment between events, so that each entry that comes next
+-- keeps the rules of the journal's text.
 use Rattle.std.specs.Prelude.{◌≡◌, ℕ, true, List, [], ◌∷◌, All}
 use Rattle.hex.specs.Hex.{IsBytes}
 use Rattle.xom_base.specs.declared.entry.Entry.{Entry}
@@ -18,7 +19,8 @@ last_install_behind last (e ∷ entries) = last_install_behind (last_behind last
 abbrev pub last_install : List Entry → ℕ
 last_install entries = last_install_behind 0 entries
 
--- a session's addresses have 32 bits, and the install of a live slot was made: the last one has this number
+-- a session's addresses have 32 bits, and the install of a live slot was made, where the last one
+-- has this number
 pub record IsSoundSession (last : ℕ) (s : Session) : Type 0 where
   pub entry : IsShort s.entry
   pub pc : IsShort s.pc
@@ -29,11 +31,12 @@ pub record IsSoundSession (last : ℕ) (s : Session) : Type 0 where
 abbrev pub IsShortCell : Cell → Type 0
 IsShortCell cell = IsShort cell.value
 
+-- the journal keeps the rules of its text, and the processor is ready for the next entry
 pub record RulesHold (core : CoreState) : Type 0 where
-  -- the entries keep the rules, and the last install among them has the processor's number
+  -- the last install of the journal has the processor's number
   pub journal : KeepsRules core.entries
   pub last : last_install core.entries ≡ core.installs
-  -- what the next entries are made of is in its range
+  -- each number that an entry may be made of is in its range
   pub sessions : All (IsSoundSession core.installs) core.sessions
   pub cells : All IsShortCell core.cells
   pub memories : All IsBytes core.memories
