@@ -1,0 +1,4 @@
+pub mod ShortEffects
+pub mod RuledSteps
+pub mod RuledEvents
+pub mod RuledRuns
