@@ -1,6 +1,6 @@
 //! Image files, owners, and sealed images.
 
-use crate::inputs::{PRIVATE, image_of, owner_of};
+use crate::inputs::{PRIVATE, image_of, owner_of as owner_with};
 use image_sealer::seal;
 use std::test::Fail;
 use xom_base::{ByteList, ImageId, Key256, PlainImage};
@@ -23,7 +23,7 @@ fn the_largest_image_is_written_sealed_and_opened(rt: HostRuntime) -> Result<(),
     let plain = read_plain(rt.alloc(), &file)?;
     assert!(rt; plain.entry == 0xffffc);
     assert!(rt; plain.bytes.as_slice() == image.bytes.as_slice());
-    let owner = owner_of(plain, 3, 9);
+    let owner = owner_with(plain, 3, 9);
     let sealed = seal(rt.alloc(), &owner, &MACHINE)?;
     let file = write_sealed(rt.alloc(), &sealed)?;
     assert!(rt; file.len() == 2_097_248);
@@ -52,9 +52,9 @@ fn the_largest_image_is_written_sealed_and_opened(rt: HostRuntime) -> Result<(),
 fn the_first_owner_of_an_id_is_found(rt: HostRuntime) -> Result<(), Fail> {
     let mut owners = OwnerList::new(rt.alloc());
     for id in 1..17 {
-        owners.push(owner_of(image_of(rt.alloc(), &[])?, id, id))?;
+        owners.push(owner_with(image_of(rt.alloc(), &[])?, id, id))?;
     }
-    owners.push(owner_of(image_of(rt.alloc(), &[])?, 99, 8))?;
+    owners.push(owner_with(image_of(rt.alloc(), &[])?, 99, 8))?;
     assert!(rt; owners.len() == 17);
     for id in 1..17 {
         let found = owner_of(&owners, &ImageId([id; 16]));
