@@ -2,3 +2,4 @@ pub mod Inputs
 pub mod Console
 pub mod Trace
 pub mod Run
+pub mod Judge
