@@ -121,18 +121,18 @@ IsUnprinted before after = before.disk.writes < after.disk.writes → after.outp
 
 -- The headline: where `trace` was carried out, its text is the console of the run that the run file defines, the report on the journal that this run made, and the line of its events; and each installed guest's recorded steps are those of its owner's program, run alone with the values that it received.
 abbrev pub GuestsRunAlone : List (List ℕ) → Outside → Outside → ℕ → Type 0
-GuestsRunAlone words before after status = (held : Held) → before.disk.held ≡ Some held → (run : List ℕ) → row_of words ≡ Some (Trace run) → IsDone status
+GuestsRunAlone words before after status = (held : Held) → before.disk.held ≡ Some held → (run : List ℕ) (journal : Option (List ℕ)) → row_of words ≡ Some (Trace run journal) → IsDone status
     → (parts : Parts) × (parts_of held run ≡ Ok parts) × Appends before.output.written after.output.written (trace_text (report_of parts) (last_record parts)) × AllFollow (report_of parts)
 
 -- Where `run` was carried out, its text is the console of the run that `trace` makes of the same run file, and its status is that of this trace; and each guest's steps are those of its owner's program too.
 abbrev pub PrintsConsole : List (List ℕ) → Outside → Outside → ℕ → Type 0
 PrintsConsole words before after status = (held : Held) → before.disk.held ≡ Some held → (run : List ℕ) → row_of words ≡ Some (Run run) → IsDone status
-    → (parts : Parts) × (parts_of held run ≡ Ok parts) × (trace_of held run ≡ Ok (traced parts)) × (status ≡ (traced parts).status)
+    → (parts : Parts) × (parts_of held run ≡ Ok parts) × (trace_of held run None ≡ Ok (traced None parts)) × (status ≡ (traced None parts).status)
     × Appends before.output.written after.output.written (console_of (last_record parts).core.entries) × AllFollow (report_of parts)
 
 -- the words ask for the run of this run file
 abbrev pub AsksForRun : List (List ℕ) → List ℕ → Type 0
-AsksForRun words run = (row_of words ≡ Some (Run run)) ⊎ (row_of words ≡ Some (Trace run))
+AsksForRun words run = (row_of words ≡ Some (Run run)) ⊎ ((journal : Option (List ℕ)) × (row_of words ≡ Some (Trace run journal)))
 
 -- Under `run` and `trace` 9 comes only where the report names a forged entry or a collision: no guest departs there, and each has an owner.
 abbrev pub FindingCause : List (List ℕ) → Outside → ℕ → Type 0
