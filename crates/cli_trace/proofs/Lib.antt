@@ -1,6 +1,5 @@
 pub mod Runnable
 pub mod Told
-pub mod Traced
 pub mod Headline
 pub mod Statuses
 pub mod Stopped

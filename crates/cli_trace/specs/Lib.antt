@@ -2,4 +2,3 @@ pub mod Inputs
 pub mod Console
 pub mod Trace
 pub mod Run
-pub mod Judge

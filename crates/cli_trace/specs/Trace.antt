@@ -17,7 +17,7 @@ use Rattle.xom_model.specs.State.{Record, power_on}
 use Rattle.xom_model.specs.Install.{given}
 use Rattle.xom_model.specs.Run.{IsSchedule, run_from}
 use Rattle.script_kernel.specs.Turns.{script_told}
-use Rattle.journal_text.specs.Lines.{journal_text}
+use Rattle.journal_text.specs.JournalTexts.{journal_text}
 use Rattle.cli_base.specs.declared.answer.Answer.{Answer}
 use Rattle.cli_base.specs.declared.answer.OutputFile.{OutputFile}
 use Rattle.cli_trace.specs.declared.trace.Parts.{Parts}

@@ -1,5 +1,6 @@
 -- The file that a command answers is the one that its words name.
 use Rattle.std.proofs.Common.{◌≡◌, List, ℕ, Option, Some, None, Result, Ok, Err, refl, sym, ◌∙◌, ap}
+use Rattle.xom_base.specs.declared.entry.Entry.{Entry}
 use Rattle.xom_base.specs.declared.key.ImageId.{ImageId}
 use Rattle.xom_base.specs.declared.key.Key256.{Key256}
 use Rattle.cli_base.specs.declared.answer.Answer.{Answer}
@@ -11,11 +12,9 @@ use Rattle.cli_base.specs.Inputs.{◌>>=◌, Held, fetched, image_of}
 use Rattle.cli_programs.specs.Programs.{source_limit}
 use Rattle.xom_cli.specs.Outcome.{IsOutcome}
 use Rattle.cli_programs.specs.Programs.{disasm_of, plain_of, seal_of, values_of}
-use Rattle.xom_cli.specs.Rows.{Row, Asm, Disasm, Plain, Seal, Run, Trace, Judge, target_of}
-use Rattle.cli_trace.specs.Judge.{journal_of, judge_of}
-use Rattle.cli_trace.specs.Inputs.{run_file_of}
+use Rattle.xom_cli.specs.Rows.{Row, Asm, Disasm, Plain, Seal, Run, Trace, target_of}
 use Rattle.cli_trace.specs.Run.{console_run, run_of}
-use Rattle.cli_trace.specs.Trace.{journal_file, parts_of, trace_of, traced}
+use Rattle.cli_trace.specs.Trace.{journal_file, last_record, parts_of, trace_of, traced}
 
 -- where two steps answer, the first did, and the second of what it gave
 pub bind-ok : {A B : Type 0} (o : Result A Refusal) (f : A → Result B Refusal) (value : B) → (o >>= f) ≡ Ok value → (x : A) × (o ≡ Ok x) × (f x ≡ Ok value)
@@ -41,13 +40,6 @@ trace-file : (held : Held) (run : List ℕ) (journal : Option (List ℕ)) (answe
 trace-file held run journal answer file is written =
     let found = trace-answer held run journal answer is in
     traced-file journal found.0 file (sym (ap (λ (a : Answer). a.file) found.2) ∙ written)
-
-judge-file : (held : Held) (run journal : List ℕ) (answer : Answer) → judge_of held run journal ≡ Ok answer → answer.file ≡ None
-unfolding judge_of judged_journal
-judge-file held run journal answer is =
-    let image = (bind-ok (run_file_of held run) _ answer is).2 in
-    let entries = (bind-ok (image_of held _) _ answer image).2 in
-    let last = (bind-ok (journal_of held journal) _ answer entries).2 in cc
 
 -- the answer of `run` is that of its parts
 pub run-answer : (held : Held) (run : List ℕ) (answer : Answer) → run_of held run ≡ Ok answer → (parts : Parts) × (parts_of held run ≡ Ok parts) × (answer ≡ console_run parts)
@@ -95,4 +87,3 @@ target-written (Plain image steps received) held answer file is written = let no
 target-written (Seal image key id machine sealed) held answer file is written = ap Some (sym (seal-file held image key id machine sealed answer file is written))
 target-written (Run run) held answer file is written = let none = run-file held run answer is in absurd (cc)
 target-written (Trace run journal) held answer file is written = trace-file held run journal answer file is written
-target-written (Judge run journal) held answer file is written = let none = judge-file held run journal answer is in absurd (cc)

@@ -14,8 +14,7 @@ use Rattle.cli_programs.specs.Programs.{received_of, source_limit}
 use Rattle.cli_trace.specs.Inputs.{run_file_of, script_of}
 use Rattle.xom_cli.specs.Outcome.{IsOutcome}
 use Rattle.cli_programs.specs.Programs.{disasm_of, plain_of, seal_of, values_of}
-use Rattle.xom_cli.specs.Rows.{Row, Asm, Disasm, Plain, Seal, Run, Trace, Judge}
-use Rattle.cli_trace.specs.Judge.{journal_of, judge_of}
+use Rattle.xom_cli.specs.Rows.{Row, Asm, Disasm, Plain, Seal, Run, Trace}
 use Rattle.cli_trace.specs.Run.{run_of}
 use Rattle.cli_trace.specs.Trace.{parts_of, trace_of}
 
@@ -114,23 +113,6 @@ trace-unread held run journal name is = elim (bind-err (parts_of held run) _ (Un
   | inr parts ↦ absurd (let last = parts.2 in cc)
 ]
 
-journal-unread : (held : Held) (n name : List ℕ) → journal_of held n ≡ Err (Unread name) → held name ≡ None
-unfolding journal_of
-journal-unread held n name is = input-unread _ _ held n name is
-
-judge-unread : (held : Held) (run journal name : List ℕ) → judge_of held run journal ≡ Err (Unread name) → held name ≡ None
-unfolding judge_of
-judge-unread held run journal name is = elim (bind-err (run_file_of held run) _ (Unread name) is) [
-  | inl here ↦ run_file-unread held run name here
-  | inr file ↦ elim (bind-err (image_of held file.0.owner.plain) _ (Unread name) file.2) [
-    | inl here ↦ image-unread held file.0.owner.plain name here
-    | inr image ↦ elim (bind-err (journal_of held journal) _ (Unread name) image.2) [
-      | inl here ↦ journal-unread held journal name here
-      | inr entries ↦ absurd (let last = entries.2 in cc)
-    ]
-  ]
-]
-
 run-unread : (held : Held) (run name : List ℕ) → run_of held run ≡ Err (Unread name) → held name ≡ None
 unfolding run_of
 run-unread held run name is = elim (bind-err (parts_of held run) _ (Unread name) is) [
@@ -145,4 +127,3 @@ row-unread (Plain image steps received) held name is = plain-unread held image s
 row-unread (Seal image key id machine sealed) held name is = seal-unread held image key id machine sealed name is
 row-unread (Run run) held name is = run-unread held run name is
 row-unread (Trace run journal) held name is = trace-unread held run journal name is
-row-unread (Judge run journal) held name is = judge-unread held run journal name is

@@ -14,7 +14,6 @@ use cli_programs::asm::asm;
 use cli_programs::disasm::disasm;
 use cli_programs::plain::plain;
 use cli_programs::seal::seal;
-use cli_trace::judge::judge;
 use cli_trace::run::run;
 use cli_trace::trace::trace;
 use std::alloc::Global;
@@ -33,7 +32,6 @@ use xom_io::{Files, Sink};
 ///   there. Where there is none nothing is put.
 /// - `trace RUN` and `trace RUN JOURNAL` make the same run, with the same status, and print its console
 ///   and the judgement of its journal; where a file is named, the journal's text is written there.
-/// - `judge RUN JOURNAL` judges the journal in a file by the owners of a run file, and prints that.
 ///
 /// 0: carried out; for a run, the kernel halted. 1: the words match no command. 2: a file can't be
 /// read. 3: the output can't be written. 4: a file is too long, or off its format. 5: no memory was
@@ -95,6 +93,5 @@ fn answer<F: Files>(alloc: Global, row: Row<'_>, files: &mut F) -> Result<Answer
         } => seal(alloc, files, image, key, id, &machine, sealed),
         Row::Run { run: name } => run(alloc, files, name),
         Row::Trace { run: name, journal } => trace(alloc, files, name, journal),
-        Row::Judge { run: name, journal } => judge(alloc, files, name, journal),
     }
 }
