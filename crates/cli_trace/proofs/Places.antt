@@ -1,28 +1,10 @@
--- What is said of the entries in front of a place, and of the one that stands there.
-use Rattle.std.proofs.Common.{◌≡◌, ℕ, zero, suc, add-one, ◌+◌, Bool, true, false, ◌||◌, List, [], ◌∷◌, ◌++◌, Option, Some, None, take, refl, ap, ◌∙◌}
-use Rattle.std.specs.Prelude.{option_and_then, option_map, slice_get, unwrap_or}
-use Rattle.std.specs.List.{cons_option, filter_map, list_any}
+-- The console of the entries in front of a place, and of the one that stands there.
+use Rattle.std.proofs.Common.{◌≡◌, ℕ, zero, suc, add-one, ◌+◌, List, [], ◌∷◌, ◌++◌, Option, Some, None, take, refl, ap, ◌∙◌}
+use Rattle.std.specs.Prelude.{option_and_then, slice_get}
+use Rattle.std.specs.List.{cons_option, filter_map}
 use Rattle.std.specs.Option.{option_to_list}
 use Rattle.xom_base.specs.declared.entry.Entry.{Entry}
 use Rattle.cli_trace.specs.Console.{byte_in, console_of}
-
-or-false : (b : Bool) → (b || false) ≡ b
-or-false true = refl
-or-false false = refl
-
-or-assoc : (a b c : Bool) → (a || (b || c)) ≡ ((a || b) || c)
-or-assoc true b c = refl
-or-assoc false b c = refl
-
-any-suc : {A : Type 0} (p : A → Bool) (xs : List A) (i : ℕ) → list_any p (take (suc i) xs) ≡ (list_any p (take i xs) || unwrap_or (option_map p (slice_get xs i)) false)
-any-suc p [] zero = refl
-any-suc p [] (suc i) = refl
-any-suc p (x ∷ xs) zero = or-false (p x)
-any-suc p (x ∷ xs) (suc i) = rw (any-suc p xs i) (or-assoc (p x) (list_any p (take i xs)) (unwrap_or (option_map p (slice_get xs i)) false))
-
--- one of the entries up to a place, where one of those in front or the one at the place
-pub any_next : {A : Type 0} (p : A → Bool) (xs : List A) (i : ℕ) → list_any p (take (i + 1) xs) ≡ (list_any p (take i xs) || unwrap_or (option_map p (slice_get xs i)) false)
-any_next p xs i = rw add-one (any-suc p xs i)
 
 cons_option-nil : {A : Type 0} (o : Option A) → cons_option o [] ≡ option_to_list o
 cons_option-nil None = refl

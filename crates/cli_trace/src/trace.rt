@@ -1,4 +1,4 @@
-ghost use Rattle.std.specs.Prelude.{◌≡◌, ◌≤◌, ◌^◌, IfOk, false, option_map, slice_get, string_bytes, unwrap_or};
+ghost use Rattle.std.specs.Prelude.{◌≡◌, ◌≤◌, ◌^◌, IfOk, string_bytes};
 ghost use Rattle.std.specs.List.{list_any};
 ghost use Rattle.cli_base.specs.Commands.{IsDone};
 ghost use Rattle.cli_base.specs.Readings.{Gives};
@@ -221,25 +221,17 @@ fn is_doubted(verdict: Verdict) -> bool
     !matches!(verdict, Verdict::Follows(_))
 }
 
-#[tactic(auto, using(crate::proofs::Places::any_next))]
 fn has_stop(journal: &Journal) -> bool
     ensures { result ≡ list_any is_stop_by journal.now.entries }
 {
-    let mut found = false;
     for i in 0..journal.len() {
-        found = found || is_stop_at(journal, i);
+        if let Some(entry) = journal.get(i) {
+            if is_stop(&entry) {
+                return true;
+            }
+        }
     }
-    found
-}
-
-/// Whether the entry at a place is a Stop.
-fn is_stop_at(journal: &Journal, i: u64) -> bool
-    ensures { result ≡ unwrap_or (option_map is_stop_by (slice_get journal.now.entries i)) false }
-{
-    match journal.get(i) {
-        Some(entry) => is_stop(&entry),
-        None => false,
-    }
+    false
 }
 
 fn is_stop(entry: &Entry) -> bool

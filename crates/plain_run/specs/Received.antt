@@ -1,10 +1,8 @@
 -- Received files: the values that a program run alone receives, one a line. This project's own format.
-use Rattle.std.specs.Prelude.{◌≡◌, ℕ, List, [], ◌∷◌, Option, None, Result, Ok, Err, option_map}
+use Rattle.std.specs.Prelude.{◌≡◌, ℕ, List, [], ◌∷◌, Option, None, Result, option_map}
 use Rattle.std.specs.Int.{w32, from_be_bytes}
 use Rattle.xom_base.specs.Hex.{IsHex, hex_of}
-use Rattle.xom_base.specs.Lines.{IsFirstBad, LineStep, Reads, Rows, lines_of, read_from, step_of}
-use Rattle.xom_base.specs.declared.lines.TextFault.{TextFault}
-use Rattle.xom_base.specs.declared.lines.TextFault.TheVariants as text_fault
+use Rattle.xom_base.specs.Lines.{IsFirstBad, IsRows, LineStep, Rows, lines_of, rows_of, rows_step}
 
 -- one word, which is eight hexadecimal digits in either case: the value, its high byte first
 abbrev pub IsValue : List (List ℕ) → ℕ → Type 0
@@ -13,22 +11,11 @@ IsValue words value =
 
 -- the text is a received file of these values: one a line, in their order, blank lines passed over
 abbrev pub IsReceived : List ℕ → List ℕ → Type 0
-IsReceived text values = Reads (Rows IsValue) tt 1 (lines_of text) values tt
+IsReceived = IsRows IsValue
 
 -- the line of this number, counted from 1, is the first that is neither blank nor a value
 abbrev pub IsBadLine : List ℕ → ℕ → Type 0
 IsBadLine text n = IsFirstBad (Rows IsValue) tt 1 (lines_of text) n
-
--- what is answered of a text that isn't read; want of memory comes freely
-abbrev pub RefusesText : List ℕ → TextFault → Type 0
-RefusesText text (text_fault.Line n) = IsBadLine text n
-RefusesText text text_fault.NoMemory = Unit {0}
-
--- what is answered of a received file of these values; want of memory comes freely
-abbrev pub AnswersValues : List ℕ → Result (List ℕ) TextFault → Type 0
-AnswersValues values (Ok read) = read ≡ values
-AnswersValues values (Err (text_fault.Line n)) = ⊥
-AnswersValues values (Err text_fault.NoMemory) = Unit {0}
 
 -- ---- the same as a function
 
@@ -39,13 +26,8 @@ value_of other = None
 
 -- the same of a line, for the loop over lines
 abbrev pub value_step : LineStep (Unit {0}) ℕ
-value_step = step_of (λ s n words. option_map (λ value. (value, s)) (value_of words))
-
--- the values alone
-abbrev pub values_alone : Result (List ℕ × Unit {0}) ℕ → Result (List ℕ) ℕ
-values_alone (Ok read) = Ok read.0
-values_alone (Err bad) = Err bad
+value_step = rows_step value_of
 
 -- the values of a received file, or the number of its first bad line
 unfoldable pub received_at : List ℕ → Result (List ℕ) ℕ
-received_at text = values_alone (read_from value_step tt 1 (lines_of text))
+received_at = rows_of value_of

@@ -1,68 +1,36 @@
-ghost use Rattle.std.specs.Prelude.{◌≡◌, ℕ, List, [], IfOk, IfErr, MatchResult, Ok, map, option_map};
+ghost use Rattle.std.specs.Prelude.{◌≡◌, ℕ, Ok, map, option_map};
 ghost use Rattle.std.specs.Int.{w32, from_be_bytes};
 ghost use Rattle.xom_base.specs.Hex.{hex_of};
-ghost use Rattle.xom_base.specs.Lines.{Faults};
-ghost use Rattle.plain_run.specs.Received.{AnswersValues, IsReceived, RefusesText, received_at, value_of};
+ghost use Rattle.xom_base.specs.Lines.{AnswersRead, AnswersText};
+ghost use Rattle.plain_run.specs.Received.{IsBadLine, IsReceived, received_at, value_of};
 
 use hex::FromHex;
 use std::alloc::Global;
 use std::marker::Model;
-use xom_base::{LineFault, LineFormat, TextFault, read_lines, words};
+use xom_base::{LineFault, LineFormat, List, TextFault, read_lines, words};
 
-/// The values that a program receives, in their order. Contracts see them as a list.
-#[derive(Debug, Drop)]
-pub struct ReceivedList {
-    values: Vec<u32>,
-}
-
-impl Model for ReceivedList {
-    ghost use Rattle.std.specs.Prelude.{ℕ, List};
-
-    ghost Value = { List ℕ };
-
-    ghost view = { λ l. l.values.items };
-}
-
-impl ReceivedList {
-    /// The empty list. It takes no memory.
-    pub fn new(alloc: Global) -> ReceivedList
-        ensures { result ≡ [] }
-    {
-        ReceivedList {
-            values: Vec::new(alloc),
-        }
-    }
-
-    /// The values, in their order.
-    pub fn as_slice(&self) -> &[u32]
-        ensures { result.now ≡ self.now }
-    {
-        self.values.as_slice()
-    }
-}
+/// The values that a program receives, in their order.
+pub type ReceivedList = List<u32>;
 
 /// Reads a received file: one value of eight hexadecimal digits a line, in either case of letters, by
 /// the general rules of lines, words and comments. The fault is `Line` with the number of the first bad
 /// line, counted from 1, or `NoMemory`. It costs time linear in the text.
 pub fn read_received(alloc: Global, text: &[u8]) -> Result<ReceivedList, TextFault>
-    // What is read is in the grammar.
-    ensures found { IfOk result (λ values. IsReceived text.now values) }
-    // What is in the grammar is read as those values, unless memory ran out.
-    ensures only { (values : List ℕ) → IsReceived text.now values → AnswersValues values result }
-    // The line that is answered is the first bad one.
-    ensures bad { IfErr result (RefusesText text.now) }
-    ensures value { MatchResult result (λ values. received_at text.now ≡ Ok values) (Faults (received_at text.now)) }
+    // What is read is in the grammar, and what is in the grammar is read, unless memory ran out. The line
+    // that is answered is the first bad one.
+    ensures text { AnswersText (IsReceived text.now) (IsBadLine text.now) result }
+    ensures value { AnswersRead (received_at text.now) result }
 {
     read_values(alloc, text)
 }
 
 #[tactic(auto, unfolding(crate::specs::Received::received_at))]
 fn read_values(alloc: Global, text: &[u8]) -> Result<ReceivedList, TextFault>
-    ensures { MatchResult result (λ values. received_at text.now ≡ Ok values) (Faults (received_at text.now)) }
+    ensures { AnswersRead (received_at text.now) result }
 {
     let mut lines = ValueLines;
     let values = read_lines(alloc, text, &mut lines)?;
-    Ok(ReceivedList { values })
+    Ok(ReceivedList::from_vec(values))
 }
 
 /// A line of a received file is told by its words alone.

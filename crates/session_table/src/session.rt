@@ -41,6 +41,10 @@ pub struct Session {
     pub mask: u64,
     /// How often it left and came back, so that old saves are of no use.
     pub epoch: u64,
+    /// Where signals are handled, 0 for nowhere.
+    pub handler: u32,
+    /// The pair at which the guest goes on after a signal, while one is handled.
+    pub saved: Option<(u32, u32)>,
     /// Where it stands.
     pub state: SlotState,
 }
@@ -100,6 +104,8 @@ impl Session {
             npc: 0,
             mask: 0,
             epoch: 0,
+            handler: 0,
+            saved: None,
             state: SlotState::Free,
         }
     }
@@ -118,6 +124,8 @@ impl Session {
             npc: 0,
             mask: 0,
             epoch: 0,
+            handler: 0,
+            saved: None,
             state: SlotState::Fresh,
         }
     }

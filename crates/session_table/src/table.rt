@@ -1,5 +1,6 @@
 ghost use Rattle.std.specs.Prelude.{◌≡◌, ◌≤◌, ◌<◌, ◌+◌, ◌^◌, IfOk, IfSome, slice_set};
-ghost use Rattle.session_table.specs.Sessions.{IsTable, Sessions, fresh, none_held, running_in, session_at};
+ghost use Rattle.std.specs.Borrow.{sem};
+ghost use Rattle.session_table.specs.Sessions.{IsTable, free, fresh, none_held, renewed, running_in, session_at, with_session};
 
 use crate::Session;
 use std::alloc::Global;
@@ -27,6 +28,8 @@ impl Model for Table {
 }
 
 impl Table {
+    ghost use Rattle.session_table.specs.Lending.{LendsSession};
+
     /// All slots free, and no install number given.
     pub fn new(alloc: Global) -> Result<Table, NoMemory>
         ensures { IfOk result (λ t. t ≡ record { list = none_held; installs = 0 }) }
@@ -45,13 +48,14 @@ impl Table {
         &self.sessions[usize::from(slot)]
     }
 
-    /// Sets the session of a slot, 1 to 16.
-    pub fn set(&mut self, slot: u8, session: &Session)
+    /// The session of a slot, 1 to 16, to be written.
+    pub fn session_mut(&mut self, slot: u8) -> &mut Session
         requires some { 1 ≤ slot }
         requires known { slot ≤ 16 }
-        ensures { self.new ≡ record self.old { list = slice_set self.old.list slot session.now } }
+        ensures* writes_back { sem 𝓛 (LendsSession self.entry slot result) }
+        ensures value { result.now ≡ session_at self.old.list slot }
     {
-        self.sessions[usize::from(slot)] = *session;
+        &mut self.sessions[usize::from(slot)]
     }
 
     /// The slot whose guest runs, if one does: the least one.
@@ -82,6 +86,25 @@ impl Table {
         self.sessions[usize::from(slot)] = Session::fresh(number, id, key, entry, lines);
         self.installs = number;
         number
+    }
+
+    /// Makes a slot, 1 to 16, free: its session is zeros, with no kept pair.
+    pub fn kill(&mut self, slot: u8)
+        requires some { 1 ≤ slot }
+        requires known { slot ≤ 16 }
+        ensures { self.new ≡ with_session self.old slot free }
+    {
+        self.sessions[usize::from(slot)] = Session::free();
+    }
+
+    /// Raises the epoch of a slot, 1 to 16, by one, so that old saves are of no use.
+    pub fn renew(&mut self, slot: u8)
+        requires some { 1 ≤ slot }
+        requires known { slot ≤ 16 }
+        requires number { (session_at self.old.list slot).epoch < 2 ^ 63 }
+        ensures { self.new ≡ with_session self.old slot (renewed (session_at self.old.list slot)) }
+    {
+        self.sessions[usize::from(slot)].epoch += 1;
     }
 }
 

@@ -1,5 +1,5 @@
 -- The processor's registers, each with the compartment that it belongs to.
-use Rattle.std.specs.Prelude.{ℕ, ◌==◌, List, map, replicate, slice_index_or, if◌then◌else◌}
+use Rattle.std.specs.Prelude.{ℕ, ◌==◌, List, map, replicate, slice_index_or, slice_set, if◌then◌else◌}
 use Rattle.tag_regs.specs.declared.cell.Cell.{Cell}
 
 -- zero, of the null compartment
@@ -13,6 +13,10 @@ all_empty = replicate 34 empty
 -- the cell of a register
 abbrev pub cell_at : List Cell → ℕ → Cell
 cell_at cells reg = slice_index_or cells reg empty
+
+-- the cells with another value and tag in one
+abbrev pub with_cell : List Cell → ℕ → ℕ → ℕ → List Cell
+with_cell cells reg value tag = slice_set cells reg (record { value = value; tag = tag })
 
 -- a cell without what belongs to a slot
 abbrev pub scrubbed_cell : ℕ → Cell → Cell

@@ -1,5 +1,5 @@
 /// A register with the compartment that it belongs to.
-#[derive(Clone, Copy, Debug, PartialEq, Eq)]
+#[derive(Clone, Copy)]
 pub struct Cell {
     /// What it holds.
     pub value: u32,

@@ -1,5 +1,5 @@
-ghost use Rattle.std.specs.Prelude.{◌≡◌, ◌≤◌, ◌<◌, slice_set};
-ghost use Rattle.tag_regs.specs.TaggedCells.{all_empty, cell_at, scrubbed, scrubbed_cell};
+ghost use Rattle.std.specs.Prelude.{◌≡◌, ◌≤◌, ◌<◌};
+ghost use Rattle.tag_regs.specs.TaggedCells.{all_empty, cell_at, scrubbed, scrubbed_cell, with_cell};
 
 use crate::Cell;
 use std::marker::Model;
@@ -29,13 +29,14 @@ impl Cells {
         Cells { cells: no_cells() }
     }
 
-    /// The cell of a register, 1 to 33.
-    pub fn get(&self, reg: u8) -> Cell
+    /// The value and the tag of a register, 1 to 33.
+    pub fn get(&self, reg: u8) -> (u32, u8)
         requires some { 1 ≤ reg }
         requires known { reg < 34 }
-        ensures { result ≡ cell_at self.now reg }
+        ensures { result ≡ ((cell_at self.now reg).value, (cell_at self.now reg).tag) }
     {
-        self.cells[usize::from(reg)]
+        let cell = self.cells[usize::from(reg)];
+        (cell.value, cell.tag)
     }
 
     /// Sets the cell of a register, 1 to 33, with a tag of at most 16.
@@ -43,12 +44,12 @@ impl Cells {
         requires some { 1 ≤ reg }
         requires known { reg < 34 }
         requires compartment { tag ≤ 16 }
-        ensures { self.new ≡ slice_set self.old reg (record { value = value; tag = tag }) }
+        ensures { self.new ≡ with_cell self.old reg value tag }
     {
         self.cells[usize::from(reg)] = Cell { value, tag };
     }
 
-    /// Empties the cells of a slot.
+    /// Empties the cells of a slot. Walks all of them.
     pub fn scrub(&mut self, slot: u8)
         ensures { self.new ≡ scrubbed slot self.old }
     {

@@ -5,7 +5,7 @@ use crate::Report;
 use crate::guests::guest_lines;
 use crate::searches::{collision, forged};
 use std::alloc::Global;
-use xom_base::NoMemory;
+use xom_base::{Entry, NoMemory};
 use xom_journal::Journal;
 use xom_owners::OwnerList;
 
@@ -15,11 +15,25 @@ use xom_owners::OwnerList;
 pub fn judge(alloc: Global, owners: &OwnerList, journal: &Journal) -> Result<Report, NoMemory>
     ensures { IfOk result (λ report. report ≡ judgement owners.now journal.now.entries) }
 {
-    let entries = journal.entries();
+    let entries = entries_of(alloc, journal)?;
+    let entries = entries.as_slice();
     let guests = guest_lines(alloc, owners, entries)?;
     Ok(Report {
         guests,
         forged: forged(entries),
         collision: collision(entries),
     })
+}
+
+/// The entries of a journal as one list.
+fn entries_of(alloc: Global, journal: &Journal) -> Result<Vec<Entry>, NoMemory>
+    ensures { IfOk result (λ entries. entries.items ≡ journal.now.entries) }
+{
+    let mut entries = Vec::new(alloc);
+    for i in 0..journal.len() {
+        if let Some(entry) = journal.get(i) {
+            entries.push(entry)?;
+        }
+    }
+    Ok(entries)
 }

@@ -1,5 +1,5 @@
 -- Lines of a text, and what a format that goes line by line makes of them.
-use Rattle.std.specs.Prelude.{◌≡◌, ◌⊎◌, ℕ, ◌+◌, ◌==◌, Bool, if◌then◌else◌, List, [], ◌∷◌, ◌++◌, length, Option, Some, None, option_map, Result, Ok, Err, IfOk}
+use Rattle.std.specs.Prelude.{◌≡◌, ◌⊎◌, ℕ, ◌+◌, ◌==◌, Bool, if◌then◌else◌, List, [], ◌∷◌, ◌++◌, length, Option, Some, None, option_map, Result, Ok, Err, IfOk, MatchResult}
 use Rattle.std.specs.List.{onto_first}
 use Rattle.std.specs.Option.{option_to_list}
 use Rattle.xom_base.specs.Memory.{OrOut}
@@ -158,8 +158,7 @@ Faults read text_fault.NoMemory = Unit {0}
 
 -- What was answered of a text is what its lines give, unless memory ran out.
 abbrev pub AnswersRead : {A : Type 0} → Result A ℕ → Result A TextFault → Type 0
-AnswersRead read (Ok value) = read ≡ Ok value
-AnswersRead read (Err fault) = Faults read fault
+AnswersRead read result = MatchResult result (λ value. read ≡ Ok value) (Faults read)
 
 -- How the reader of a format answers, where a text is in the format with a value, and a line is its first
 -- bad one: what is read is in the format; what is in the format is read as that value, unless memory

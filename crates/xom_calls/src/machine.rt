@@ -6,7 +6,7 @@ use crate::inputs::{TWELVE, image_of};
 use session_table::{SlotState, Table, owns, with_cell, without_cell};
 use std::alloc::Global;
 use std::test::Fail;
-use tag_regs::{Cell, Cells};
+use tag_regs::Cells;
 use xom_base::{
     Cause, Event, ImageId, Interrupts, Key256, NoMemory, NumberList, Op, Outcome, OwnFault, Rule,
     RunEnd, Schedule, Stored, Turn,
@@ -26,8 +26,8 @@ fn what_belongs_to_a_slot_is_scrubbed(rt: HostRuntime) {
     cells.set(1, 5, 2);
     cells.set(33, 6, 3);
     cells.scrub(2);
-    assert!(rt; cells.get(1) == Cell::EMPTY);
-    assert!(rt; cells.get(33).value == 6 && cells.get(33).tag == 3);
+    assert!(rt; cells.get(1).0 == 0 && cells.get(1).1 == 0);
+    assert!(rt; cells.get(33).0 == 6 && cells.get(33).1 == 3);
     assert!(rt; with_cell(1, 3) == 9 && without_cell(9, 3) == 1);
     assert!(rt; owns(9, 3) && !owns(9, 2));
 }
@@ -38,7 +38,7 @@ fn a_guest_is_installed_and_started(rt: HostRuntime) -> Result<(), Fail> {
     assert!(rt; table.running() == None);
     assert!(rt; table.install(3, ID, KEY, 64, 1) == 1);
     let started = table.session(3).entered();
-    table.set(3, &started);
+    *table.session_mut(3) = started;
     assert!(rt; table.running() == Some(3));
     assert!(rt; started.pc == 64 && started.npc == 68);
     assert!(rt; started.state == SlotState::Running);
@@ -86,7 +86,7 @@ fn operations_answer_their_status(rt: HostRuntime) -> Result<(), Fail> {
         core.journal.reserve(EVENT_ROOM)?;
         assert_eq!(rt; operate(&mut core, op), status);
     }
-    assert!(rt; core.cells.get(5).value == 9);
+    assert!(rt; core.cells.get(5).0 == 9);
     Ok(())
 }
 
@@ -96,7 +96,7 @@ fn a_word_of_ones_is_reserved(rt: HostRuntime) -> Result<(), Fail> {
     core.journal.reserve(EVENT_ROOM)?;
     core.give(ID, KEY, &image_of(rt.alloc(), &[u32::MAX])?);
     let entered = core.table.session(1).entered();
-    core.table.set(1, &entered);
+    *core.table.session_mut(1) = entered;
     core.journal.reserve(EVENT_ROOM)?;
     let session = core.table.session(1);
     assert!(rt; session.epoch < 9);

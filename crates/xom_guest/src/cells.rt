@@ -4,7 +4,7 @@ ghost use Rattle.mips_plain.specs.Inside.{IsInside, IsLent};
 ghost use Rattle.xom_model.specs.Guest.{cells_after, open_value as open_value_of, received_by, seen_as as seen_as_of, seen_by as seen_by_of, tagged, untagged};
 
 use mips_effect::{Seen, Wish};
-use tag_regs::{Cell, Cells};
+use tag_regs::Cells;
 use xom_base::{Released, Step, Writes};
 
 /// What a slot's guest sees in a cell, 0 to 33: $0 is zero.
@@ -15,15 +15,16 @@ pub fn seen_by(slot: u8, cells: &Cells, reg: u8) -> Seen
     if reg == 0 {
         return Seen::Value(0);
     }
-    seen_as(slot, cells.get(reg))
+    let (value, tag) = cells.get(reg);
+    seen_as(slot, value, tag)
 }
 
 /// The value where the cell has the slot's tag.
-fn seen_as(slot: u8, cell: Cell) -> Seen
-    ensures { result ≡ seen_as_of slot cell }
+fn seen_as(slot: u8, value: u32, tag: u8) -> Seen
+    ensures { result ≡ seen_as_of slot (record { value = value; tag = tag }) }
 {
-    if cell.tag == slot {
-        Seen::Value(cell.value)
+    if tag == slot {
+        Seen::Value(value)
     } else {
         Seen::Foreign
     }
@@ -35,16 +36,17 @@ pub fn received(cells: &Cells, wish: Wish) -> u32
     ensures { result ≡ received_by cells.now wish }
 {
     if let Wish::Receive { reg: _reg, from } = wish {
-        return open_value(cells.get(from));
+        let (value, tag) = cells.get(from);
+        return open_value(value, tag);
     }
     0
 }
 
 /// The value of a cell of the null compartment, and 0 of any other's.
-fn open_value(cell: Cell) -> u32
-    ensures { result ≡ open_value_of cell }
+fn open_value(value: u32, tag: u8) -> u32
+    ensures { result ≡ open_value_of (record { value = value; tag = tag }) }
 {
-    if cell.tag == 0 { cell.value } else { 0 }
+    if tag == 0 { value } else { 0 }
 }
 
 /// Carries out on the cells what a step of a slot's guest wrote and released.

@@ -112,7 +112,7 @@ fn retire(core: &mut Core, slot: u8, effect: &Effect, step: &Step)
 {
     let session = *core.table.session(slot);
     cells::carry_out(slot, &mut core.cells, step);
-    core.table.set(slot, &moved(&session, effect, step));
+    *core.table.session_mut(slot) = moved(&session, effect, step);
     core.memories.store(slot, step.stored);
     let record = Entry::Step {
         install: session.install,
@@ -168,7 +168,7 @@ fn trap(core: &mut Core, slot: u8, cause: Cause) -> Option<Cause>
     ensures room { core.old.journal.spare ≤ core.new.journal.spare + 100 }
 {
     let session = *core.table.session(slot);
-    core.table.set(slot, &session.paused());
+    *core.table.session_mut(slot) = session.paused();
     let trap = Entry::Trap {
         install: session.install,
         cause,
@@ -187,6 +187,6 @@ fn finish(core: &mut Core, slot: u8) -> Option<Cause>
 {
     let session = *core.table.session(slot);
     core.cells.scrub(slot);
-    core.table.set(slot, &session.left(SlotState::Ended));
+    *core.table.session_mut(slot) = session.left(SlotState::Ended);
     Some(Cause::Exit)
 }

@@ -1,7 +1,7 @@
 -- The journal as a list of entries, with a number of bytes that are spare for more.
 use Rattle.std.specs.Prelude.{ℕ, ◌+◌, ◌-◌, List, [], ◌∷◌, ◌++◌, length}
 use Rattle.xom_base.specs.declared.entry.Entry.{Entry}
-use Rattle.xom_base.specs.declared.entry.Entry.TheVariants.{Seal, Accept, Hash}
+use Rattle.xom_base.specs.declared.entry.Entry.TheVariants as entry
 
 pub record Log : Type 0 where
   pub entries : List Entry
@@ -9,10 +9,15 @@ pub record Log : Type 0 where
 
 -- what an entry costs: its payload bytes, where a digest has 32, and 48 more
 abbrev pub cost : Entry → ℕ
-cost (Seal key message) = 48 + (length key + length message)
-cost (Accept key message place) = 48 + (length key + length message)
-cost (Hash preimage digest) = 48 + (length preimage + 32)
-cost entry = 48
+cost (entry.Install n slot id place begin lines) = 48
+cost (entry.Step n step) = 48
+cost (entry.Trap n cause) = 48
+cost (entry.Seal key message) = 48 + (length key + length message)
+cost (entry.Accept key message place) = 48 + (length key + length message)
+cost (entry.Hash preimage digest) = 48 + (length preimage + 32)
+cost (entry.Stop n rule) = 48
+cost (entry.Kill n) = 48
+cost (entry.Out byte) = 48
 
 -- the journal with one more entry
 abbrev pub logged : Log → Entry → Log

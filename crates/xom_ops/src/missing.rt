@@ -22,5 +22,5 @@ fn is_missing(slot: u8, mask: u64, cells: &Cells, reg: u8) -> bool
     requires known { reg < 34 }
     ensures { result ≡ is_missing_of slot mask cells.now reg }
 {
-    owns(mask, reg) && cells.get(reg).tag != slot
+    owns(mask, reg) && cells.get(reg).1 != slot
 }

@@ -81,7 +81,7 @@ fn enter(core: &mut Core, slot: u8) -> u32
     match session.state {
         SlotState::Free => 1,
         SlotState::Fresh => {
-            core.table.set(slot, &session.entered());
+            *core.table.session_mut(slot) = session.entered();
             0
         }
         _ => 2,
@@ -136,7 +136,7 @@ fn go_on(core: &mut Core, slot: u8, reg: Option<u8>) -> u32
     match reg {
         None => {
             let session = *core.table.session(slot);
-            core.table.set(slot, &session.resumed());
+            *core.table.session_mut(slot) = session.resumed();
             0
         }
         Some(reg) => {

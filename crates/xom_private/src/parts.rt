@@ -53,8 +53,7 @@ impl Core {
     {
         let session = *self.table.session(slot);
         self.cells.scrub(slot);
-        self.table
-            .set(slot, &session.left(SlotState::Stopped(rule)));
+        *self.table.session_mut(slot) = session.left(SlotState::Stopped(rule));
         let stop = Entry::Stop {
             install: session.install,
             rule,

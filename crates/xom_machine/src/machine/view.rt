@@ -38,12 +38,8 @@ impl<'a> View<'a> {
         ensures { result ≡ open_cell (cell_at self.now.cells reg) }
     {
         let machine = self.machine;
-        let cell = machine.core.cells.get(reg);
-        if cell.tag == 0 {
-            Some(cell.value)
-        } else {
-            None
-        }
+        let (value, tag) = machine.core.cells.get(reg);
+        if tag == 0 { Some(value) } else { None }
     }
 
     /// The tag of a cell, 1 to 33: 0 for the null compartment, else a slot.
@@ -53,7 +49,8 @@ impl<'a> View<'a> {
         ensures { result ≡ (cell_at self.now.cells reg).tag }
     {
         let machine = self.machine;
-        machine.core.cells.get(reg).tag
+        let (_, tag) = machine.core.cells.get(reg);
+        tag
     }
 
     /// What is told of a slot, 1 to 16.

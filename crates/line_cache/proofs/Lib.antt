@@ -1,0 +1,6 @@
+pub mod Search
+pub mod Changes
+pub mod Start
+pub mod Placing
+pub mod Dropping
+pub mod Taking

@@ -1,0 +1,102 @@
+-- The cache as a map from lines of slots to what is cached of them.
+use Rattle.std.specs.Prelude.{ℕ, ◌+◌, ◌/◌, ◌%◌, ◌^◌, ◌≡◌, ◌≢◌, ◌≤◌, ◌<◌, ◌==◌, ◌&&◌, Bool, true, false, List, Option, Some, None, length, IfSome}
+use Rattle.line_cache.specs.declared.way.Way.{Way}
+use Rattle.line_cache.specs.declared.way.Victim.{Victim}
+use Rattle.line_cache.specs.Ways.{Cache, first_place, found, free_way, new_way, victim_of, way_at, with_way}
+
+-- the way holds this line of this slot
+pub record Holds (way : Way) (slot line : ℕ) : Type 0 where
+  pub its_slot : way.slot ≡ slot
+  pub its_line : way.line ≡ line
+
+abbrev pub IsFilled : List Way → ℕ → Type 0
+IsFilled ways place = (way_at ways place).slot ≢ 0
+
+-- a filled way stands in its line's set, and no line stands in two places
+pub record IsCache (cache : Cache) : Type 0 where
+  pub places : length cache.ways ≡ 128
+  pub sets : length cache.pointers ≡ 32
+  pub in_set : (place : ℕ) → IsFilled cache.ways place
+      → place / 4 ≡ (way_at cache.ways place).line % 32
+  pub once : (place other : ℕ) → IsFilled cache.ways place
+      → Holds (way_at cache.ways other) (way_at cache.ways place).slot (way_at cache.ways place).line
+      → other ≡ place
+  pub known : (place : ℕ) → (way_at cache.ways place).slot ≤ 16
+  pub inside : (place : ℕ) → (way_at cache.ways place).line < 2 ^ 15
+
+-- no way of a line's set is free
+abbrev pub IsFull : List Way → ℕ → Type 0
+IsFull ways line = (way : ℕ) → way < 4 → IsFilled ways (first_place line + way)
+
+abbrev pub way_found : List Way → Option ℕ → Option Way
+way_found ways (Some place) = Some (way_at ways place)
+way_found ways None = None
+
+-- what is cached of a line: the way that holds it
+abbrev pub line_in : List Way → ℕ → ℕ → Option Way
+line_in ways slot line = way_found ways (found ways slot line)
+
+-- a line of a slot, as it may be cached
+pub record IsLine (victim : Victim) : Type 0 where
+  pub some : 1 ≤ victim.slot
+  pub known : victim.slot ≤ 16
+  pub inside : victim.line < 2 ^ 15
+
+-- the way was handed out with all that it held
+pub record HandsOut (old new : List Way) (victim : Victim) : Type 0 where
+  pub way : Way
+  pub before : line_in old victim.slot victim.line ≡ Some way
+  pub whole : victim ≡ victim_of way
+  pub gone : line_in new victim.slot victim.line ≡ None
+
+-- the victim is this line
+abbrev pub IsVictim : Option Victim → ℕ → ℕ → Type 0
+IsVictim (Some victim) slot line = (victim.slot ≡ slot) × (victim.line ≡ line)
+IsVictim None slot line = ⊥
+
+-- the line is cached with its bytes, clean; a victim is handed out; every other line is as before
+pub record BringsIn (old new : List Way) (slot line : ℕ) (bytes : List ℕ) (victim : Option Victim) : Type 0 where
+  pub this_line : line_in new slot line ≡ Some (new_way slot line bytes)
+  pub victim_line : IfSome victim (HandsOut old new)
+  pub other_lines : (who other : ℕ) → who ≢ 0 → (who ≡ slot → other ≢ line)
+      → ¬ IsVictim victim who other → line_in new who other ≡ line_in old who other
+
+-- the way holds a line of a page of 128 lines
+abbrev pub is_in_page : ℕ → ℕ → Way → Bool
+is_in_page slot page way = (way.slot == slot) && (way.line / 128 == page)
+
+-- of the first places, this one holds the least line of the page
+pub record HoldsLeast (ways : List Way) (slot page count place : ℕ) : Type 0 where
+  pub below : place < count
+  pub its_page : is_in_page slot page (way_at ways place) ≡ true
+  pub least : (other : ℕ) → other < count → is_in_page slot page (way_at ways other) ≡ true
+      → (way_at ways place).line ≤ (way_at ways other).line
+
+-- the place with the least line of the page among the first ones, or none where none has one
+abbrev pub IsLeastAmong : List Way → ℕ → ℕ → ℕ → Option ℕ → Type 0
+IsLeastAmong ways slot page count (Some place) = HoldsLeast ways slot page count place
+IsLeastAmong ways slot page count None =
+    (place : ℕ) → place < count → is_in_page slot page (way_at ways place) ≡ false
+
+-- no line of the page is cached
+abbrev pub HasNoLine : List Way → ℕ → ℕ → Type 0
+HasNoLine ways slot page = (line : ℕ) → line / 128 ≡ page → found ways slot line ≡ None
+
+-- the least line of the page is handed out, and every other line is as before
+pub record TakesLeast (old new : Cache) (slot page : ℕ) (victim : Victim) : Type 0 where
+  pub slot_is : victim.slot ≡ slot
+  pub page_is : victim.line / 128 ≡ page
+  pub least : (line : ℕ) → line < victim.line → line / 128 ≡ page → found old.ways slot line ≡ None
+  pub place : ℕ
+  pub place_is : found old.ways slot victim.line ≡ Some place
+  pub whole : victim ≡ victim_of (way_at old.ways place)
+  pub cache : new ≡ with_way old place free_way
+  pub gone : line_in new.ways slot victim.line ≡ None
+  pub other_lines : (who line : ℕ) → who ≢ 0 → (who ≡ slot → line ≢ victim.line)
+      → line_in new.ways who line ≡ line_in old.ways who line
+
+-- no line of the slot is cached, and every line of another is as before
+pub record DropsSlot (old new : List Way) (slot : ℕ) : Type 0 where
+  pub none : (line : ℕ) → found new slot line ≡ None
+  pub other_slots : (other line : ℕ) → other ≢ 0 → other ≢ slot
+      → line_in new other line ≡ line_in old other line

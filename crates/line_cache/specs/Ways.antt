@@ -1,0 +1,119 @@
+-- The cache of private lines: 128 places in 32 sets of 4 ways, where way w of set s is place
+-- 4 s + w, and for each set a pointer to the way that is taken next once the set is full.
+use Rattle.std.specs.Prelude.{ℕ, ◌+◌, ◌*◌, ◌%◌, ◌==◌, ◌&&◌, Bool, true, false, List, Option, Some, None, map, position, replicate, slice_index_or, slice_range, slice_set, if◌then◌else◌}
+use Rattle.line_cache.specs.declared.way.Way.{Way}
+use Rattle.line_cache.specs.declared.way.Victim.{Victim}
+
+-- a way of slot 0 holds no line
+abbrev pub free_way : Way
+free_way = record { slot = 0; line = 0; bytes = replicate 32 0; dirty = false }
+
+-- the ways in the order of their places, and the pointers in the order of the sets
+pub record Cache : Type 0 where
+  pub ways : List Way
+  pub pointers : List ℕ
+
+unfoldable pub no_ways : List Way
+no_ways = replicate 128 free_way
+
+unfoldable pub first_pointers : List ℕ
+first_pointers = replicate 32 0
+
+abbrev pub empty : Cache
+empty = record { ways = no_ways; pointers = first_pointers }
+
+abbrev pub way_at : List Way → ℕ → Way
+way_at ways place = slice_index_or ways place free_way
+
+-- the way holds this line
+abbrev pub is_of : ℕ → ℕ → Way → Bool
+is_of slot line way = (way.slot == slot) && (way.line == line)
+
+-- where a line is cached, by a search over all places
+abbrev pub found : List Way → ℕ → ℕ → Option ℕ
+found ways slot line = position (is_of slot line) ways
+
+-- ---- Sets
+
+-- the set of a line is its number modulo 32
+abbrev pub first_place : ℕ → ℕ
+first_place line = 4 * (line % 32)
+
+abbrev pub set_of : List Way → ℕ → List Way
+set_of ways line = slice_range ways (first_place line) (first_place line + 4)
+
+abbrev pub is_free : Way → Bool
+is_free way = way.slot == 0
+
+-- the lowest free way of a line's set, none where the set is full
+unfoldable pub free_in_set : List Way → ℕ → Option ℕ
+free_in_set ways line = position is_free (set_of ways line)
+
+-- the way that the pointer of a line's set names
+abbrev pub pointed : List ℕ → ℕ → ℕ
+pointed pointers line = slice_index_or pointers (line % 32) 0 % 4
+
+-- ---- A new line
+
+abbrev pub chosen : Option ℕ → ℕ → ℕ
+chosen (Some free) pointer = free
+chosen None pointer = pointer
+
+-- the place of a new line: the lowest free way of its set, or the one that the pointer names
+abbrev pub place_for : List Way → List ℕ → ℕ → ℕ
+place_for ways pointers line =
+    first_place line + chosen (free_in_set ways line) (pointed pointers line)
+
+abbrev pub moved_on : Option ℕ → List ℕ → ℕ → List ℕ
+moved_on (Some free) pointers line = pointers
+moved_on None pointers line =
+    slice_set pointers (line % 32) ((pointed pointers line + 1) % 4)
+
+-- the pointer of a full set moves to the next way, and from the last to the first
+abbrev pub pointers_after : List Way → List ℕ → ℕ → List ℕ
+pointers_after ways pointers line = moved_on (free_in_set ways line) pointers line
+
+-- a line that was just brought in
+abbrev pub new_way : ℕ → ℕ → List ℕ → Way
+new_way slot line bytes = record { slot = slot; line = line; bytes = bytes; dirty = false }
+
+-- the cache with a new line
+abbrev pub with_line : Cache → ℕ → ℕ → List ℕ → Cache
+with_line cache slot line bytes = record {
+  ways = slice_set cache.ways (place_for cache.ways cache.pointers line) (new_way slot line bytes);
+  pointers = pointers_after cache.ways cache.pointers line;
+}
+
+-- what a way held, as it is handed out
+abbrev pub victim_of : Way → Victim
+victim_of way =
+    record { slot = way.slot; line = way.line; bytes = way.bytes; dirty = way.dirty }
+
+abbrev pub pushed_out : Option ℕ → Way → Option Victim
+pushed_out (Some free) way = None
+pushed_out None way = Some (victim_of way)
+
+-- what a new line pushes out: nothing, unless its set is full
+abbrev pub victim_for : Cache → ℕ → Option Victim
+victim_for cache line = pushed_out (free_in_set cache.ways line)
+    (way_at cache.ways (place_for cache.ways cache.pointers line))
+
+-- ---- Lines that are written or leave
+
+-- a way with other bytes, which are still to be written back
+abbrev pub written : Way → List ℕ → Way
+written way bytes = record way { bytes = bytes; dirty = true }
+
+abbrev pub with_way : Cache → ℕ → Way → Cache
+with_way cache place way = record cache { ways = slice_set cache.ways place way }
+
+abbrev pub with_bytes : Cache → ℕ → List ℕ → Cache
+with_bytes cache place bytes =
+    with_way cache place (written (way_at cache.ways place) bytes)
+
+abbrev pub free_if : ℕ → Way → Way
+free_if slot way = if way.slot == slot then free_way else way
+
+-- the ways without the lines of a slot
+abbrev pub without_slot : ℕ → List Way → List Way
+without_slot slot ways = map (free_if slot) ways

@@ -1,0 +1,35 @@
+-- RAM as a list of bytes, its ranges, and where a sealed line lies in a frame.
+use Rattle.std.specs.Prelude.{ℕ, ◌+◌, ◌*◌, ◌≤◌, List, ◌++◌, length, take, drop}
+
+-- how many bytes a frame has
+abbrev pub frame_size : ℕ
+frame_size = 8192
+
+-- the bytes of a range
+abbrev pub bytes_at : List ℕ → ℕ → ℕ → List ℕ
+bytes_at ram address count = take count (drop address ram)
+
+-- RAM with these bytes from the address on
+abbrev pub stored : List ℕ → ℕ → List ℕ → List ℕ
+stored ram address bytes = take address ram ++ (bytes ++ drop (address + length bytes) ram)
+
+-- RAM holds the range: address plus length, as whole numbers, is at most its size
+abbrev pub HoldsRange : List ℕ → ℕ → ℕ → Type 0
+HoldsRange ram address count = address + count ≤ length ram
+
+-- the frame lies in RAM
+abbrev pub HoldsFrame : List ℕ → ℕ → Type 0
+HoldsFrame ram frame = HoldsRange ram (frame * frame_size) frame_size
+
+-- where a frame has the ciphertext of its line of this index, 0 to 127: 128 ciphertexts of 32 bytes stand first
+abbrev pub ciphertext_place : ℕ → ℕ → ℕ
+ciphertext_place frame index = frame * frame_size + 32 * index
+
+-- where it has that line's tag: their 128 tags of 32 bytes follow
+abbrev pub tag_place : ℕ → ℕ → ℕ
+tag_place frame index = frame * frame_size + 4096 + 32 * index
+
+-- RAM with this ciphertext and this tag at a frame's line
+abbrev pub with_line : List ℕ → ℕ → ℕ → List ℕ → List ℕ → List ℕ
+with_line ram frame index ciphertext tag =
+    stored (stored ram (ciphertext_place frame index) ciphertext) (tag_place frame index) tag

@@ -1,0 +1,13 @@
+-- Two ranges of 32 bytes that are lent at once.
+use Rattle.std.specs.Prelude.{ℕ, ◌+◌, ◌≤◌, List}
+use Rattle.std.specs.Borrow.{Array, Fml, LendsBoth, MutBor, u8}
+use Rattle.line_ram.specs.Bytes.{HoldsRange, stored}
+
+-- both places have 32 bytes, the first ones before the second
+abbrev pub IsPair : List ℕ → ℕ → ℕ → Type 0
+IsPair bytes first second = (first + 32 ≤ second) × HoldsRange bytes second 32
+
+-- the places hold the last bytes written through the two loans, and all else is as it was
+abbrev pub LendsPair : MutBor (List ℕ) → ℕ → ℕ → MutBor (List ℕ) × MutBor (List ℕ) → Fml
+LendsPair bytes first second loans =
+    LendsBoth (Array u8 0) (Array u8 0) (Array u8 0) bytes loans (λ one other. stored (stored bytes.now first one) second other)

@@ -1,0 +1,4 @@
+pub mod Store
+pub mod Versions
+pub mod Chip
+pub mod ChipLaw
