@@ -1,5 +1,5 @@
--- One more element behind a list: faults, ends, bytes and lines.
-use Rattle.std.proofs.Common.{◌≡◌, ℕ, ◌+◌, ◌-◌, Bool, false, cond, max, List, [], ◌∷◌, ◌++◌, get_or, reverse, Some, None, Result, Ok, Err, refl, sym, ap, ◌∙◌, append_assoc, arith}
+-- One more element behind a list: what is found, faults and lines.
+use Rattle.std.proofs.Common.{◌≡◌, ℕ, ◌+◌, Bool, false, List, [], ◌∷◌, ◌++◌, reverse, Some, None, Result, Ok, Err, refl, sym, ap, ◌∙◌, append_assoc}
 use Rattle.std.specs.Prelude.{find}
 use Rattle.std.specs.List.{list_any}
 use Rattle.std.proofs.lemmas.Bool.{or_from}
@@ -8,12 +8,7 @@ use Rattle.std.proofs.lemmas.List.Folds.{find-append, list_any-append}
 use Rattle.xom_base.specs.Lines.{LineStep, lines_of, read_from, with_front}
 use Rattle.xom_base.proofs.CutLaws.{cut_of-at, lines_of-cut}
 use Rattle.xom_base.proofs.LineLaws.{read_from-one}
-use Rattle.mips_asm.specs.declared.chunk.Chunk.{Chunk}
-use Rattle.mips_asm.specs.declared.placed.Placed.{Placed}
-use Rattle.mips_asm.specs.Encoding.{Gives}
-use Rattle.mips_asm.specs.Images.{byte_over, chunk_end, chunks_end, holds}
-use Rattle.mips_asm.specs.Passes.{Labels, first_fault}
-use Rattle.mips_asm.specs.Sources.{Writes}
+use Rattle.mips_asm.specs.Passes.{first_fault}
 use Rattle.mips_asm.proofs.FaultLaws.{first_good, rest_good}
 use Rattle.asm_round_trip.proofs.LineEnds.{OneLine, one_line-each}
 
@@ -48,42 +43,6 @@ module _ {X : Type 0} (line : X → ℕ) (bad : List X → X → Bool) where
   fault-more before (y ∷ ys) x none good =
       good-cons before y (ys ++ x ∷ []) (first_good line bad before y ys none)
       (fault-more (before ++ y ∷ []) ys x (rest_good line bad before y ys none) (ap (λ (front : List X). bad front x) (append_assoc before (y ∷ []) ys) ∙ good))
-
--- ---- bytes
-
--- bytes at a place
-abbrev pub chunk_at : ℕ → List ℕ → Chunk
-chunk_at place bytes = record { place = place; bytes = bytes }
-
--- one more statement
-pub writes-more : (labels : Labels) (xs : List Placed) (x : Placed) (chunks : List Chunk) (bytes : List ℕ) → Writes labels xs chunks → Gives labels x.place x.part.content bytes
-    → Writes labels (xs ++ x ∷ []) (chunks ++ chunk_at x.place bytes ∷ [])
-writes-more labels [] x chunks bytes writes gives =
-    (bytes, [], gives, ap (λ (front : List Chunk). front ++ chunk_at x.place bytes ∷ []) writes, refl)
-writes-more labels (y ∷ xs) x chunks bytes writes gives = (
-  writes.0,
-  writes.1 ++ chunk_at x.place bytes ∷ [],
-  writes.2,
-  ap (λ (front : List Chunk). front ++ chunk_at x.place bytes ∷ []) writes.3,
-  writes-more labels xs x writes.1 bytes writes.4 gives,
-)
-
--- where the bytes end
-pub ends-more : (xs : List Chunk) (x : Chunk) → chunks_end (xs ++ x ∷ []) ≡ max (chunks_end xs) (chunk_end x)
-unfolding chunks_end
-ends-more [] x = grind arith
-ends-more (y ∷ xs) x = rw (ends-more xs x) (grind arith)
-
--- no bytes end at 0
-pub ends-none : chunks_end [] ≡ 0
-unfolding chunks_end
-ends-none = refl
-
--- what stands at a place
-pub over-more : (byte : ℕ) (xs : List Chunk) (x : Chunk) (k : ℕ) → byte_over byte (xs ++ x ∷ []) k ≡ cond (holds x k) (get_or x.bytes (k - x.place) 0) (byte_over byte xs k)
-unfolding byte_over
-over-more byte [] x k = refl
-over-more byte (y ∷ xs) x k = over-more (cond (holds y k) (get_or y.bytes (k - y.place) 0) byte) xs x k
 
 -- ---- lines
 

@@ -13,15 +13,16 @@ use Rattle.mips_text.specs.Texts.{word_at, word_text}
 use Rattle.asm_source.specs.declared.content.Content.{Content}
 use Rattle.asm_source.specs.declared.content.Part.{Part}
 use Rattle.asm_syntax.specs.Lines.{line_parts, part, source_of, source_step, state_of}
-use Rattle.mips_asm.specs.declared.chunk.Chunk.{Chunk}
+use Rattle.mips_asm.specs.declared.placed_bytes.PlacedBytes.{PlacedBytes}
 use Rattle.mips_asm.specs.declared.placed.Placed.{Placed}
 use Rattle.mips_asm.specs.Layout.{after, layout, padding}
 use Rattle.mips_asm.specs.Passes.{duplicate_line, first_fault, line_of, repeats}
 use Rattle.mips_asm.specs.Sources.{IsPlacedImage, entry_by, labels_of}
+use Rattle.mips_asm.proofs.ImageLaws.{chunk_at}
 use Rattle.mips_asm.proofs.LabelLaws.{repeats_none}
 use Rattle.mips_asm.proofs.LayoutLaws.{layout-none, layout-push, place_behind, place_behind-push, placed_at}
 use Rattle.asm_round_trip.specs.Listed.{ListingsAreAssembledAgain, WordsAreReadAgain, texts_of, whole_words}
-use Rattle.asm_round_trip.proofs.Growing.{chunk_at, fault-more, lines-front, read-next}
+use Rattle.asm_round_trip.proofs.Growing.{fault-more, lines-front, read-next}
 use Rattle.asm_round_trip.proofs.LineEnds.{OneLine, no_line_end}
 use Rattle.asm_round_trip.proofs.NoNames.{IsFixed, gives_no_names, no_labels}
 use Rattle.asm_round_trip.proofs.Standing.{Stand, stand-more, stand-none}
@@ -89,7 +90,7 @@ read-line text line parts n content one read is rest =
 -- So many words of a listing were read: their statements stand one behind the other.
 record Grown (bytes : List ℕ) (n : ℕ) : Type 0 where
   parts : List Part
-  chunks : List Chunk
+  chunks : List PlacedBytes
   read : (rest : List ℕ) → read_from source_step [] 1 (lines_of (texts_of bytes n ++ rest)) ≡ read_from source_step parts (suc n) (lines_of rest)
   unique : duplicate_line parts ≡ None
   next : place_behind 0 parts ≡ 4 * n
@@ -195,7 +196,7 @@ source-read text parts n read =
     ap (λ (t : List ℕ). state_of (read_from source_step [] 1 (lines_of t))) (sym (append-nil text)) ∙ ap state_of (read [])
 
 -- statements that stand have the image with their bytes
-placed_image : (bytes : List ℕ) (end : ℕ) (placed : List Placed) (chunks : List Chunk) (image : PlainImage) → Stand bytes end placed chunks → image.entry ≡ 0
+placed_image : (bytes : List ℕ) (end : ℕ) (placed : List Placed) (chunks : List PlacedBytes) (image : PlainImage) → Stand bytes end placed chunks → image.entry ≡ 0
     → length image.bytes ≡ end → ((k : ℕ) → get_or image.bytes k 0 ≡ get_or bytes k 0) → IsPlacedImage placed image
 placed_image bytes end placed chunks image so entry long same = record {
   no_overlap = so.apart;

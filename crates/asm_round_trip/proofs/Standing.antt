@@ -4,20 +4,22 @@ use Rattle.std.specs.Prelude.{find}
 use Rattle.std.specs.List.{list_any}
 use Rattle.std.proofs.lemmas.Bool.{cases_lt}
 use Rattle.std.proofs.lemmas.Bool.Decides.{nat_tests}
-use Rattle.mips_asm.specs.declared.chunk.Chunk.{Chunk}
+use Rattle.mips_asm.specs.declared.placed_bytes.PlacedBytes.{PlacedBytes}
 use Rattle.mips_asm.specs.declared.placed.Placed.{Placed}
 use Rattle.mips_asm.specs.Images.{byte_over, chunk_end, chunks_end, holds}
 use Rattle.mips_asm.specs.Layout.{covers, is_too_long}
 use Rattle.mips_asm.specs.Passes.{Labels, first_fault, is_unknown, line_of, overlap_line, overlaps}
 use Rattle.mips_asm.specs.Sources.{Writes, last_entry}
+use Rattle.mips_asm.proofs.ImageLaws.{byte_over-push, chunk_at, chunks_end-push, chunks_end_none}
 use Rattle.mips_asm.proofs.OverlapLaws.{overlaps_false}
+use Rattle.mips_asm.proofs.RangeLaws.{Writes-push}
 use Rattle.mips_asm.specs.Sources.{is_entry}
-use Rattle.asm_round_trip.proofs.Growing.{any-more, chunk_at, ends-more, ends-none, fault-more, find-more, find_last-more, over-more, writes-more}
+use Rattle.asm_round_trip.proofs.Growing.{any-more, fault-more, find-more, find_last-more}
 use Rattle.asm_round_trip.proofs.NoNames.{IsFixed}
 
 -- Statements up to a place: each is within the limit, none writes where another does, none uses a name, and
 -- none is an `.entry`. Their bytes are those of the list.
-pub record Stand (bytes : List ℕ) (end : ℕ) (placed : List Placed) (chunks : List Chunk) : Type 0 where
+pub record Stand (bytes : List ℕ) (end : ℕ) (placed : List Placed) (chunks : List PlacedBytes) : Type 0 where
   pub short : find is_too_long placed ≡ None
   pub apart : overlap_line placed ≡ None
   pub free : (k : ℕ) → end ≤ k → list_any (λ (p : Placed). covers p k) placed ≡ false
@@ -41,7 +43,7 @@ stand-none bytes = record {
   known = λ labels. refl;
   no_entry = refl;
   writes = λ labels. refl;
-  ends = ends-none;
+  ends = chunks_end_none;
   each = λ k below. absurd (omega arith);
 }
 
@@ -68,21 +70,21 @@ holds-own : (place k : ℕ) (own : List ℕ) → length own ≡ 4 → place ≤ 
 holds-own place k own size from below = grind (arith, nat_tests)
 
 -- what stands at a place before, or at one of its own
-each-more : (bytes : List ℕ) (end : ℕ) (chunks : List Chunk) (own : List ℕ) → length own ≡ 4 → ((k : ℕ) → k < 4 → get_or own k 0 ≡ get_or bytes (end + k) 0)
+each-more : (bytes : List ℕ) (end : ℕ) (chunks : List PlacedBytes) (own : List ℕ) → length own ≡ 4 → ((k : ℕ) → k < 4 → get_or own k 0 ≡ get_or bytes (end + k) 0)
     → ((k : ℕ) → k < end → byte_over 0 chunks k ≡ get_or bytes k 0)
     → (k : ℕ) → k < end + 4 → byte_over 0 (chunks ++ chunk_at end own ∷ []) k ≡ get_or bytes k 0
 each-more bytes end chunks own size same each k below =
     elim (cases_lt k end) [
-      | inl before ↦ over-more 0 chunks (chunk_at end own) k ∙ rw (holds-not end k own before) (each k before)
+      | inl before ↦ byte_over-push 0 chunks (chunk_at end own) k ∙ rw (holds-not end k own before) (each k before)
       | inr from ↦
           let back : end + (k - end) ≡ k = omega arith in
-          over-more 0 chunks (chunk_at end own) k
+          byte_over-push 0 chunks (chunk_at end own) k
           ∙ rw (holds-own end k own size from below) (same (k - end) (omega arith))
           ∙ ap (λ (n : ℕ). get_or bytes n 0) back
     ]
 
 -- one more statement, which writes the next four bytes
-pub stand-more : (bytes : List ℕ) (end : ℕ) (placed : List Placed) (chunks : List Chunk) (p : Placed) (own : List ℕ) → Stand bytes end placed chunks
+pub stand-more : (bytes : List ℕ) (end : ℕ) (placed : List Placed) (chunks : List PlacedBytes) (p : Placed) (own : List ℕ) → Stand bytes end placed chunks
     → p.place ≡ end → p.size ≡ 4 → length own ≡ 4 → end + 4 ≤ 2 ^ 20 → IsFixed p.place p.part.content own
     → ((k : ℕ) → k < 4 → get_or own k 0 ≡ get_or bytes (end + k) 0) → Stand bytes (end + 4) (placed ++ p ∷ []) (chunks ++ chunk_at p.place own ∷ [])
 stand-more bytes end placed chunks p own so at size long below is same = record {
@@ -91,9 +93,9 @@ stand-more bytes end placed chunks p own so at size long below is same = record 
   free = λ k past. any-more (λ (q : Placed). covers q k) placed p (so.free k (omega arith)) (covers-not p k size (omega arith));
   known = λ labels. find-more (is_unknown labels) placed p (so.known labels) (is.known labels);
   no_entry = find_last-more is_entry placed p so.no_entry is.no_entry;
-  writes = λ labels. writes-more labels placed p chunks own (so.writes labels) (is.gives labels);
+  writes = λ labels. Writes-push labels placed p chunks own (so.writes labels) (is.gives labels);
   ends =
       let own_ends = own_end p.place own long in
-      ends-more chunks (chunk_at p.place own) ∙ rw (so.ends, own_ends, at) (omega arith);
+      chunks_end-push chunks (chunk_at p.place own) ∙ rw (so.ends, own_ends, at) (omega arith);
   each = subst (λ (n : ℕ). (k : ℕ) → k < end + 4 → byte_over 0 (chunks ++ chunk_at n own ∷ []) k ≡ get_or bytes k 0) (sym at) (each-more bytes end chunks own long same so.each);
 }

@@ -1,6 +1,6 @@
-use crate::{Argument, Items, Value};
+use crate::{Argument, Value};
 use asm_tokens::Integer;
-use xom_base::ByteList;
+use xom_base::{ByteList, List};
 
 /// A label or a statement.
 #[derive(Drop)]
@@ -8,9 +8,9 @@ pub enum Content {
     /// `name:`, which names the next place.
     Label(ByteList),
     /// `.word`: the values, four bytes each.
-    Words(Items<Value>),
+    Words(List<Value>),
     /// `.byte`: the numbers, one byte each.
-    Bytes(Items<Integer>),
+    Bytes(List<Integer>),
     /// `.ascii`: these bytes.
     Ascii(ByteList),
     /// `.space`: so many zero bytes.
@@ -26,7 +26,7 @@ pub enum Content {
     /// `la`: a register gets the place of a label.
     LoadAddress(u8, ByteList),
     /// An instruction: its mnemonic, and all its operands in the order of its text.
-    Instruction(ByteList, Items<Argument>),
+    Instruction(ByteList, List<Argument>),
 }
 
 /// A label or a statement, with the number of its line, counted from 1.

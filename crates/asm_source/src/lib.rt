@@ -3,8 +3,6 @@
 
 mod argument;
 mod content;
-mod items;
 
 pub use argument::{Argument, Value};
 pub use content::{Content, Part};
-pub use items::Items;

@@ -5,10 +5,10 @@ ghost use Rattle.asm_syntax.specs.Forms.{Answers, map_some};
 
 use crate::copies::copy_bytes;
 use crate::lexeme::Lexeme;
-use asm_source::{Argument, Items, Value};
+use asm_source::{Argument, Value};
 use asm_tokens::Integer;
 use std::alloc::Global;
-use xom_base::{LineFault, NoMemory};
+use xom_base::{LineFault, List, NoMemory};
 
 /// The number of an operand that is not there.
 pub const ZERO: Integer = Integer {
@@ -18,11 +18,11 @@ pub const ZERO: Integer = Integer {
 
 /// All operands of a statement: the parts between commas.
 #[tactic(auto, using(crate::proofs::FormLaws::map_some_map), unfolding(crate::specs::Arguments::arguments_of))]
-pub fn arguments(alloc: Global, lexemes: &[Lexeme]) -> Result<Items<Argument>, LineFault>
+pub fn arguments(alloc: Global, lexemes: &[Lexeme]) -> Result<List<Argument>, LineFault>
     ensures { Answers (arguments_of lexemes.now) result }
 {
     if lexemes.is_empty() {
-        return Ok(Items::new(alloc));
+        return Ok(List::new(alloc));
     }
     let parts = between_commas(alloc, lexemes)?;
     each_argument(alloc, parts.as_slice())
@@ -41,10 +41,10 @@ fn between_commas(alloc: Global, lexemes: &[Lexeme]) -> Result<Vec<&[Lexeme]>, N
 
 /// The operand of each part.
 #[tactic(auto, using(crate::proofs::FormLaws::map_some_more, crate::proofs::FormLaws::map_some_stops))]
-fn each_argument(alloc: Global, parts: &[&[Lexeme]]) -> Result<Items<Argument>, LineFault>
+fn each_argument(alloc: Global, parts: &[&[Lexeme]]) -> Result<List<Argument>, LineFault>
     ensures { Answers (map_some (λ part. argument_of part.now) parts.now) result }
 {
-    let mut arguments = Items::new(alloc);
+    let mut arguments = List::new(alloc);
     for part in parts {
         let argument = argument(alloc, part)?;
         arguments.push(argument)?;

@@ -4,10 +4,9 @@ ghost use Rattle.asm_syntax.specs.Forms.{Answers, map_some};
 ghost use Rattle.asm_syntax.specs.Lexing.{lexeme_at, lexeme_of, lexemes_of};
 
 use crate::copies::copy_bytes;
-use asm_source::Items;
 use asm_tokens::{Integer, Token, TokenFault, TokenKind, integer, register, tokens, unquoted};
 use std::alloc::Global;
-use xom_base::{ByteList, LineFault};
+use xom_base::{ByteList, LineFault, List};
 
 /// A token of a line with what it stands for.
 #[derive(Drop)]
@@ -32,7 +31,7 @@ pub enum Lexeme {
 
 /// The lexemes of a line. Bad is for a byte that begins no token. It costs time linear in the line.
 #[tactic(auto, unfolding(crate::specs::Lexing::lexemes_of))]
-pub fn lexemes(alloc: Global, line: &[u8]) -> Result<Items<Lexeme>, LineFault>
+pub fn lexemes(alloc: Global, line: &[u8]) -> Result<List<Lexeme>, LineFault>
     ensures { Answers (lexemes_of line.now) result }
 {
     let tokens = match tokens(alloc, line) {
@@ -45,11 +44,11 @@ pub fn lexemes(alloc: Global, line: &[u8]) -> Result<Items<Lexeme>, LineFault>
 
 /// The lexemes of tokens of this line.
 #[tactic(auto, using(crate::proofs::FormLaws::map_some_more, crate::proofs::FormLaws::map_some_stops))]
-fn lexemes_in(alloc: Global, line: &[u8], tokens: &[Token]) -> Result<Items<Lexeme>, LineFault>
+fn lexemes_in(alloc: Global, line: &[u8], tokens: &[Token]) -> Result<List<Lexeme>, LineFault>
     requires { All (IsTokenOf line.now) tokens.now }
     ensures { Answers (map_some (lexeme_at line.now) tokens.now) result }
 {
-    let mut lexemes = Items::new(alloc);
+    let mut lexemes = List::new(alloc);
     for token in tokens {
         let text = &line[token.start as usize..token.end as usize];
         let lexeme = make_lexeme(alloc, token.kind, text)?;

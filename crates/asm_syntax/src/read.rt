@@ -8,19 +8,19 @@ use crate::arguments::arguments;
 use crate::copies::copy_bytes;
 use crate::lexeme::{Lexeme, lexemes};
 use crate::statement::statement;
-use asm_source::{Content, Items, Part};
+use asm_source::{Content, Part};
 use std::alloc::Global;
 use std::marker::Model;
-use xom_base::{LineFault, LineFormat, TextFault, read_lines};
+use xom_base::{LineFault, LineFormat, List, TextFault, read_lines};
 
 /// Reads the labels and statements of a source, in their order, or answers the first line that is off
 /// the grammar. It costs time linear in the text.
 #[tactic(auto, unfolding(crate::specs::Lines::source_of))]
-pub fn read_source(alloc: Global, text: &[u8]) -> Result<Items<Part>, TextFault>
+pub fn read_source(alloc: Global, text: &[u8]) -> Result<List<Part>, TextFault>
     ensures { MatchResult result (λ parts. source_of text.now ≡ Ok parts) (λ fault. Faults (source_of text.now) fault) }
 {
     let mut source = Source {
-        parts: Items::new(alloc),
+        parts: List::new(alloc),
     };
     let _lines = read_lines(alloc, text, &mut source)?;
     Ok(source.into_parts())
@@ -29,7 +29,7 @@ pub fn read_source(alloc: Global, text: &[u8]) -> Result<Items<Part>, TextFault>
 /// The labels and statements of the lines that were read.
 #[derive(Drop)]
 struct Source {
-    parts: Items<Part>,
+    parts: List<Part>,
 }
 
 impl Model for Source {
@@ -42,7 +42,7 @@ impl Model for Source {
 }
 
 impl Source {
-    fn into_parts(self) -> Items<Part>
+    fn into_parts(self) -> List<Part>
         ensures { result ≡ self }
     {
         self.parts
@@ -69,7 +69,7 @@ fn add_line(
     alloc: Global,
     number: u64,
     lexemes: &[Lexeme],
-    parts: &mut Items<Part>,
+    parts: &mut List<Part>,
 ) -> Result<(), LineFault>
     ensures { Adds (parts_of number lexemes.now) parts.old result parts.new }
 {
@@ -105,7 +105,7 @@ fn add_last(
     alloc: Global,
     number: u64,
     lexemes: &[Lexeme],
-    parts: &mut Items<Part>,
+    parts: &mut List<Part>,
 ) -> Result<(), LineFault>
     ensures { Adds (last_of number lexemes.now) parts.old result parts.new }
 {

@@ -5,18 +5,18 @@ ghost use Rattle.asm_syntax.specs.Lines.{align_of, ascii_of, b_of, byte_of, code
 
 use crate::arguments::ZERO;
 use crate::copies::{copy_bytes, copy_value};
-use asm_source::{Argument, Content, Items, Value};
+use asm_source::{Argument, Content, Value};
 use asm_tokens::Integer;
 use mips_forms::{OperandKind, kinds};
 use std::alloc::Global;
-use xom_base::{ByteList, LineFault, NoMemory};
+use xom_base::{ByteList, LineFault, List, NoMemory};
 
 /// The statement with this name and these operands. Bad where there is none of that form.
 #[tactic(auto, unfolding(crate::specs::Lines::statement_of))]
 pub fn statement(
     alloc: Global,
     name: &[u8],
-    arguments: Items<Argument>,
+    arguments: List<Argument>,
 ) -> Result<Content, LineFault>
     ensures { Answers (statement_of name.now arguments) result }
 {
@@ -41,7 +41,7 @@ pub fn statement(
 
 /// A statement that makes instructions.
 #[tactic(auto, unfolding(crate::specs::Lines::mnemonic_of))]
-fn mnemonic(alloc: Global, name: &[u8], arguments: Items<Argument>) -> Result<Content, LineFault>
+fn mnemonic(alloc: Global, name: &[u8], arguments: List<Argument>) -> Result<Content, LineFault>
     ensures { Answers (mnemonic_of name.now arguments) result }
 {
     if name == b"li".as_slice() {
@@ -75,10 +75,10 @@ fn word(alloc: Global, arguments: &[Argument]) -> Result<Content, LineFault>
 }
 
 #[tactic(auto, using(crate::proofs::FormLaws::map_some_more, crate::proofs::FormLaws::map_some_stops))]
-fn values(alloc: Global, arguments: &[Argument]) -> Result<Items<Value>, LineFault>
+fn values(alloc: Global, arguments: &[Argument]) -> Result<List<Value>, LineFault>
     ensures { Answers (map_some value_in arguments.now) result }
 {
-    let mut values = Items::new(alloc);
+    let mut values = List::new(alloc);
     for argument in arguments {
         let value = value_in(alloc, argument)?;
         values.push(value)?;
@@ -98,10 +98,10 @@ fn byte(alloc: Global, arguments: &[Argument]) -> Result<Content, LineFault>
 }
 
 #[tactic(auto, using(crate::proofs::FormLaws::map_some_more, crate::proofs::FormLaws::map_some_stops))]
-fn numbers(alloc: Global, arguments: &[Argument]) -> Result<Items<Integer>, LineFault>
+fn numbers(alloc: Global, arguments: &[Argument]) -> Result<List<Integer>, LineFault>
     ensures { Answers (map_some number_in arguments.now) result }
 {
-    let mut numbers = Items::new(alloc);
+    let mut numbers = List::new(alloc);
     for argument in arguments {
         let number = number_in(argument).ok_or(LineFault::Bad)?;
         numbers.push(number)?;
@@ -254,12 +254,12 @@ fn branch(alloc: Global, arguments: &[Argument]) -> Result<Content, LineFault>
 
 /// `jalr rd, rs` or `jalr rs`
 #[tactic(auto, unfolding(crate::specs::Lines::jalr_of))]
-fn link(alloc: Global, arguments: Items<Argument>) -> Result<Content, LineFault>
+fn link(alloc: Global, arguments: List<Argument>) -> Result<Content, LineFault>
     ensures { Answers (jalr_of arguments) result }
 {
     match arguments.as_slice() {
         [Argument::Register(rs)] => {
-            let mut full = Items::new(alloc);
+            let mut full = List::new(alloc);
             full.push(Argument::Register(31))?;
             full.push(Argument::Register(*rs))?;
             Ok(Content::Instruction(copy_bytes(alloc, b"jalr")?, full))
@@ -270,11 +270,11 @@ fn link(alloc: Global, arguments: Items<Argument>) -> Result<Content, LineFault>
 
 /// `syscall` and `break`, with a code or without
 #[tactic(auto, unfolding(crate::specs::Lines::coded_of))]
-fn coded(alloc: Global, name: &[u8], arguments: Items<Argument>) -> Result<Content, LineFault>
+fn coded(alloc: Global, name: &[u8], arguments: List<Argument>) -> Result<Content, LineFault>
     ensures { Answers (coded_of name.now arguments) result }
 {
     if arguments.as_slice().is_empty() {
-        let mut full = Items::new(alloc);
+        let mut full = List::new(alloc);
         full.push(Argument::Value(Value::Number(ZERO)))?;
         return Ok(Content::Instruction(copy_bytes(alloc, name)?, full));
     }
@@ -283,7 +283,7 @@ fn coded(alloc: Global, name: &[u8], arguments: Items<Argument>) -> Result<Conte
 
 /// An instruction with all its operands.
 #[tactic(auto, unfolding(crate::specs::Lines::instruction_of))]
-fn instruction(alloc: Global, name: &[u8], arguments: Items<Argument>) -> Result<Content, LineFault>
+fn instruction(alloc: Global, name: &[u8], arguments: List<Argument>) -> Result<Content, LineFault>
     ensures { Answers (instruction_of name.now arguments) result }
 {
     let shape = kinds(name).ok_or(LineFault::Bad)?;
@@ -332,7 +332,7 @@ fn three(
 ) -> Result<Content, NoMemory>
     ensures { IfOk result (λ made. made ≡ content.Instruction name.now (first ∷ second ∷ third ∷ [])) }
 {
-    let mut arguments = Items::new(alloc);
+    let mut arguments = List::new(alloc);
     arguments.push(first)?;
     arguments.push(second)?;
     arguments.push(third)?;

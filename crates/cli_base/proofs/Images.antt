@@ -4,7 +4,7 @@ use Rattle.std.specs.Prelude.{◌==◌}
 use Rattle.std.proofs.Math.Decide.{dec_le, dec_lt}
 use Rattle.std.proofs.lemmas.Bool.{eq-eqb, eqb-true}
 use Rattle.xom_base.specs.declared.image.PlainImage.{PlainImage}
-use Rattle.xom_image.proofs.Images.{PlainImage-equal}
+use Rattle.xom_base.proofs.Images.{PlainImage-equal}
 use Rattle.cli_base.specs.Inputs.{valid_image}
 
 module _ (image : PlainImage) where

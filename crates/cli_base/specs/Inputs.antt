@@ -4,6 +4,7 @@ use Rattle.std.proofs.Math.Decide.{dec_le, dec_lt}
 use Rattle.std.proofs.Common.{refl}
 use Rattle.std.proofs.lemmas.Bool.{eqb-true}
 use Rattle.std.specs.Str.{bytes_eq}
+pub use Rattle.xom_base.specs.Results.{◌>>=◌}
 use Rattle.xom_base.specs.declared.image.PlainImage.{PlainImage}
 use Rattle.xom_image.specs.PlainFiles.{plain_image_at}
 use Rattle.cli_base.specs.declared.refusal.InputFault.{InputFault}
@@ -20,12 +21,6 @@ Held = List ℕ → Option (List ℕ)
 -- the same, but for one name that isn't held
 abbrev pub without : List ℕ → Held → Held
 without name held other = if bytes_eq other name then None else held other
-
--- one step and the next, where the first isn't refused
-infixl 10 ◌>>=◌
-abbrev pub ◌>>=◌ : {A B : Type 0} → Result A Refusal → (A → Result B Refusal) → Result B Refusal
-(Ok x) >>= f = f x
-(Err refusal) >>= f = Err refusal
 
 -- ---- A file of a format
 

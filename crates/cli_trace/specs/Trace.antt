@@ -59,9 +59,9 @@ pub record IsRunnable (file : RunFile) : Type 0 where
   pub schedule : IsSchedule file.schedule.interrupts
   pub budget : file.budget ≤ 2 ^ 20
 
--- the judgement of its journal
+-- the judgement of its journal, by the machine key of the run file
 abbrev pub report_of : Parts → Report
-report_of parts = judgement (owner_in parts ∷ []) (last_record parts).core.entries
+report_of parts = judgement parts.file.machine (owner_in parts ∷ []) (last_record parts).core.entries
 
 -- ---- What is printed
 

@@ -109,7 +109,7 @@ pub fn judged(alloc: Global, parts: Parts) -> Result<JudgedRun, NoMemory>
     let machine = ran(alloc, &owner, &file.schedule, file.budget, script)?;
     let mut owners = OwnerList::new(alloc);
     owners.push(owner)?;
-    let report = judge(alloc, &owners, machine.journal())?;
+    let report = judge(alloc, &file.machine, &owners, machine.journal())?;
     Ok(JudgedRun { machine, report })
 }
 

@@ -46,7 +46,7 @@ filled_line rest n text is_size is_front =
     ∙ ap (λ zeros. take 32 rest ++ zeros) (drop-replicate n 32 0 ∙ ap (λ k. replicate (32 - k) 0) size)
 
 -- and so have the parts of a sealed one
-length-sealed_line_of : (owner : Owner) (line : ℕ) → (length (sealed_line_of owner line).ct ≡ 32) × (length (sealed_line_of owner line).tag ≡ 32)
+pub length-sealed_line_of : (owner : Owner) (line : ℕ) → (length (sealed_line_of owner line).ct ≡ 32) × (length (sealed_line_of owner line).tag ≡ 32)
 unfolding sealed_line_of
 length-sealed_line_of owner line =
     sealed_lines_have_their_length (Image owner.id line) (image_keys owner.key owner.id) (line_of owner.plain.bytes line) (length-line_of owner.plain.bytes line)

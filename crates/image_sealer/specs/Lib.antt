@@ -1,3 +1,5 @@
 pub mod Sealing
 pub mod Laws
 pub mod MemberLaws
+pub mod Owned
+pub mod Membership

@@ -25,7 +25,7 @@ pub fn seal(alloc: Global, owner: &Owner, machine: &Key256) -> Result<SealedImag
 }
 
 /// What the envelope says of the owner's image.
-fn contents(owner: &Owner) -> Unwrapped
+pub fn contents(owner: &Owner) -> Unwrapped
     ensures value { result ≡ contents_for owner.now }
     ensures ranges { IsUnwrapped result }
 {
@@ -63,7 +63,7 @@ fn sealed_lines(alloc: Global, owner: &Owner) -> Result<SealedLineList, NoMemory
 }
 
 /// How many lines these bytes have.
-fn line_count(bytes: &[u8]) -> u32
+pub fn line_count(bytes: &[u8]) -> u32
     requires { length bytes.now ≤ 2 ^ 20 }
     ensures { result ≡ line_count_of bytes.now }
 {
@@ -71,7 +71,7 @@ fn line_count(bytes: &[u8]) -> u32
 }
 
 /// A line of these bytes. The last is filled up with zeros.
-fn plain_line(bytes: &[u8], line: u32) -> [u8; LINE]
+pub fn plain_line(bytes: &[u8], line: u32) -> [u8; LINE]
     requires { line < line_count_of bytes.now }
     ensures { result ≡ line_of bytes.now line }
 {

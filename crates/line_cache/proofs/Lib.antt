@@ -4,3 +4,4 @@ pub mod Start
 pub mod Placing
 pub mod Dropping
 pub mod Taking
+pub mod Writing

@@ -4,7 +4,7 @@ use Rattle.std.proofs.lemmas.List.{length-set}
 use Rattle.line_cache.specs.declared.way.Victim.{Victim}
 use Rattle.line_cache.specs.declared.way.Way.{Way}
 use Rattle.line_cache.specs.Ways.{Cache, chosen, first_place, found, free_in_set, moved_on, new_way, place_for, pointed, pointers_after, pushed_out, victim_for, victim_of, way_at, with_line}
-use Rattle.line_cache.specs.Lines.{BringsIn, HandsOut, Holds, IsCache, IsFilled, IsFull, IsVictim, way_found}
+use Rattle.line_cache.specs.Lines.{BringsIn, HandsOut, Holds, IsCache, IsFilled, IsFull, IsLine, IsVictim, way_found}
 use Rattle.line_cache.proofs.Search.{found-None, found_at, free-None, free-Some, none_free}
 use Rattle.line_cache.proofs.Changes.{Fits, IsCache-set, found-set, line_in-gone, line_in-other, line_in-set}
 
@@ -99,6 +99,17 @@ module _ (cache : Cache) (sound : IsCache cache) (slot line : ℕ) (bytes : List
       some_who (sym holds.its_slot ∙ ap (λ n. (way_at cache.ways n).slot) place_is ∙ (free-Some cache sound line free is).1)
   others None is at place_is who other some_who not_victim holds = not_victim (holds.its_slot, holds.its_line)
 
+  in_range : (free : Option ℕ) → free_in_set cache.ways line ≡ free → (at : ℕ)
+      → at ≡ first_place line + chosen free (pointed cache.pointers line)
+      → IfSome (pushed_out free (way_at cache.ways at)) IsLine
+  in_range (Some free) is at place_is = tt
+  in_range None is at place_is =
+      let filled : IsFilled cache.ways at = subst (λ n. IsFilled cache.ways n) (sym place_is) (free-None cache sound line is (pointed cache.pointers line) (omega arith)) in
+      record { some = omega arith; known = sound.known at; inside = sound.inside at }
+
+  pub victim_is_line : IfSome (victim_for cache line) IsLine
+  victim_is_line = in_range (free_in_set cache.ways line) refl place refl
+
   pub with_line_brings_in : BringsIn cache.ways (with_line cache slot line bytes).ways slot line bytes (victim_for cache line)
   with_line_brings_in = record {
     this_line = line_in-set cache sound place within way (pointers_after cache.ways cache.pointers line) (fits _ low) sets some;
@@ -117,6 +128,7 @@ pub record Placed (cache : Cache) (slot line : ℕ) (bytes : List ℕ) (new : Ca
   pub full : IsSome victim ↔ IsFull cache.ways line
   pub found_there : found new.ways slot line ≡ Some (place_for cache.ways cache.pointers line)
   pub lines : BringsIn cache.ways new.ways slot line bytes victim
+  pub range : IfSome victim IsLine
 
 module _ (opened cache : Cache) (same : opened ≡ cache) (sound : IsCache opened) (slot line : ℕ) (bytes : List ℕ) (some : 1 ≤ slot) (known : slot ≤ 16) (inside : line < 2 ^ 15) (absent : found cache.ways slot line ≡ None) (first : ℕ) (way : Way) (first_is : first ≡ first_place line) (way_is : way ≡ new_way slot line bytes) where
   whole : IsCache cache
@@ -130,6 +142,7 @@ module _ (opened cache : Cache) (same : opened ≡ cache) (sound : IsCache opene
   placed_as new victim new_is victim_is full = record {
     is_cache = subst IsCache new_is (with_line_is_cache cache whole slot line bytes not_null known inside absent);
     full = full;
+    range = subst (λ v. IfSome v IsLine) victim_is (victim_is_line cache whole slot line bytes not_null known inside absent);
     found_there = subst (λ c. found c.ways slot line ≡ Some (place_for cache.ways cache.pointers line)) new_is
         (with_line_is_found cache whole slot line bytes not_null known inside absent);
     lines = subst (BringsIn cache.ways new.ways slot line bytes) victim_is

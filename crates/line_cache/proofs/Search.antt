@@ -1,5 +1,5 @@
 -- Looking in one set finds what a search over all places finds.
-use Rattle.std.proofs.Common.{◌≡◌, ◌≢◌, refl, ℕ, ◌+◌, ◌-◌, ◌/◌, ◌%◌, ◌<◌, ◌≤◌, Bool, true, false, ◌⊎◌, inl, inr, List, Option, Some, None, length, get_or, drop, position, sym, ◌∙◌, ap, arith, IfSome}
+use Rattle.std.proofs.Common.{◌≡◌, ◌≢◌, refl, ℕ, ◌+◌, slice_range, ◌-◌, ◌/◌, ◌%◌, ◌<◌, ◌≤◌, Bool, true, false, ◌⊎◌, inl, inr, List, Option, Some, None, length, get_or, drop, position, sym, ◌∙◌, ap, arith, IfSome}
 use Rattle.std.specs.List.{position_or_len}
 use Rattle.std.proofs.lemmas.Bool.{cases_lt}
 use Rattle.std.proofs.lemmas.Bool.Decides.{eqb_tells, nat_tests}
@@ -171,3 +171,19 @@ module _ (cache : Cache) (sound : IsCache cache) (slot line : ℕ) (some : slot 
       let size = set_size cache sound line in
       found_at (first_place line + way)
       (is_of-Holds slot line _ (sym (ap (is_of slot line) (way_in_set cache sound line way (omega arith))) ∙ at.1))
+
+-- what the body finds is filled
+pub found_filled : (opened cache : Cache) → opened ≡ cache → IsCache opened → (slot line : ℕ) → 1 ≤ slot
+    → (first : ℕ) → first ≡ first_place line → (ways : List Way) → ways ≡ opened.ways → (found_way : Option ℕ)
+    → found_way ≡ position (is_of slot line) (slice_range ways first (first + 4)) → (way : ℕ) → found_way ≡ Some way
+    → IsFilled cache.ways (first + way)
+found_filled opened cache same sound slot line some first first_is ways ways_is found_way answer way is =
+    let not_null : slot ≢ 0 = λ none. absurd (omega arith) in
+    let here : position (is_of slot line) (set_of opened.ways line) ≡ Some way =
+    ap (λ w. position (is_of slot line) (slice_range w (first_place line) (first_place line + 4))) (sym ways_is)
+    ∙ ap (λ n. position (is_of slot line) (slice_range ways n (n + 4))) (sym first_is)
+    ∙ sym answer ∙ is in
+    let place = some_in_set opened sound slot line not_null way here in
+    let held = found-Some opened.ways slot line not_null (first_place line + way) place in
+    let filled : IsFilled opened.ways (first_place line + way) = λ free. not_null (sym held.its_slot ∙ free) in
+    rw (first_is, ← same) filled

@@ -124,6 +124,11 @@ module _ (cache : Cache) (sound : IsCache cache) (slot page : ℕ) (some : 1 ≤
 
     pub takes_least : TakesLeast cache (with_way cache place free_way) slot page (victim_of way)
     takes_least = record {
+      range = record {
+        some = let same = of_its_page.0 in omega arith;
+        known = sound.known place;
+        inside = sound.inside place;
+      };
       slot_is = of_its_page.0;
       page_is = of_its_page.1;
       least = λ line less of. found_none cache.ways slot line not_null (λ at held.

@@ -2,7 +2,7 @@
 use Rattle.std.specs.Prelude.{ℕ, ◌+◌, ◌/◌, ◌%◌, ◌^◌, ◌≡◌, ◌≢◌, ◌≤◌, ◌<◌, ◌==◌, ◌&&◌, Bool, true, false, List, Option, Some, None, length, IfSome}
 use Rattle.line_cache.specs.declared.way.Way.{Way}
 use Rattle.line_cache.specs.declared.way.Victim.{Victim}
-use Rattle.line_cache.specs.Ways.{Cache, first_place, found, free_way, new_way, victim_of, way_at, with_way}
+use Rattle.line_cache.specs.Ways.{Cache, first_place, found, free_way, new_way, victim_of, way_at, with_way, written}
 
 -- the way holds this line of this slot
 pub record Holds (way : Way) (slot line : ℕ) : Type 0 where
@@ -84,6 +84,7 @@ HasNoLine ways slot page = (line : ℕ) → line / 128 ≡ page → found ways s
 
 -- the least line of the page is handed out, and every other line is as before
 pub record TakesLeast (old new : Cache) (slot page : ℕ) (victim : Victim) : Type 0 where
+  pub range : IsLine victim
   pub slot_is : victim.slot ≡ slot
   pub page_is : victim.line / 128 ≡ page
   pub least : (line : ℕ) → line < victim.line → line / 128 ≡ page → found old.ways slot line ≡ None
@@ -100,3 +101,10 @@ pub record DropsSlot (old new : List Way) (slot : ℕ) : Type 0 where
   pub none : (line : ℕ) → found new slot line ≡ None
   pub other_slots : (other line : ℕ) → other ≢ 0 → other ≢ slot
       → line_in new other line ≡ line_in old other line
+
+-- the line in a place has these bytes, still to be written back, and every other line is as before
+pub record WritesLine (old new : List Way) (place : ℕ) (bytes : List ℕ) : Type 0 where
+  pub this_line : line_in new (way_at old place).slot (way_at old place).line
+      ≡ Some (written (way_at old place) bytes)
+  pub other_lines : (who other : ℕ) → who ≢ 0 → ¬ Holds (way_at old place) who other
+      → line_in new who other ≡ line_in old who other

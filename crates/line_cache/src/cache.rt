@@ -1,4 +1,4 @@
-ghost use Rattle.std.specs.Prelude.{◌≡◌, ◌≢◌, ◌≤◌, ◌<◌, ◌^◌, ◌↔◌, ◌+◌, IfNone, IfOk, IfSome, IsNone, IsSome, None, Some, length, position};
+ghost use Rattle.std.specs.Prelude.{◌≡◌, ◌≤◌, ◌<◌, ◌^◌, ◌↔◌, ◌+◌, IfNone, IfOk, IfSome, IsNone, IsSome, None, Some, length, position};
 ghost use Rattle.std.specs.Borrow.{sem};
 ghost use Rattle.line_cache.specs.Lines.{IsLeastAmong};
 ghost use Rattle.line_cache.specs.Ways.{empty, first_place as first_of, found, free_if, free_in_set, first_pointers as first_pointers_of_sets, is_free, is_of, no_ways, place_for, victim_for, way_at, with_line, without_slot};
@@ -28,7 +28,7 @@ impl Model for LineCache {
 }
 
 impl LineCache {
-    ghost use Rattle.line_cache.specs.Lines.{BringsIn, DropsSlot, HasNoLine, IsFull, TakesLeast};
+    ghost use Rattle.line_cache.specs.Lines.{BringsIn, DropsSlot, HasNoLine, IsFilled, IsFull, IsLine, TakesLeast};
     ghost use Rattle.line_cache.specs.Lending.{LendsBytes};
 
     /// No line is cached, and each pointer is at the first way.
@@ -47,6 +47,7 @@ impl LineCache {
     pub fn find(&self, slot: u8, line: u32) -> Option<u32>
         requires { 1 ≤ slot }
         ensures place { result ≡ found self.now.ways slot line }
+        ensures filled { IfSome result (IsFilled self.now.ways) }
     {
         let first = first_place(line);
         let way = way_of(&self.ways[first..first + 4], slot, line)?;
@@ -55,7 +56,7 @@ impl LineCache {
 
     /// The bytes in a place that is filled.
     pub fn bytes(&self, place: u32) -> &[u8; 32]
-        requires { (way_at self.now.ways place).slot ≢ 0 }
+        requires { IsFilled self.now.ways place }
         ensures { result.now ≡ (way_at self.now.ways place).bytes }
     {
         self.ways[place as usize].bytes.get()
@@ -63,7 +64,7 @@ impl LineCache {
 
     /// The bytes in a place that is filled, to be written: the line is dirty then.
     pub fn bytes_mut(&mut self, place: u32) -> &mut [u8; 32]
-        requires { (way_at self.old.ways place).slot ≢ 0 }
+        requires { IsFilled self.old.ways place }
         ensures* writes_back { sem 𝓛 (LendsBytes self.entry place result) }
         ensures value { result.now ≡ (way_at self.old.ways place).bytes }
     {
@@ -91,6 +92,7 @@ impl LineCache {
         ensures victim { result ≡ victim_for self.old line }
         ensures full { IsSome result ↔ IsFull self.old.ways line }
         ensures place { found self.new.ways slot line ≡ Some (place_for self.old.ways self.old.pointers line) }
+        ensures range { IfSome result IsLine }
         ensures lines { BringsIn self.old.ways self.new.ways slot line bytes.now result }
     {
         let first = first_place(line);

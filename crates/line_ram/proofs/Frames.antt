@@ -1,5 +1,5 @@
 -- A line that is written in the bytes of its frame is written in RAM.
-use Rattle.std.proofs.Common.{◌≡◌, ℕ, ◌+◌, ◌*◌, ◌<◌, ◌≤◌, List, ◌++◌, length, take, drop, refl, sym, ◌∙◌, ap, arith}
+use Rattle.std.proofs.Common.{◌≡◌, ℕ, ◌+◌, ◌*◌, ◌<◌, ◌≤◌, List, ◌++◌, length, take, drop, sym, ◌∙◌, ap, arith}
 use Rattle.std.proofs.lemmas.List.{append_assoc, length-append, length-drop, length-take-le, take_at}
 use Rattle.std.proofs.lemmas.Slice.{drop-append-drop}
 use Rattle.line_ram.specs.Bytes.{HoldsFrame, HoldsRange, bytes_at, frame_size, stored, with_line}
@@ -15,7 +15,7 @@ stored-stored ram bytes others address held same =
     ap (λ l. l ++ (others ++ drop (address + length others) (stored ram address bytes))) (take_at front (bytes ++ rest) address long)
     ∙ ap (λ l. front ++ (others ++ drop (address + length others) l)) (sym (append_assoc front bytes rest))
     ∙ ap (λ l. front ++ (others ++ l)) (drop-append-drop (address + length bytes) ram (front ++ bytes) (address + length others) (omega arith)
-      (length-append front bytes ∙ omega (arith, long)))
+    (length-append front bytes ∙ omega (arith, long)))
 
 -- a loan that has its length stores what is there
 stored_through-stored : (ram bytes : List ℕ) (address : ℕ) → HoldsRange ram address (length bytes) → stored_through ram address bytes ≡ stored ram address bytes

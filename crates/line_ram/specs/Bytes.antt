@@ -5,6 +5,17 @@ use Rattle.std.specs.Prelude.{ℕ, ◌+◌, ◌*◌, ◌≤◌, List, ◌++◌, 
 abbrev pub frame_size : ℕ
 frame_size = 8192
 
+-- how many bytes a line has, and how many lines a frame
+abbrev pub line_size : ℕ
+line_size = 32
+
+abbrev pub frame_lines : ℕ
+frame_lines = 128
+
+-- where a frame has its tags, behind its ciphertexts
+abbrev pub tags_offset : ℕ
+tags_offset = frame_lines * line_size
+
 -- the bytes of a range
 abbrev pub bytes_at : List ℕ → ℕ → ℕ → List ℕ
 bytes_at ram address count = take count (drop address ram)
@@ -21,13 +32,12 @@ HoldsRange ram address count = address + count ≤ length ram
 abbrev pub HoldsFrame : List ℕ → ℕ → Type 0
 HoldsFrame ram frame = HoldsRange ram (frame * frame_size) frame_size
 
--- where a frame has the ciphertext of its line of this index, 0 to 127: 128 ciphertexts of 32 bytes stand first
+-- where a frame has the ciphertext of its line of this index, and that line's tag of as many bytes
 abbrev pub ciphertext_place : ℕ → ℕ → ℕ
-ciphertext_place frame index = frame * frame_size + 32 * index
+ciphertext_place frame index = frame * frame_size + line_size * index
 
--- where it has that line's tag: their 128 tags of 32 bytes follow
 abbrev pub tag_place : ℕ → ℕ → ℕ
-tag_place frame index = frame * frame_size + 4096 + 32 * index
+tag_place frame index = frame * frame_size + tags_offset + line_size * index
 
 -- RAM with this ciphertext and this tag at a frame's line
 abbrev pub with_line : List ℕ → ℕ → ℕ → List ℕ → List ℕ → List ℕ

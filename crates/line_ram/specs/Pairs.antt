@@ -1,11 +1,11 @@
--- Two ranges of 32 bytes that are lent at once.
+-- Two ranges of the size of a line that are lent at once.
 use Rattle.std.specs.Prelude.{ℕ, ◌+◌, ◌≤◌, List}
 use Rattle.std.specs.Borrow.{Array, Fml, LendsBoth, MutBor, u8}
-use Rattle.line_ram.specs.Bytes.{HoldsRange, stored}
+use Rattle.line_ram.specs.Bytes.{HoldsRange, line_size, stored}
 
--- both places have 32 bytes, the first ones before the second
+-- both places have the bytes of a line, the first ones before the second
 abbrev pub IsPair : List ℕ → ℕ → ℕ → Type 0
-IsPair bytes first second = (first + 32 ≤ second) × HoldsRange bytes second 32
+IsPair bytes first second = (first + line_size ≤ second) × HoldsRange bytes second line_size
 
 -- the places hold the last bytes written through the two loans, and all else is as it was
 abbrev pub LendsPair : MutBor (List ℕ) → ℕ → ℕ → MutBor (List ℕ) × MutBor (List ℕ) → Fml

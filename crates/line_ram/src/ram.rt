@@ -1,6 +1,6 @@
 ghost use Rattle.std.specs.Prelude.{◌≡◌, ◌≤◌, ◌<◌, ◌*◌, ◌^◌, ◌↔◌, List, ℕ, IfOk, IsTrue, length, replicate};
 ghost use Rattle.std.specs.Borrow.{sem};
-ghost use Rattle.line_ram.specs.Bytes.{HoldsFrame, HoldsRange, bytes_at, ciphertext_place, frame_size, stored, tag_place, with_line};
+ghost use Rattle.line_ram.specs.Bytes.{HoldsFrame, HoldsRange, bytes_at, ciphertext_place, frame_lines, frame_size, line_size, stored, tag_place, with_line};
 ghost use Rattle.line_ram.specs.Lending.{LendsRange, stored_through};
 
 use crate::line_of;
@@ -101,9 +101,9 @@ impl LineRam {
     /// Copies a frame's ciphertext and tag of its line of this index into two arrays.
     pub fn read_line(&self, frame: u32, index: u32, ciphertext: &mut [u8; 32], tag: &mut [u8; 32])
         requires frame { HoldsFrame self.now frame }
-        requires index { index < 128 }
-        ensures ciphertext { ciphertext.new ≡ bytes_at self.now (ciphertext_place frame index) 32 }
-        ensures tag { tag.new ≡ bytes_at self.now (tag_place frame index) 32 }
+        requires index { index < frame_lines }
+        ensures ciphertext { ciphertext.new ≡ bytes_at self.now (ciphertext_place frame index) line_size }
+        ensures tag { tag.new ≡ bytes_at self.now (tag_place frame index) line_size }
     {
         let _size = self.size();
         let place = frame * LineRam::FRAME + 32 * index;
@@ -115,7 +115,7 @@ impl LineRam {
     #[tactic(auto, using(crate::proofs::Frames::frame_with_line))]
     pub fn write_line(&mut self, frame: u32, index: u32, ciphertext: &[u8; 32], tag: &[u8; 32])
         requires frame { HoldsFrame self.old frame }
-        requires index { index < 128 }
+        requires index { index < frame_lines }
         ensures line { self.new ≡ with_line self.old frame index ciphertext.now tag.now }
         ensures size { length self.new ≡ length self.old }
     {

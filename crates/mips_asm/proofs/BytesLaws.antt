@@ -9,7 +9,7 @@ use Rattle.std.proofs.lemmas.List.Folds.{list_any-append}
 use Rattle.xom_base.specs.declared.image.PlainImage.{PlainImage}
 use Rattle.asm_source.specs.declared.content.Part.{Part}
 use Rattle.asm_syntax.specs.Lines.{source_of}
-use Rattle.mips_asm.specs.declared.chunk.Chunk.{Chunk}
+use Rattle.mips_asm.specs.declared.placed_bytes.PlacedBytes.{PlacedBytes}
 use Rattle.mips_asm.specs.declared.placed.Placed.{Placed}
 use Rattle.mips_asm.specs.Encoding.{Gives}
 use Rattle.mips_asm.specs.Images.{IsWritten, byte_over, chunks_end, holds}
@@ -18,16 +18,13 @@ use Rattle.mips_asm.specs.Layout.{IsSized, after, covers, end_of, last_end, layo
 use Rattle.mips_asm.specs.Passes.{Labels, first_fault, line_of, overlap_line, overlaps}
 use Rattle.mips_asm.specs.Sources.{IsPlacedImage, Writes, labels_of}
 use Rattle.mips_asm.proofs.FaultLaws.{first_good, rest_good}
-use Rattle.mips_asm.proofs.ImageLaws.{byte_over_nil}
+use Rattle.mips_asm.proofs.ImageLaws.{byte_over_nil, chunk_at}
 use Rattle.mips_asm.proofs.LayoutLaws.{end_of-le, placed_at}
 use Rattle.mips_asm.proofs.OneOutcome.{same_Ok}
 use Rattle.mips_asm.proofs.OverlapLaws.{overlaps_true}
 use Rattle.mips_asm.proofs.SizeLaws.{Gives-size}
 
 -- ---- one statement
-
-abbrev chunk_at : ℕ → List ℕ → Chunk
-chunk_at place bytes = record { place = place; bytes = bytes }
 
 -- each statement of a layout has its size
 layout-sized : (place : ℕ) (parts : List Part) → All IsSized (layout place parts)
@@ -54,16 +51,16 @@ before_end p k n end size below past = grind (arith, nat_tests)
 -- ---- one statement after another
 
 -- one more chunk
-byte_over-cons : (byte : ℕ) (x : Chunk) (xs : List Chunk) (k : ℕ) → byte_over byte (x ∷ xs) k ≡ byte_over (cond (holds x k) (get_or x.bytes (k - x.place) 0) byte) xs k
+byte_over-cons : (byte : ℕ) (x : PlacedBytes) (xs : List PlacedBytes) (k : ℕ) → byte_over byte (x ∷ xs) k ≡ byte_over (cond (holds x k) (get_or x.bytes (k - x.place) 0) byte) xs k
 unfolding byte_over
 byte_over-cons byte x xs k = refl
 
 -- where no statement writes, what stood there before stays
-untouched : (labels : Labels) (placed : List Placed) (chunks : List Chunk) (byte k : ℕ) → All IsSized placed → Writes labels placed chunks
+untouched : (labels : Labels) (placed : List Placed) (chunks : List PlacedBytes) (byte k : ℕ) → All IsSized placed → Writes labels placed chunks
     → All (λ (p : Placed). covers p k ≡ false) placed → byte_over byte chunks k ≡ byte
-untouched labels [] chunks byte k sized writes free = ap (λ (c : List Chunk). byte_over byte c k) writes ∙ byte_over_nil byte k
+untouched labels [] chunks byte k sized writes free = ap (λ (c : List PlacedBytes). byte_over byte c k) writes ∙ byte_over_nil byte k
 untouched labels (p ∷ placed) chunks byte k sized writes free =
-    ap (λ (c : List Chunk). byte_over byte c k) writes.3
+    ap (λ (c : List PlacedBytes). byte_over byte c k) writes.3
     ∙ byte_over-cons byte (chunk_at p.place writes.0) writes.1 k
     ∙ ap (λ (b : Bool). byte_over (cond b (get_or writes.0 (k - p.place) 0) byte) writes.1 k)
     (holds-covers labels p writes.0 k (All-head IsSized p placed sized) writes.2 ∙ All-head (λ (q : Placed). covers q k ≡ false) p placed free)
@@ -101,12 +98,12 @@ later_free before (p ∷ placed) k apart there =
     (later_free (before ++ p ∷ []) placed k (rest_good line_of overlaps before p placed apart) (written-more before p k there))
 
 -- what a statement writes stands at its place once all is written, whatever stood there before
-abbrev StandsOver : Labels → List Chunk → Placed → Type 0
+abbrev StandsOver : Labels → List PlacedBytes → Placed → Type 0
 StandsOver labels chunks p =
     (own : List ℕ) × Gives labels p.place p.part.content own × ((k byte : ℕ) → k < length own → byte_over byte chunks (p.place + k) ≡ get_or own k 0)
 
 -- the first statement's bytes stay where no later one writes
-first_stands : (labels : Labels) (p : Placed) (placed : List Placed) (own : List ℕ) (rest : List Chunk) (byte k : ℕ) → All IsSized placed → Writes labels placed rest
+first_stands : (labels : Labels) (p : Placed) (placed : List Placed) (own : List ℕ) (rest : List PlacedBytes) (byte k : ℕ) → All IsSized placed → Writes labels placed rest
     → All (λ (q : Placed). covers q (p.place + k) ≡ false) placed → k < length own → byte_over byte (chunk_at p.place own ∷ rest) (p.place + k) ≡ get_or own k 0
 first_stands labels p placed own rest byte k sized writes free below =
     let at : p.place + k - p.place ≡ k = omega arith in
@@ -116,7 +113,7 @@ first_stands labels p placed own rest byte k sized writes free below =
     ∙ ap (λ (n : ℕ). get_or own n 0) at
 
 -- each statement's bytes stand at its place
-all_stand : (labels : Labels) (before placed : List Placed) (chunks : List Chunk) → first_fault line_of overlaps before placed ≡ None → All IsSized placed → Writes labels placed chunks
+all_stand : (labels : Labels) (before placed : List Placed) (chunks : List PlacedBytes) → first_fault line_of overlaps before placed ≡ None → All IsSized placed → Writes labels placed chunks
     → All (StandsOver labels chunks) placed
 all_stand labels before [] chunks apart sized writes = All-nil (StandsOver labels chunks)
 all_stand labels before (p ∷ placed) chunks apart sized writes =
@@ -129,7 +126,7 @@ all_stand labels before (p ∷ placed) chunks apart sized writes =
     here rest_apart rest_sized k byte below =
         let there : covers p (p.place + k) ≡ true =
         sym (holds-covers labels p writes.0 (p.place + k) (All-head IsSized p placed sized) writes.2) ∙ holds_own p.place k writes.0 below in
-        ap (λ (c : List Chunk). byte_over byte c (p.place + k)) writes.3
+        ap (λ (c : List PlacedBytes). byte_over byte c (p.place + k)) writes.3
         ∙ first_stands labels p placed writes.0 writes.1 byte k rest_sized writes.4 (later_free (before ++ p ∷ []) placed (p.place + k) rest_apart (written-last before p (p.place + k) there)) below
 
     later : (q : Placed) → StandsOver labels writes.1 q → StandsOver labels chunks q
@@ -137,13 +134,13 @@ all_stand labels before (p ∷ placed) chunks apart sized writes =
       stands.0,
       stands.1,
       λ k byte below.
-          ap (λ (c : List Chunk). byte_over byte c (q.place + k)) writes.3
+          ap (λ (c : List PlacedBytes). byte_over byte c (q.place + k)) writes.3
           ∙ byte_over-cons byte (chunk_at p.place writes.0) writes.1 (q.place + k)
           ∙ stands.2 k (cond (holds (chunk_at p.place writes.0) (q.place + k)) (get_or writes.0 (q.place + k - p.place) 0) byte) below,
     )
 
 -- the bytes end where the statements do
-ends-same : (labels : Labels) (placed : List Placed) (chunks : List Chunk) → All IsSized placed → Writes labels placed chunks → chunks_end chunks ≡ last_end placed
+ends-same : (labels : Labels) (placed : List Placed) (chunks : List PlacedBytes) → All IsSized placed → Writes labels placed chunks → chunks_end chunks ≡ last_end placed
 unfolding chunks_end last_end
 ends-same labels [] chunks sized writes = ap chunks_end writes
 ends-same labels (p ∷ placed) chunks sized writes =
@@ -154,7 +151,7 @@ ends-same labels (p ∷ placed) chunks sized writes =
 -- ---- images
 
 -- bytes that are written statement by statement, of which no two meet
-bytes_of_written : (placed : List Placed) (chunks : List Chunk) (bytes : List ℕ) → overlap_line placed ≡ None → All IsSized placed → Writes (labels_of placed) placed chunks
+bytes_of_written : (placed : List Placed) (chunks : List PlacedBytes) (bytes : List ℕ) → overlap_line placed ≡ None → All IsSized placed → Writes (labels_of placed) placed chunks
     → IsWritten chunks bytes → AreBytesOf placed bytes
 bytes_of_written placed chunks bytes apart sized writes is = record { whole = whole; written = written; gaps = gaps }
   where

@@ -3,7 +3,7 @@ use Rattle.std.proofs.Common.{◌≡◌, ℕ, inl, inr, List, [], ◌∷◌, ◌
 use Rattle.std.proofs.lemmas.Option.{none-some}
 use Rattle.xom_base.specs.declared.image.PlainImage.{PlainImage}
 use Rattle.asm_source.specs.declared.content.Part.{Part}
-use Rattle.mips_asm.specs.declared.chunk.Chunk.{Chunk}
+use Rattle.mips_asm.specs.declared.placed_bytes.PlacedBytes.{PlacedBytes}
 use Rattle.mips_asm.specs.declared.fault.AsmFault.{AsmFault}
 use Rattle.mips_asm.specs.declared.fault.AsmFault.TheVariants.{Syntax, Duplicate, TooLong, Overlap, UnknownName, Range, NoMemory}
 use Rattle.mips_asm.specs.declared.placed.Placed.{Placed}
@@ -16,7 +16,7 @@ both : (found : Option ℕ) (n : ℕ) → found ≡ None → found ≡ Some n �
 both found n none some = none-some n (sym none ∙ some)
 
 -- each of the statements writes bytes
-Writes-some : (labels : Labels) (before : List Placed) (x : Placed) (after : List Placed) (chunks : List Chunk) → Writes labels (before ++ (x ∷ after)) chunks → ¬ GivesNothing labels x
+Writes-some : (labels : Labels) (before : List Placed) (x : Placed) (after : List Placed) (chunks : List PlacedBytes) → Writes labels (before ++ (x ∷ after)) chunks → ¬ GivesNothing labels x
 Writes-some labels [] x after chunks writes nothing = nothing writes.0 writes.2
 Writes-some labels (z ∷ before) x after chunks writes nothing = Writes-some labels before x after writes.1 writes.4 nothing
 

@@ -5,37 +5,36 @@ use Rattle.std.specs.Option.{option_eq}
 use Rattle.std.proofs.lemmas.Bool.{eqb-true, true≢false}
 use Rattle.std.proofs.lemmas.List.{take_more, take-append-drop, drop_more}
 use Rattle.std.proofs.lemmas.List.Elements.{All-cons, All-head, All-nil, All-tail}
-use Rattle.mips_asm.specs.declared.chunk.Chunk.{Chunk}
+use Rattle.mips_asm.specs.declared.placed_bytes.PlacedBytes.{PlacedBytes}
 use Rattle.mips_asm.specs.declared.placed.Placed.{Placed}
 use Rattle.mips_asm.specs.Encoding.{Gives}
 use Rattle.mips_asm.specs.Images.{FitsImage}
 use Rattle.mips_asm.specs.Layout.{IsInside, IsSized}
 use Rattle.mips_asm.specs.Passes.{Labels, line_of}
+use Rattle.mips_asm.proofs.ImageLaws.{chunk_at}
 use Rattle.mips_asm.proofs.SizeLaws.{Gives-size}
 use Rattle.mips_asm.specs.Sources.{IsFirst, IsOutOfRange, Writes}
 
-abbrev chunk_at : ℕ → List ℕ → Chunk
-chunk_at place bytes = record { place = place; bytes = bytes }
-
-Writes-push : (labels : Labels) (xs : List Placed) (x : Placed) (chunks : List Chunk) (bytes : List ℕ) → Writes labels xs chunks → Gives labels x.place x.part.content bytes
+-- one more statement
+pub Writes-push : (labels : Labels) (xs : List Placed) (x : Placed) (chunks : List PlacedBytes) (bytes : List ℕ) → Writes labels xs chunks → Gives labels x.place x.part.content bytes
     → Writes labels (xs ++ x ∷ []) (chunks ++ chunk_at x.place bytes ∷ [])
 Writes-push labels [] x chunks bytes writes gives =
-    (bytes, [], gives, ap (λ (front : List Chunk). front ++ chunk_at x.place bytes ∷ []) writes, refl)
+    (bytes, [], gives, ap (λ (front : List PlacedBytes). front ++ chunk_at x.place bytes ∷ []) writes, refl)
 Writes-push labels (y ∷ xs) x chunks bytes writes gives = (
   writes.0,
   writes.1 ++ chunk_at x.place bytes ∷ [],
   writes.2,
-  ap (λ (front : List Chunk). front ++ chunk_at x.place bytes ∷ []) writes.3,
+  ap (λ (front : List PlacedBytes). front ++ chunk_at x.place bytes ∷ []) writes.3,
   Writes-push labels xs x writes.1 bytes writes.4 gives,
 )
 
 -- the next statement, in a loop
-pub Writes_more : (labels : Labels) (xs : List Placed) (i : ℕ) (d : Placed) (chunks : List Chunk) (bytes : List ℕ) → i < length xs → Writes labels (take i xs) chunks
+pub Writes_more : (labels : Labels) (xs : List Placed) (i : ℕ) (d : Placed) (chunks : List PlacedBytes) (bytes : List ℕ) → i < length xs → Writes labels (take i xs) chunks
     → Gives labels (get_or xs i d).place (get_or xs i d).part.content bytes → Writes labels (take (i + 1) xs) (chunks ++ chunk_at (get_or xs i d).place bytes ∷ [])
 Writes_more labels xs i d chunks bytes within writes gives = rw (take_more xs i d within) (Writes-push labels (take i xs) (get_or xs i d) chunks bytes writes gives)
 
 -- no statement that was written is out of its range
-pub good_so_far : (labels : Labels) (bad : Option ℕ) (xs : List Placed) (chunks : List Chunk) → Writes labels xs chunks → All (λ (p : Placed). ¬ (bad ≡ Some (line_of p))) xs
+pub good_so_far : (labels : Labels) (bad : Option ℕ) (xs : List Placed) (chunks : List PlacedBytes) → Writes labels xs chunks → All (λ (p : Placed). ¬ (bad ≡ Some (line_of p))) xs
     → All (λ (p : Placed). ¬ (IsOutOfRange labels bad p)) xs
 good_so_far labels bad [] chunks writes entry = All-nil (λ (p : Placed). ¬ (IsOutOfRange labels bad p))
 good_so_far labels bad (x ∷ xs) chunks writes entry =
@@ -47,7 +46,7 @@ good_so_far labels bad (x ∷ xs) chunks writes entry =
     (good_so_far labels bad xs writes.1 writes.4 (All-tail (λ (p : Placed). ¬ (bad ≡ Some (line_of p))) x xs entry))
 
 -- the next statement is the first that is out of its range
-pub first_bad : (labels : Labels) (bad : Option ℕ) (xs : List Placed) (i : ℕ) (d : Placed) (chunks : List Chunk) → i < length xs → Writes labels (take i xs) chunks
+pub first_bad : (labels : Labels) (bad : Option ℕ) (xs : List Placed) (i : ℕ) (d : Placed) (chunks : List PlacedBytes) → i < length xs → Writes labels (take i xs) chunks
     → All (λ (p : Placed). ¬ (bad ≡ Some (line_of p))) (take i xs) → IsOutOfRange labels bad (get_or xs i d)
     → IsFirst line_of (IsOutOfRange labels bad) xs (line_of (get_or xs i d))
 first_bad labels bad xs i d chunks within writes entry out = record {
@@ -61,14 +60,14 @@ first_bad labels bad xs i d chunks within writes entry out = record {
 }
 
 -- the same at an element that is known to be that of the place
-pub first_here : (labels : Labels) (bad : Option ℕ) (xs : List Placed) (i : ℕ) (x : Placed) (chunks : List Chunk) → i < length xs → x ≡ get_or xs i x → Writes labels (take i xs) chunks
+pub first_here : (labels : Labels) (bad : Option ℕ) (xs : List Placed) (i : ℕ) (x : Placed) (chunks : List PlacedBytes) → i < length xs → x ≡ get_or xs i x → Writes labels (take i xs) chunks
     → All (λ (p : Placed). ¬ (bad ≡ Some (line_of p))) (take i xs) → IsOutOfRange labels bad x
     → IsFirst line_of (IsOutOfRange labels bad) xs (line_of x)
 first_here labels bad xs i x chunks within is writes entry out =
     subst (λ (p : Placed). IsFirst line_of (IsOutOfRange labels bad) xs (line_of p)) (sym is)
     (first_bad labels bad xs i x chunks within writes entry (subst (IsOutOfRange labels bad) is out))
 
-pub Writes_here : (labels : Labels) (xs : List Placed) (i : ℕ) (x : Placed) (chunks : List Chunk) (bytes : List ℕ) → i < length xs → x ≡ get_or xs i x → Writes labels (take i xs) chunks
+pub Writes_here : (labels : Labels) (xs : List Placed) (i : ℕ) (x : Placed) (chunks : List PlacedBytes) (bytes : List ℕ) → i < length xs → x ≡ get_or xs i x → Writes labels (take i xs) chunks
     → Gives labels x.place x.part.content bytes → Writes labels (take (i + 1) xs) (chunks ++ chunk_at x.place bytes ∷ [])
 Writes_here labels xs i x chunks bytes within is writes gives =
     subst (λ (p : Placed). Writes labels (take (i + 1) xs) (chunks ++ chunk_at p.place bytes ∷ [])) (sym is)

@@ -1,17 +1,15 @@
 -- What the statements of a source write, and the image of these bytes, is one alone.
-use Rattle.std.proofs.Common.{◌≡◌, ℕ, ◌%◌, ◌^◌, ◌<◌, ◌≤◌, List, [], ◌∷◌, ◌++◌, length, Option, Some, sym, ap, subst, ◌∙◌}
+use Rattle.std.proofs.Common.{◌≡◌, ℕ, ◌<◌, List, [], ◌∷◌, ◌++◌, length, Option, Some, sym, ap, subst, ◌∙◌}
 use Rattle.std.specs.Int.{w32, to_be_bytes}
-use Rattle.std.proofs.Math.Bridge.{le_prop}
-use Rattle.std.proofs.Math.Nat.{ℕ_set}
 use Rattle.std.proofs.lemmas.List.{ext_get_or}
 use Rattle.std.proofs.lemmas.Option.{same_Some}
-use mathlib.Core.HLevel.{is_prop→PathP}
+use Rattle.xom_base.proofs.Images.{PlainImage-equal}
 use Rattle.xom_base.specs.declared.image.PlainImage.{PlainImage}
 use Rattle.mips_instruction.specs.Words.{word_of}
 use Rattle.mips_instruction.specs.declared.instruction.Ins.{Ins}
 use Rattle.asm_source.specs.declared.content.Content.{Content}
 use Rattle.asm_source.specs.declared.content.Content.TheVariants.{Label, Words, Bytes, Ascii, Space, Align, Org, Entry, LoadNumber, LoadAddress, Instruction}
-use Rattle.mips_asm.specs.declared.chunk.Chunk.{Chunk}
+use Rattle.mips_asm.specs.declared.placed_bytes.PlacedBytes.{PlacedBytes}
 use Rattle.mips_asm.specs.declared.placed.Placed.{Placed}
 use Rattle.mips_asm.specs.Encoding.{AreWords, Gives, IsCode}
 use Rattle.mips_asm.specs.Images.{IsWritten}
@@ -48,12 +46,12 @@ Gives-same labels place (LoadAddress r name) a b p q = IsCode-same place _ a b p
 Gives-same labels place (Instruction name arguments) a b p q = IsCode-same place _ a b p q
 
 -- one more chunk before the same chunks
-chunks-same : (place : ℕ) (a b : List ℕ) (front rest : List Chunk) → a ≡ b → front ≡ rest
-    → ◌≡◌ {A = List Chunk} (record { place = place; bytes = a } ∷ front) (record { place = place; bytes = b } ∷ rest)
+chunks-same : (place : ℕ) (a b : List ℕ) (front rest : List PlacedBytes) → a ≡ b → front ≡ rest
+    → ◌≡◌ {A = List PlacedBytes} (record { place = place; bytes = a } ∷ front) (record { place = place; bytes = b } ∷ rest)
 chunks-same place a b front rest one more = λ i. record { place = place; bytes = one i } ∷ more i
 
 -- the statements write their chunks and no others
-Writes-same : (labels : Labels) (placed : List Placed) (a b : List Chunk) → Writes labels placed a → Writes labels placed b → a ≡ b
+Writes-same : (labels : Labels) (placed : List Placed) (a b : List PlacedBytes) → Writes labels placed a → Writes labels placed b → a ≡ b
 Writes-same labels [] a b p q = p ∙ sym q
 Writes-same labels (x ∷ placed) a b p q =
     p.3
@@ -61,24 +59,14 @@ Writes-same labels (x ∷ placed) a b p q =
     ∙ sym q.3
 
 -- the bytes of an image are those of its chunks and no others
-IsWritten-same : (chunks : List Chunk) (a b : List ℕ) → IsWritten chunks a → IsWritten chunks b → a ≡ b
+IsWritten-same : (chunks : List PlacedBytes) (a b : List ℕ) → IsWritten chunks a → IsWritten chunks b → a ≡ b
 IsWritten-same chunks a b p q =
     let size : length a ≡ length b = p.whole ∙ sym q.whole in
     ext_get_or 0 a b size (λ k within. p.each k within ∙ sym (q.each k (subst (λ (n : ℕ). k < n) size within)))
-
--- two images of one entry and the same bytes are the same image: the facts beside them have one proof each
-pub PlainImage-equal : (a b : PlainImage) → a.entry ≡ b.entry → a.bytes ≡ b.bytes → a ≡ b
-PlainImage-equal a b entry bytes = λ i. record {
-  entry = entry i;
-  bytes = bytes i;
-  fits = is_prop→PathP (λ j. length (bytes j) ≤ 2 ^ 20) (λ j. le_prop) a.fits b.fits i;
-  aligned = is_prop→PathP (λ j. entry j % 4 ≡ 0) (λ j. ℕ_set (entry j % 4) 0) a.aligned b.aligned i;
-  private = is_prop→PathP (λ j. entry j < 2 ^ 20) (λ j. le_prop) a.private b.private i;
-}
 
 -- labels and statements at their places have one image
 pub IsPlacedImage-same : (placed : List Placed) (a b : PlainImage) → IsPlacedImage placed a → IsPlacedImage placed b → a ≡ b
 IsPlacedImage-same placed a b p q =
     let chunks : p.chunks ≡ q.chunks = Writes-same (labels_of placed) placed p.chunks q.chunks p.writes q.writes in
     PlainImage-equal a b (one_value _ a.entry b.entry p.entry q.entry)
-    (IsWritten-same q.chunks a.bytes b.bytes (subst (λ (c : List Chunk). IsWritten c a.bytes) chunks p.bytes) q.bytes)
+    (IsWritten-same q.chunks a.bytes b.bytes (subst (λ (c : List PlacedBytes). IsWritten c a.bytes) chunks p.bytes) q.bytes)

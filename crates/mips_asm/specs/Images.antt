@@ -1,31 +1,31 @@
 -- The bytes of an image, from the bytes that the statements write.
 use Rattle.std.specs.Prelude.{◌≡◌, ℕ, ◌+◌, ◌-◌, ◌<◌, ◌≤◌, ◌&&◌, nat_le, nat_lt, Bool, if◌then◌else◌, List, [], ◌∷◌, length, max, slice_index}
 use Rattle.mips_asm.specs.Layout.{limit}
-use Rattle.mips_asm.specs.declared.chunk.Chunk.{Chunk}
+use Rattle.mips_asm.specs.declared.placed_bytes.PlacedBytes.{PlacedBytes}
 
 -- one of the bytes stands at this place
-abbrev pub holds : Chunk → ℕ → Bool
+abbrev pub holds : PlacedBytes → ℕ → Bool
 holds chunk k = nat_le chunk.place k && nat_lt k (chunk.place + length chunk.bytes)
 
 -- the place behind its last byte, or 0 where it has none
-abbrev pub chunk_end : Chunk → ℕ
+abbrev pub chunk_end : PlacedBytes → ℕ
 chunk_end chunk = if nat_lt 0 (length chunk.bytes) then chunk.place + length chunk.bytes else 0
 
 -- the place behind the last byte of all, or 0 where there is none
-unfoldable pub chunks_end : List Chunk → ℕ
+unfoldable pub chunks_end : List PlacedBytes → ℕ
 chunks_end [] = 0
 chunks_end (chunk ∷ more) = max (chunk_end chunk) (chunks_end more)
 
 -- all its bytes are within the limit
-abbrev pub FitsImage : Chunk → Type 0
+abbrev pub FitsImage : PlacedBytes → Type 0
 FitsImage chunk = 0 < length chunk.bytes → chunk.place + length chunk.bytes ≤ limit
 
 -- what stands at a place where this byte stood, once the chunks are written
-unfoldable pub byte_over : ℕ → List Chunk → ℕ → ℕ
+unfoldable pub byte_over : ℕ → List PlacedBytes → ℕ → ℕ
 byte_over byte [] k = byte
 byte_over byte (chunk ∷ more) k = byte_over (if holds chunk k then slice_index chunk.bytes (k - chunk.place) else byte) more k
 
 -- these are the bytes, once the chunks are written in their order over zeros
-pub record IsWritten (chunks : List Chunk) (bytes : List ℕ) : Type 0 where
+pub record IsWritten (chunks : List PlacedBytes) (bytes : List ℕ) : Type 0 where
   pub whole : length bytes ≡ chunks_end chunks
   pub each : (k : ℕ) → k < length bytes → slice_index bytes k ≡ byte_over 0 chunks k

@@ -6,7 +6,7 @@ use Rattle.asm_source.specs.declared.content.Content.TheVariants.{Entry}
 use Rattle.asm_source.specs.declared.content.Part.{Part}
 use Rattle.xom_base.specs.Options.{◌>>=◌}
 use Rattle.asm_syntax.specs.Lines.{source_of}
-use Rattle.mips_asm.specs.declared.chunk.Chunk.{Chunk}
+use Rattle.mips_asm.specs.declared.placed_bytes.PlacedBytes.{PlacedBytes}
 use Rattle.mips_asm.specs.declared.fault.AsmFault.{AsmFault}
 use Rattle.mips_asm.specs.declared.fault.AsmFault.TheVariants.{Syntax, Duplicate, TooLong, Overlap, UnknownName, Range, NoMemory}
 use Rattle.mips_asm.specs.declared.placed.Placed.{Placed}
@@ -73,10 +73,10 @@ pub record IsFirst {X : Type 0} (line : X → ℕ) (Bad : X → Type 0) (xs : Li
 -- ---- sources
 
 -- what each statement writes, at its place
-abbrev pub Writes : Labels → List Placed → List Chunk → Type 0
+abbrev pub Writes : Labels → List Placed → List PlacedBytes → Type 0
 Writes labels [] chunks = chunks ≡ []
 Writes labels (placed ∷ more) chunks =
-    (bytes : List ℕ) × (rest : List Chunk) × Gives labels placed.place placed.part.content bytes
+    (bytes : List ℕ) × (rest : List PlacedBytes) × Gives labels placed.place placed.part.content bytes
     × (chunks ≡ record { place = placed.place; bytes = bytes } ∷ rest) × Writes labels more rest
 
 -- ---- labels and statements at their places
@@ -96,7 +96,7 @@ pub record IsPlacedImage (placed : List Placed) (image : PlainImage) : Type 0 wh
   pub no_overlap : overlap_line placed ≡ None
   pub no_unknown : unknown_line (labels_of placed) placed ≡ None
   pub entry : entry_by (labels_of placed) (last_entry placed) ≡ Some image.entry
-  pub chunks : List Chunk
+  pub chunks : List PlacedBytes
   pub writes : Writes (labels_of placed) placed chunks
   pub bytes : IsWritten chunks image.bytes
 

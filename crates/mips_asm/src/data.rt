@@ -8,11 +8,11 @@ use crate::fields::{number_of, wrapped};
 use crate::instructions::{instruction_at, load_address, load_number, one, words};
 use crate::labels::Labels;
 use crate::layout::{in_range, padding};
-use asm_source::{Argument, Content, Items, Value};
+use asm_source::{Argument, Content, Value};
 use asm_tokens::Integer;
 use mips_instruction::Ins;
 use std::alloc::Global;
-use xom_base::{ByteList, NoMemory};
+use xom_base::{ByteList, List, NoMemory};
 
 /// The bytes that a statement writes at a place, or none where a value of it is out of its range.
 pub fn bytes_of(
@@ -147,7 +147,7 @@ fn aligned(alloc: Global, power: u64, place: u64) -> Result<Option<ByteList>, No
 fn code(
     alloc: Global,
     place: u64,
-    instructions: Option<Items<Ins>>,
+    instructions: Option<List<Ins>>,
 ) -> Result<Option<ByteList>, NoMemory>
     ensures { IfOk result (λ found. MatchOption found ((bytes : List ℕ) → ¬ IsCode place instructions bytes) (IsCode place instructions)) }
 {
@@ -167,7 +167,7 @@ fn instruction(
     place: u64,
     name: &[u8],
     arguments: &[Argument],
-) -> Result<Option<Items<Ins>>, NoMemory>
+) -> Result<Option<List<Ins>>, NoMemory>
     requires { place < 2 ^ 20 }
     ensures { IfOk result (λ found. found ≡ option_map alone (instruction_at (place_in labels.now) place name.now arguments.now)) }
 {

@@ -5,13 +5,13 @@ ghost use Rattle.mips_asm.specs.Encoding.{Appends, AreWords, halves, instruction
 use crate::fields::{operand_of, wrapped};
 use crate::labels::Labels;
 use crate::layout::in_range;
-use asm_source::{Argument, Items};
+use asm_source::Argument;
 use asm_tokens::Integer;
 use mips_forms::{Operand, OperandKind, build, kinds};
 use mips_instruction::Ins;
 use mips_isa::{encode, fits};
 use std::alloc::Global;
-use xom_base::{ByteList, NoMemory};
+use xom_base::{ByteList, List, NoMemory};
 
 /// The bytes of instructions, where each has its operands in their ranges.
 #[tactic(auto, using(crate::proofs::JoinLaws::AreWords_more, crate::proofs::JoinLaws::AreWords_fits))]
@@ -43,7 +43,7 @@ pub fn instruction_at(
     let Some(shape) = kinds(name) else {
         return Ok(None);
     };
-    let mut operands = Items::new(alloc);
+    let mut operands = List::new(alloc);
     if !add_operands(labels, pc, shape, arguments, &mut operands)? {
         return Ok(None);
     }
@@ -57,7 +57,7 @@ fn add_operands(
     pc: u32,
     shape: &[OperandKind],
     arguments: &[Argument],
-    operands: &mut Items<Operand>,
+    operands: &mut List<Operand>,
 ) -> Result<bool, NoMemory>
     requires { pc < 2 ^ 20 }
     ensures { IfOk result (λ all. Appends (operands_of (place_in labels.now) pc shape.now arguments.now) operands.old all operands.new) }
@@ -81,7 +81,7 @@ pub fn load_number(
     alloc: Global,
     register: u8,
     number: Integer,
-) -> Result<Option<Items<Ins>>, NoMemory>
+) -> Result<Option<List<Ins>>, NoMemory>
     ensures { IfOk result (λ found. found ≡ load_number register number) }
 {
     if in_range(0x8000, 0x7fff, number) {
@@ -120,7 +120,7 @@ pub fn load_address(
     labels: &Labels,
     register: u8,
     name: &[u8],
-) -> Result<Option<Items<Ins>>, NoMemory>
+) -> Result<Option<List<Ins>>, NoMemory>
     ensures { IfOk result (λ found. found ≡ load_address (place_in labels.now) register name.now) }
 {
     match labels.place(name) {
@@ -130,21 +130,21 @@ pub fn load_address(
 }
 
 /// One instruction.
-pub fn one(alloc: Global, ins: Ins) -> Result<Items<Ins>, NoMemory>
+pub fn one(alloc: Global, ins: Ins) -> Result<List<Ins>, NoMemory>
     ensures { IfOk result (λ list. list ≡ ins ∷ []) }
 {
-    let mut list = Items::new(alloc);
+    let mut list = List::new(alloc);
     list.push(ins)?;
     Ok(list)
 }
 
 /// The upper and the lower half of a number into a register.
-fn halves(alloc: Global, register: u8, number: u32) -> Result<Items<Ins>, NoMemory>
+fn halves(alloc: Global, register: u8, number: u32) -> Result<List<Ins>, NoMemory>
     ensures { IfOk result (λ list. list ≡ halves register number) }
 {
     let upper = (number / 0x1_0000) as u16;
     let lower = (number % 0x1_0000) as u16;
-    let mut list = Items::new(alloc);
+    let mut list = List::new(alloc);
     list.push(Ins::Lui {
         rt: register,
         imm: upper,

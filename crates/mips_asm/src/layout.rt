@@ -4,15 +4,16 @@ ghost use Rattle.mips_asm.specs.Passes.{AnswersPass, too_long_line};
 
 use crate::AsmFault;
 use crate::placed::Placed;
-use asm_source::{Content, Items, Part};
+use asm_source::{Content, Part};
 use asm_tokens::Integer;
 use std::alloc::Global;
+use xom_base::List;
 
 /// How many bytes an image may have.
 pub const LIMIT: u64 = 1 << 20;
 
 /// Gives each label and statement its place. It costs time linear in their number.
-pub fn layout(alloc: Global, parts: Items<Part>) -> Result<Vec<Placed>, AsmFault>
+pub fn layout(alloc: Global, parts: List<Part>) -> Result<Vec<Placed>, AsmFault>
     ensures placed { IfOk result (λ placed. placed.items ≡ layout_of 0 parts) }
     ensures inside { IfOk result (λ placed. All IsInside placed.items) }
     ensures sized { IfOk result (λ placed. All IsSized placed.items) }

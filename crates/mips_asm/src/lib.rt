@@ -6,7 +6,6 @@
 #![tactic(auto)]
 
 mod assembly;
-mod chunk;
 mod data;
 mod duplicates;
 mod entry;
@@ -20,6 +19,7 @@ mod layout;
 mod naming;
 mod overlap;
 mod placed;
+mod placed_bytes;
 mod ranges;
 mod unknown;
 

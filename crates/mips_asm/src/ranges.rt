@@ -6,7 +6,7 @@ ghost use Rattle.mips_asm.specs.Passes.{line_of};
 ghost use Rattle.mips_asm.specs.Sources.{IsFirst, IsOutOfRange, Writes};
 
 use crate::AsmFault;
-use crate::chunk::Chunk;
+use crate::placed_bytes::PlacedBytes;
 use crate::data::bytes_of;
 use crate::labels::Labels;
 use crate::placed::Placed;
@@ -19,7 +19,7 @@ pub fn chunks(
     labels: &Labels,
     bad_entry: Option<u64>,
     placed: &[Placed],
-) -> Result<Vec<Chunk>, AsmFault>
+) -> Result<Vec<PlacedBytes>, AsmFault>
     requires inside { All IsInside placed.now }
     requires sized { All IsSized placed.now }
     ensures found { IfOk result (λ chunks. Writes (place_in labels.now) placed.now chunks.items) }
@@ -36,7 +36,7 @@ pub fn chunks(
         let Some(bytes) = bytes_of(alloc, labels, placed.place, &placed.part.content)? else {
             return Err(AsmFault::Range(line));
         };
-        chunks.push(Chunk {
+        chunks.push(PlacedBytes {
             place: placed.place,
             bytes,
         })?;

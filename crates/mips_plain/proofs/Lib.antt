@@ -1,4 +1,5 @@
 pub mod Sizes
+pub mod Filled
 pub mod SameSteps
 pub mod Runs
 pub mod Stores

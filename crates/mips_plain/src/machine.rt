@@ -32,7 +32,7 @@ impl Model for Plain {
 
 impl Plain {
     /// The image's program before its first step: no cell is owned, and the pair begins at the
-    /// image's entry. Goes over all of private memory once.
+    /// image's entry. Takes room for all of private memory, and touches of it what the image fills.
     #[tactic(auto, unfolding(crate::specs::Machine::start))]
     pub fn new(alloc: Global, image: &PlainImage) -> Result<Plain, NoMemory>
         ensures { IfOk result (λ p. p ≡ start image.now) }

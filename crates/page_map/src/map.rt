@@ -1,5 +1,5 @@
-ghost use Rattle.std.specs.Prelude.{◌≡◌, ◌≤◌, ◌<◌, ◌↔◌, IfOk, IsErr, IsNone, IsSome, None, OnErr, OnOk, Some, length};
-ghost use Rattle.page_map.specs.Pages.{frame_of, no_pages, nothing_mapped, with_page, without_pages};
+ghost use Rattle.std.specs.Prelude.{◌≡◌, ◌≤◌, ◌<◌, ◌↔◌, IfOk, IsErr, IsNone, IsSome, None, OnErr, OnOk, Some};
+ghost use Rattle.page_map.specs.Pages.{ChangesPage, DropsPages, IsPageMap, frame_of, no_pages, nothing_mapped, with_page, without_pages};
 
 use crate::{Mapped, NotMapped};
 use std::alloc::Global;
@@ -16,14 +16,13 @@ pub struct PageMap {
 }
 
 impl Model for PageMap {
-    ghost use Rattle.std.specs.Prelude.{◌≡◌, length};
-    ghost use Rattle.page_map.specs.Pages.{Pages};
+    ghost use Rattle.page_map.specs.Pages.{IsPageMap, Pages};
 
     ghost Value = { Pages };
 
     ghost view = { λ m. m.slots.items };
 
-    ghost invariant = { λ m. length m.slots.items ≡ 17 };
+    ghost invariant = { λ m. IsPageMap m.slots.items };
 }
 
 impl PageMap {
@@ -43,6 +42,7 @@ impl PageMap {
         requires page { page < 256 }
         ensures refused { IsErr result ↔ IsSome (frame_of self.old slot page) }
         ensures ok { OnOk result (self.new ≡ with_page self.old slot page (Some frame)) }
+        ensures frames { OnOk result (ChangesPage self.old self.new slot page (Some frame)) }
         ensures err { OnErr result (self.new ≡ self.old) }
     {
         if self.frame_of(slot, page).is_some() {
@@ -60,6 +60,7 @@ impl PageMap {
         ensures refused { IsErr result ↔ IsNone (frame_of self.old slot page) }
         ensures frame { IfOk result (λ frame. frame_of self.old slot page ≡ Some frame) }
         ensures ok { OnOk result (self.new ≡ with_page self.old slot page None) }
+        ensures frames { OnOk result (ChangesPage self.old self.new slot page None) }
         ensures err { OnErr result (self.new ≡ self.old) }
     {
         let Some(frame) = self.frame_of(slot, page) else {
@@ -83,7 +84,8 @@ impl PageMap {
     pub fn drop_slot(&mut self, slot: u8)
         requires some { 1 ≤ slot }
         requires known { slot ≤ 16 }
-        ensures { self.new ≡ without_pages self.old slot }
+        ensures map { self.new ≡ without_pages self.old slot }
+        ensures frames { DropsPages self.old self.new slot }
     {
         self.slots[usize::from(slot)] = empty_pages();
     }
@@ -96,10 +98,10 @@ fn empty_pages() -> [Option<u32>; 256]
     [None; 256]
 }
 
-#[tactic(auto, unfolding(crate::specs::Pages::nothing_mapped))]
+#[tactic(auto, using(crate::proofs::Frames::nothing_mapped_is_map), unfolding(crate::specs::Pages::nothing_mapped))]
 fn no_slots(alloc: Global) -> Result<Vec<[Option<u32>; 256]>, NoMemory>
     ensures mapped { IfOk result (λ slots. slots.items ≡ nothing_mapped) }
-    ensures places { IfOk result (λ slots. length slots.items ≡ 17) }
+    ensures map { IfOk result (λ slots. IsPageMap slots.items) }
 {
     Ok(vec![in alloc; empty_pages(); 17]?)
 }

@@ -1,1 +1,3 @@
+pub mod FieldLaws
+pub mod StepWords
 pub mod Texts

@@ -1,1 +1,2 @@
+pub mod StepFields
 pub mod StepTexts

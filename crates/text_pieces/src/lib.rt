@@ -1,12 +1,14 @@
 //! The pieces that printed texts are made of, each added at the end of one growing list of bytes:
-//! bytes as they are, numbers in decimal, and numbers of 32 bits as eight hexadecimal digits.
+//! bytes as they are or as two hexadecimal digits each, numbers in decimal, and numbers of 32 bits as
+//! eight hexadecimal digits.
 //!
 //! So a text of a million lines is one list, and no piece has a list of its own. Where memory runs
 //! out, what stood there before still stands in front, and a part of the piece may follow.
 #![tactic(auto)]
 
-ghost use Rattle.std.specs.Prelude.{◌≡◌, ◌++◌, OnErr, OnOk};
+ghost use Rattle.std.specs.Prelude.{◌≡◌, ◌++◌, ◌∷◌, [], OnErr, OnOk};
 ghost use Rattle.std.specs.Fmt.{decimal};
+ghost use Rattle.hex.specs.Hex.{encode_lower};
 ghost use Rattle.text_pieces.specs.Pieces.{Begins, hex8 as hex8_of};
 
 use itoa::Buffer;
@@ -25,8 +27,27 @@ pub fn push_decimal(text: &mut Vec<u8>, n: u32) -> Result<(), NoMemory>
     ensures ok { OnOk result (text.new.items ≡ text.old.items ++ decimal n) }
     ensures err { OnErr result (Begins text.old.items text.new.items) }
 {
+    push_decimal64(text, u64::from(n))
+}
+
+/// Adds a number below 2^64 in decimal, without leading zeros.
+pub fn push_decimal64(text: &mut Vec<u8>, n: u64) -> Result<(), NoMemory>
+    ensures ok { OnOk result (text.new.items ≡ text.old.items ++ decimal n) }
+    ensures err { OnErr result (Begins text.old.items text.new.items) }
+{
     let mut digits = Buffer::new();
     push_bytes(text, digits.format(n).as_bytes())
+}
+
+/// Adds bytes as two hexadecimal digits each, in lower case. No list is made for them.
+pub fn push_hex(text: &mut Vec<u8>, bytes: &[u8]) -> Result<(), NoMemory>
+    ensures ok { OnOk result (text.new.items ≡ text.old.items ++ encode_lower bytes.now) }
+    ensures err { OnErr result (Begins text.old.items text.new.items) }
+{
+    for byte in bytes {
+        push_bytes(text, hex2(*byte).as_slice())?;
+    }
+    Ok(())
 }
 
 /// Adds a number as eight hexadecimal digits in lower case, the highest first.
@@ -43,6 +64,17 @@ pub fn hex8(n: u32) -> [u8; 8]
 {
     let mut digits = [0; 8];
     match hex::encode_to_slice(n.to_be_bytes(), &mut digits) {
+        Ok(()) => digits,
+        Err(_) => unreachable!(),
+    }
+}
+
+/// The two hexadecimal digits of a byte, in lower case.
+fn hex2(byte: u8) -> [u8; 2]
+    ensures { result ≡ encode_lower (byte ∷ []) }
+{
+    let mut digits = [0; 2];
+    match hex::encode_to_slice([byte], &mut digits) {
         Ok(()) => digits,
         Err(_) => unreachable!(),
     }

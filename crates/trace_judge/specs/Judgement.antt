@@ -1,12 +1,12 @@
 -- What a journal says of its guests beside their owners' programs, and where it names a forgery or a collision.
--- Entries count from 1. Both searches run over any list of entries, also one that no machine made.
-use Rattle.std.specs.Prelude.{ℕ, ◌+◌, ◌==◌, ◌&&◌, not, Bool, false, List, [], ◌∷◌, ◌++◌, length, Option, Some, None, if◌then◌else◌}
-use Rattle.std.specs.List.{filter_map, flat_map, list_any, position}
-use Rattle.std.specs.Option.{option_map, option_or, unwrap_or}
-use Rattle.std.specs.Str.{bytes_eq}
+-- Entries count from 1. All is said of any list of entries, also of one that no machine made.
+use Rattle.std.specs.Prelude.{ℕ, ◌==◌, List, [], ◌∷◌, Option, Some, None, if◌then◌else◌}
+use Rattle.std.specs.List.{filter_map}
+use Rattle.std.specs.Option.{unwrap_or}
 use Rattle.xom_base.specs.declared.entry.Entry.{Entry}
 use Rattle.xom_base.specs.declared.entry.Entry.TheVariants as entry
 use Rattle.xom_base.specs.declared.key.ImageId.{ImageId}
+use Rattle.xom_base.specs.declared.key.Key256.{Key256}
 use Rattle.xom_base.specs.declared.step.Step.{Step}
 use Rattle.xom_base.specs.declared.step.StepEnd.{StepEnd}
 use Rattle.xom_base.specs.declared.step.StepEnd.TheVariants as ended
@@ -17,6 +17,7 @@ use Rattle.mips_plain.specs.declared.verdict.Verdict.{Verdict}
 use Rattle.mips_plain.specs.declared.verdict.Verdict.TheVariants.{NoOwner}
 use Rattle.mips_plain.specs.Machine.{start}
 use Rattle.mips_plain.specs.Follows.{verdict_from}
+use Rattle.journal_findings.specs.Findings.{collision, forged, sealed_by}
 use Rattle.trace_judge.specs.declared.report.GuestEnd.{GuestEnd}
 use Rattle.trace_judge.specs.declared.report.GuestEnd.TheVariants.{Ended, Stopped, Killed, Running}
 use Rattle.trace_judge.specs.declared.report.GuestLine.{GuestLine}
@@ -64,71 +65,12 @@ line_in owners entries other = None
 abbrev pub guest_lines : List Owner → List Entry → List GuestLine
 guest_lines owners entries = filter_map (line_in owners entries) entries
 
--- ---- Forgeries
+-- ---- The whole judgement
 
--- a key and the message that is sealed under it
-abbrev pub Sealing : Type 0
-Sealing = List ℕ × List ℕ
-
--- what an owner sealed. Guests come in plain as yet, so owners seal nothing
-abbrev pub sealing_of : Owner → List Sealing
-sealing_of owner = []
-
--- what all owners sealed
-abbrev pub sealed_by : List Owner → List Sealing
-sealed_by owners = flat_map sealing_of owners
-
--- what the machine sealed by this entry, if it is a Seal
-abbrev pub seal_in : Entry → Option Sealing
-seal_in (entry.Seal key message) = Some (key, message)
-seal_in other = None
-
--- the key and the message are those of the sealing
-abbrev pub is_sealing : List ℕ → List ℕ → Sealing → Bool
-is_sealing key message sealing = bytes_eq key sealing.0 && bytes_eq message sealing.1
-
--- the key with the message stands in the list
-abbrev pub is_sealed : List ℕ → List ℕ → List Sealing → Bool
-is_sealed key message sealings = list_any (is_sealing key message) sealings
-
--- the number of the entry behind these, if it accepts what is neither sealed by an owner nor by an earlier entry
-abbrev pub forgery_at : List Sealing → List Entry → Entry → Option ℕ
-forgery_at sealed before (entry.Accept key message place) =
-    if is_sealed key message (sealed ++ filter_map seal_in before) then None else Some (length before + 1)
-forgery_at sealed before other = None
-
--- ---- Collisions
-
--- the entry has the same digest for another text
-abbrev pub collides : List ℕ → List ℕ → Entry → Bool
-collides preimage digest (entry.Hash other same) = bytes_eq digest same && not (bytes_eq preimage other)
-collides preimage digest other = false
-
--- the numbers of the first entry that collides with the one behind these, and of that one, if any does
-abbrev pub collision_at : List Entry → Entry → Option (ℕ × ℕ)
-collision_at before (entry.Hash preimage digest) =
-    option_map (λ i. (i + 1, length before + 1)) (position (collides preimage digest) before)
-collision_at before other = None
-
--- ---- The searches
-
--- what is found first, going through the entries, where each is looked at with those before it
-abbrev pub first_found : {A : Type 0} → (List Entry → Entry → Option A) → List Entry → List Entry → Option A
-first_found find before [] = None
-first_found find before (entry ∷ entries) = option_or (find before entry) (first_found find (before ++ entry ∷ []) entries)
-
--- the number of the first forged Accept
-abbrev pub forged : List Sealing → List Entry → Option ℕ
-forged sealed entries = first_found (forgery_at sealed) [] entries
-
--- the numbers of the first Hash that collides with an earlier one and of the least such earlier one, that one first
-abbrev pub collision : List Entry → Option (ℕ × ℕ)
-collision entries = first_found collision_at [] entries
-
--- the whole judgement
-abbrev pub judgement : List Owner → List Entry → Report
-judgement owners entries = record {
+-- by the key of the machine that owners sealed for, the owners, and the journal's entries
+abbrev pub judgement : Key256 → List Owner → List Entry → Report
+judgement machine owners entries = record {
   guests = guest_lines owners entries;
-  forged = forged (sealed_by owners) entries;
+  forged = forged (sealed_by machine owners) entries;
   collision = collision entries;
 }

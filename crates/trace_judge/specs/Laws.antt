@@ -1,5 +1,5 @@
--- What a judgement says of guests that did what their programs do alone, and that its findings stay as a journal grows.
-use Rattle.std.specs.Prelude.{ℕ, ◌≡◌, List, ◌++◌, All, Some, length}
+-- What a judgement says of guests that did what their programs do alone.
+use Rattle.std.specs.Prelude.{◌≡◌, List, All, Some, length}
 use Rattle.xom_base.specs.declared.entry.Entry.{Entry}
 use Rattle.xom_base.specs.declared.entry.Entry.TheVariants as entry
 use Rattle.xom_base.specs.Entries.{steps_of}
@@ -9,7 +9,7 @@ use Rattle.mips_plain.specs.declared.verdict.Verdict.TheVariants.{Follows}
 use Rattle.mips_plain.specs.Machine.{State, start}
 use Rattle.mips_plain.specs.Follows.{Reaches}
 use Rattle.trace_judge.specs.declared.report.GuestLine.{GuestLine}
-use Rattle.trace_judge.specs.Judgement.{Sealing, guest_lines, forged, collision}
+use Rattle.trace_judge.specs.Judgement.{guest_lines}
 
 -- an installed guest has an owner, and its steps are those of the owner's program run alone
 abbrev pub IsRun : List Owner → List Entry → Entry → Type 0
@@ -24,11 +24,3 @@ DoesFollow entries line = line.verdict ≡ Follows (length (steps_of line.instal
 -- where each installed guest did what its program does alone, each line says that it follows
 abbrev pub RunsAreFollowed : Type 0
 RunsAreFollowed = (owners : List Owner) (entries : List Entry) → All (IsRun owners entries) entries → All (DoesFollow entries) (guest_lines owners entries)
-
--- a forgery that a journal names, each longer journal names
-abbrev pub ForgeriesStay : Type 0
-ForgeriesStay = (sealed : List Sealing) (entries more : List Entry) (n : ℕ) → forged sealed entries ≡ Some n → forged sealed (entries ++ more) ≡ Some n
-
--- a collision that a journal names, each longer journal names
-abbrev pub CollisionsStay : Type 0
-CollisionsStay = (entries more : List Entry) (pair : ℕ × ℕ) → collision entries ≡ Some pair → collision (entries ++ more) ≡ Some pair

@@ -1,3 +1,9 @@
 pub mod Judgement
 pub mod ReportText
 pub mod Laws
+pub mod Numbers
+pub mod Maps
+pub mod HashSearch
+pub mod SealSearch
+pub mod GuestWatch
+pub mod Judging

@@ -1,149 +1,313 @@
-ghost use Rattle.std.specs.Prelude.{◌≡◌, IfOk};
-ghost use Rattle.xom_base.specs.Entries.{step_in as step_in_of, steps_of};
-ghost use Rattle.mips_plain.specs.Follows.{given_of as given_by, is_step, verdict_from};
+ghost use Rattle.std.specs.Prelude.{◌≡◌, ◌<◌, ◌+◌, ◌^◌, ◌++◌, [], ◌∷◌, List, length, map, true, OnOk, OnErr, IfOk, if◌then◌else◌};
+ghost use Rattle.xom_base.specs.declared.entry.Entry.{Entry as AnEntry};
+ghost use Rattle.xom_owners.specs.declared.owner.Owner.{Owner};
+ghost use Rattle.trace_judge.specs.declared.guests.Watch.TheVariants.{Departed};
+ghost use Rattle.trace_judge.specs.GuestWatch.{end_after_entry as end_after_of, line_after, next_guest, watch_in};
+ghost use Rattle.mips_plain.specs.Follows.{given_of as given_by, is_step};
 ghost use Rattle.mips_plain.specs.Machine.{plain as plain_of};
-ghost use Rattle.trace_judge.specs.Judgement.{end_in as end_by, end_of as first_end, guest_lines as lines_of, line_in, verdict_of};
+ghost use Rattle.trace_judge.specs.Judgement.{guest_lines};
+ghost use Rattle.trace_judge.specs.Numbers.{install_count, is_installed as is_installed_by, may_stand as may_stand_by};
 
+use crate::steps::{does, end_in, step_in};
 use crate::{GuestEnd, GuestLine, GuestLineList, Verdict};
-use mips_plain::{Given, Plain, PlainStep};
+use mips_plain::Plain;
 use std::alloc::Global;
-use xom_base::{Entry, ImageId, NoMemory, Received, Step, StepEnd, step_eq};
+use std::mem::replace;
+use xom_base::{Entry, ImageId, NoMemory, Step};
 use xom_owners::OwnerList;
 
-/// A line for each Install entry, in their order.
-pub fn guest_lines(
-    alloc: Global,
-    owners: &OwnerList,
-    entries: &[Entry],
-) -> Result<GuestLineList, NoMemory>
-    ensures { IfOk result (λ lines. lines ≡ lines_of owners.now entries.now) }
+/// What is known of an install's steps so far.
+#[derive(Drop)]
+pub enum Watch {
+    /// No owner has its id.
+    NoOwner,
+    /// All of them follow, so many. The plain machine is where they lead.
+    Runs { plain: Plain, count: u64 },
+    /// All of them follow, so many, and the program ended with the last. Another one departs.
+    Over { count: u64 },
+    /// This one departs. What comes behind it doesn't matter.
+    Departed { place: u64 },
+}
+
+/// An install, as far as the entries tell of it.
+#[derive(Drop)]
+pub struct Guest {
+    pub install: u64,
+    pub slot: u8,
+    pub id: ImageId,
+    pub watch: Watch,
+    pub end: GuestEnd,
+}
+
+impl Watch {
+    ghost use Rattle.trace_judge.specs.GuestWatch.{verdict_after, watch_after_step};
+
+    /// Takes the next step. Wants no memory, and lets the machine go where the step departs or is the last.
+    fn step(self, step: &Step) -> Watch
+        ensures { result ≡ watch_after_step self step.now }
+    {
+        match self {
+            Watch::Runs { plain, count } => run(plain, count.wrapping_add(1), step),
+            Watch::Over { count } => Watch::Departed {
+                place: count.wrapping_add(1),
+            },
+            Watch::NoOwner => Watch::NoOwner,
+            Watch::Departed { place } => Watch::Departed { place },
+        }
+    }
+
+    /// The verdict so far.
+    fn verdict(&self) -> Verdict
+        ensures { result ≡ verdict_after self.now [] }
+    {
+        match self {
+            Watch::NoOwner => Verdict::NoOwner,
+            Watch::Runs {
+                plain: _plain,
+                count,
+            } => Verdict::Follows(*count),
+            Watch::Over { count } => Verdict::Follows(*count),
+            Watch::Departed { place } => Verdict::Departs(*place),
+        }
+    }
+}
+
+/// Lets a program take a step, its `place`th.
+fn run(plain: Plain, place: u64, step: &Step) -> Watch
+    ensures { result ≡ (if is_step step.now (plain_of plain (given_by step.now.received)).0 then watch_in (plain_of plain (given_by step.now.received)).1 place else Departed place) }
+{
+    let mut machine = plain;
+    if !does(&mut machine, step) {
+        return Watch::Departed { place };
+    }
+    if machine.is_over() {
+        return Watch::Over { count: place };
+    }
+    Watch::Runs {
+        plain: machine,
+        count: place,
+    }
+}
+
+impl Guest {
+    ghost use Rattle.trace_judge.specs.GuestWatch.{new_guest};
+
+    /// An install before its first step. Makes its plain machine, where it has an owner.
+    fn new(
+        alloc: Global,
+        owners: &OwnerList,
+        install: u64,
+        slot: u8,
+        id: ImageId,
+    ) -> Result<Guest, NoMemory>
+        ensures { IfOk result (λ g. g ≡ new_guest owners.now install slot id) }
+    {
+        let watch = match owners.of_id(&id) {
+            None => Watch::NoOwner,
+            Some(owner) => Watch::Runs {
+                plain: Plain::new(alloc, &owner.plain)?,
+                count: 0,
+            },
+        };
+        Ok(Guest {
+            install,
+            slot,
+            id,
+            watch,
+            end: GuestEnd::Running,
+        })
+    }
+
+    /// Takes the next entry. Wants no memory.
+    fn take(self, entry: &Entry) -> Guest
+        ensures { result ≡ next_guest self entry.now }
+    {
+        let Guest {
+            install,
+            slot,
+            id,
+            watch,
+            end,
+        } = self;
+        let next = match step_in(install, entry) {
+            None => watch,
+            Some(step) => watch.step(&step),
+        };
+        Guest {
+            install,
+            slot,
+            id,
+            watch: next,
+            end: next_end(end, install, entry),
+        }
+    }
+
+    /// The line of the report.
+    fn line(&self) -> GuestLine
+        ensures { result ≡ line_after self.now [] }
+    {
+        GuestLine {
+            install: self.install,
+            slot: self.slot,
+            id: self.id,
+            verdict: self.watch.verdict(),
+            end: self.end,
+        }
+    }
+}
+
+/// The end after an entry.
+fn next_end(end: GuestEnd, install: u64, entry: &Entry) -> GuestEnd
+    ensures { result ≡ end_after_of end install entry.now }
+{
+    match end {
+        GuestEnd::Running => end_in(install, entry).unwrap_or(GuestEnd::Running),
+        other => other,
+    }
+}
+
+/// The installs so far, in their order.
+#[derive(Drop)]
+pub struct Guests {
+    pub items: Vec<Guest>,
+}
+
+impl Guests {
+    ghost use Rattle.trace_judge.specs.GuestWatch.{IsFed, IsInstall, guests_after, new_guest, next_guests};
+
+    /// Nothing was fed. It takes no memory.
+    #[tactic(auto, using(crate::proofs::GuestLaws::nothing_fed))]
+    pub fn new(alloc: Global) -> Guests
+        ensures { (owners : List Owner) → IsFed owners result.items.items [] }
+    {
+        Guests {
+            items: Vec::new(alloc),
+        }
+    }
+
+    /// Whether an entry may stand next.
+    pub fn may_stand(&self, entry: &Entry) -> bool
+        ensures { result ≡ may_stand_by (length self.now.items.items) entry.now }
+    {
+        let count = self.items.len() as u64;
+        match *entry {
+            Entry::Install { install, .. } => install == count + 1,
+            Entry::Step { install, .. } => is_installed(count, install),
+            Entry::Trap { install, .. } => is_installed(count, install),
+            Entry::Stop { install, .. } => is_installed(count, install),
+            Entry::Kill { install } => is_installed(count, install),
+            _ => true,
+        }
+    }
+
+    /// Takes the next entry. Costs the same however many there were.
+    pub fn feed(&mut self, alloc: Global, owners: &OwnerList, entry: &Entry) -> Result<(), NoMemory>
+        ensures ok { OnOk result ((es : List AnEntry) → length es + 1 < 2 ^ 64 → may_stand_by (install_count es) entry.now ≡ true → IsFed owners.now self.old.items.items es → IsFed owners.now self.new.items.items (es ++ entry.now ∷ [])) }
+        ensures err { OnErr result (self.new.items.items ≡ self.old.items.items) }
+        ensures only { OnErr result (IsInstall entry.now) }
+    {
+        match self.look(alloc, owners, entry) {
+            Ok(()) => Ok(()),
+            Err(e) => Err(e),
+        }
+    }
+
+    /// Looks at an entry.
+    fn look(&mut self, alloc: Global, owners: &OwnerList, entry: &Entry) -> Result<(), NoMemory>
+        ensures ok { OnOk result (self.new.items.items ≡ next_guests owners.now self.old.items.items entry.now) }
+        ensures err { OnErr result (self.new.items.items ≡ self.old.items.items) }
+        ensures only { OnErr result (IsInstall entry.now) }
+    {
+        match *entry {
+            Entry::Install {
+                install,
+                slot,
+                id,
+                ..
+            } => self.install(alloc, owners, install, slot, id),
+            Entry::Step { install, .. } => {
+                self.take(install, entry);
+                Ok(())
+            }
+            Entry::Stop { install, .. } => {
+                self.take(install, entry);
+                Ok(())
+            }
+            Entry::Kill { install } => {
+                self.take(install, entry);
+                Ok(())
+            }
+            _ => Ok(()),
+        }
+    }
+
+    /// Adds an install.
+    fn install(
+        &mut self,
+        alloc: Global,
+        owners: &OwnerList,
+        install: u64,
+        slot: u8,
+        id: ImageId,
+    ) -> Result<(), NoMemory>
+        ensures ok { OnOk result (self.new.items.items ≡ self.old.items.items ++ new_guest owners.now install slot id ∷ []) }
+        ensures err { OnErr result (self.new.items.items ≡ self.old.items.items) }
+    {
+        let guest = Guest::new(alloc, owners, install, slot, id)?;
+        match self.items.push(guest) {
+            Ok(()) => Ok(()),
+            Err(_) => Err(NoMemory),
+        }
+    }
+
+    /// Lets an install take the next entry, if there is one of this number.
+    fn take(&mut self, install: u64, entry: &Entry)
+        ensures { self.new.items.items ≡ guests_after self.old.items.items install entry.now }
+    {
+        let place = install.saturating_sub(1) as usize;
+        if place < self.items.len() {
+            advance(&mut self.items[place], entry);
+        }
+    }
+
+    /// The lines of the report.
+    pub fn lines(&self, alloc: Global) -> Result<GuestLineList, NoMemory>
+        ensures { IfOk result (λ lines. (owners : List Owner) → (es : List AnEntry) → IsFed owners self.now.items.items es → lines ≡ guest_lines owners es) }
+    {
+        let lines = lines_of(alloc, &self.items)?;
+        Ok(lines)
+    }
+}
+
+/// Whether there was an install of this number, where there were so many.
+fn is_installed(count: u64, install: u64) -> bool
+    ensures { result ≡ is_installed_by count install }
+{
+    1 <= install && install <= count
+}
+
+/// The lines of some guests.
+fn lines_of(alloc: Global, guests: &[Guest]) -> Result<GuestLineList, NoMemory>
+    ensures { IfOk result (λ lines. lines ≡ map (λ g. line_after g []) guests.now) }
 {
     let mut lines = GuestLineList::new(alloc);
-    for entry in entries {
-        if let Some(line) = line_of(alloc, owners, entries, entry)? {
-            lines.push(line)?;
-        }
+    for guest in guests {
+        lines.push(guest.line())?;
     }
     Ok(lines)
 }
 
-/// The line of an entry, where it is an Install.
-fn line_of(
-    alloc: Global,
-    owners: &OwnerList,
-    entries: &[Entry],
-    entry: &Entry,
-) -> Result<Option<GuestLine>, NoMemory>
-    ensures { IfOk result (λ line. line ≡ line_in owners.now entries.now entry.now) }
+/// Lets a guest take an entry.
+fn advance(guest: &mut Guest, entry: &Entry)
+    ensures { guest.new ≡ next_guest guest.old entry.now }
 {
-    match *entry {
-        Entry::Install {
-            install,
-            slot,
-            id,
-            ..
-        } => Ok(Some(GuestLine {
-            install,
-            slot,
-            id,
-            verdict: verdict(alloc, owners, entries, install, &id)?,
-            end: end_of(install, entries),
-        })),
-        _ => Ok(None),
-    }
-}
-
-/// The steps of an install beside the program of the first owner of its id.
-fn verdict(
-    alloc: Global,
-    owners: &OwnerList,
-    entries: &[Entry],
-    install: u64,
-    id: &ImageId,
-) -> Result<Verdict, NoMemory>
-    ensures { IfOk result (λ v. v ≡ verdict_of owners.now entries.now install id.now) }
-{
-    match owners.of_id(id) {
-        None => Ok(Verdict::NoOwner),
-        Some(owner) => Ok(follow(Plain::new(alloc, &owner.plain)?, install, entries)),
-    }
-}
-
-/// The steps of an install beside a plain machine, from its state on.
-fn follow(mut plain: Plain, install: u64, entries: &[Entry]) -> Verdict
-    ensures { result ≡ verdict_from plain (steps_of install entries.now) 0 }
-{
-    let mut count = 0;
-    for entry in entries {
-        if let Some(step) = step_in(install, entry) {
-            count += 1;
-            if !does(&mut plain, &step) {
-                return Verdict::Departs(count);
-            }
-        }
-    }
-    Verdict::Follows(count)
-}
-
-/// The step of an install in an entry.
-fn step_in(install: u64, entry: &Entry) -> Option<Step>
-    ensures { result ≡ step_in_of install entry.now }
-{
-    match *entry {
-        Entry::Step { install: n, step } if n == install => Some(step),
-        _ => None,
-    }
-}
-
-/// Whether the plain machine, given what the step received, does this step.
-fn does(plain: &mut Plain, step: &Step) -> bool
-    ensures answer { result ≡ is_step step.now (plain_of plain.old (given_by step.now.received)).0 }
-    ensures state { plain.new ≡ (plain_of plain.old (given_by step.now.received)).1 }
-{
-    match plain.step(given_of(step.received)) {
-        PlainStep::Did(done) => step_eq(&done, step),
-        _ => false,
-    }
-}
-
-/// What a step was given.
-fn given_of(received: Received) -> Given
-    ensures { result ≡ given_by received }
-{
-    match received {
-        Received::Nothing => Given::Nothing,
-        Received::Cell(value) => Given::Value(value),
-        Received::Null {
-            address: _address,
-            value,
-        } => Given::Value(value),
-        Received::Signal(n) => Given::Signal(n),
-    }
-}
-
-/// The first end of an install.
-fn end_of(install: u64, entries: &[Entry]) -> GuestEnd
-    ensures { result ≡ first_end install entries.now }
-{
-    for entry in entries {
-        if let Some(end) = end_in(install, entry) {
-            return end;
-        }
-    }
-    GuestEnd::Running
-}
-
-/// The end of an install in an entry.
-fn end_in(install: u64, entry: &Entry) -> Option<GuestEnd>
-    ensures { result ≡ end_by install entry.now }
-{
-    match *entry {
-        Entry::Step { install: n, step } if n == install => match step.end {
-            StepEnd::Exit => Some(GuestEnd::Ended),
-            _ => None,
-        },
-        Entry::Stop { install: n, rule } if n == install => Some(GuestEnd::Stopped(rule)),
-        Entry::Kill { install: n } if n == install => Some(GuestEnd::Killed),
-        _ => None,
-    }
+    let left = Guest {
+        install: guest.install,
+        slot: guest.slot,
+        id: guest.id,
+        watch: Watch::NoOwner,
+        end: guest.end,
+    };
+    let old = replace(guest, left);
+    *guest = old.take(entry);
 }

@@ -1,35 +1,89 @@
 ghost use Rattle.std.specs.Prelude.{◌≡◌, IfOk};
+ghost use Rattle.journal_findings.specs.Findings.{collision, forged, sealed_by};
 ghost use Rattle.trace_judge.specs.Judgement.{judgement};
 
-use crate::Report;
-use crate::guests::guest_lines;
-use crate::searches::{collision, forged};
+use crate::listed::guest_lines;
+use crate::searches::Searches;
+use crate::{Judge, Report};
 use std::alloc::Global;
-use xom_base::{Entry, NoMemory};
+use xom_base::{Entry, Key256, NoMemory};
 use xom_journal::Journal;
 use xom_owners::OwnerList;
 
-/// Judges a journal by the owners' programs. Goes over the journal once for each install, with one
-/// plain machine at a time.
-#[tactic(auto, using(crate::proofs::Owners::sealed_by_none))]
-pub fn judge(alloc: Global, owners: &OwnerList, journal: &Journal) -> Result<Report, NoMemory>
-    ensures { IfOk result (λ report. report ≡ judgement owners.now journal.now.entries) }
+/// What the two searches find.
+#[derive(Clone, Copy)]
+struct Findings {
+    forged: Option<u64>,
+    collision: Option<(u64, u64)>,
+}
+
+/// Judges a journal by the owners' programs, which were sealed for the machine of this key. Takes any
+/// journal. One that keeps the rule of install numbers costs constant time an entry, beside a
+/// look-up among earlier Seals or Hashes; another one is gone over once for each install.
+pub fn judge(
+    alloc: Global,
+    machine: &Key256,
+    owners: &OwnerList,
+    journal: &Journal,
+) -> Result<Report, NoMemory>
+    ensures { IfOk result (λ report. report ≡ judgement machine.now owners.now journal.now.entries) }
+{
+    let mut judge = Judge::new(alloc, machine, owners)?;
+    for i in 0..journal.len() {
+        if let Some(entry) = journal.get(i) {
+            if !judge.may_feed(&entry) {
+                return judge_listed(alloc, machine, owners, journal);
+            }
+            judge.feed(&entry)?;
+        }
+    }
+    judge.report()
+}
+
+/// Judges a journal off the rule of install numbers.
+fn judge_listed(
+    alloc: Global,
+    machine: &Key256,
+    owners: &OwnerList,
+    journal: &Journal,
+) -> Result<Report, NoMemory>
+    ensures { IfOk result (λ report. report ≡ judgement machine.now owners.now journal.now.entries) }
 {
     let entries = entries_of(alloc, journal)?;
-    let entries = entries.as_slice();
-    let guests = guest_lines(alloc, owners, entries)?;
+    let found = search(alloc, machine, owners, &entries)?;
+    let guests = guest_lines(alloc, owners, &entries)?;
     Ok(Report {
         guests,
-        forged: forged(entries),
-        collision: collision(entries),
+        forged: found.forged,
+        collision: found.collision,
     })
 }
 
-/// The entries of a journal as one list.
+/// The first forged Accept and the first collision among entries.
+fn search(
+    alloc: Global,
+    machine: &Key256,
+    owners: &OwnerList,
+    entries: &[Entry],
+) -> Result<Findings, NoMemory>
+    ensures { IfOk result (λ found. found ≡ record { forged = forged (sealed_by machine.now owners.now) entries.now; collision = collision entries.now }) }
+{
+    let mut searches = Searches::new(alloc, machine, owners)?;
+    for entry in entries {
+        searches.feed(entry)?;
+    }
+    Ok(Findings {
+        forged: searches.forged(),
+        collision: searches.collision(),
+    })
+}
+
+/// A journal's entries, one behind the other.
+#[tactic(auto, using(crate::proofs::Takes::take_got, crate::proofs::Takes::take_none))]
 fn entries_of(alloc: Global, journal: &Journal) -> Result<Vec<Entry>, NoMemory>
     ensures { IfOk result (λ entries. entries.items ≡ journal.now.entries) }
 {
-    let mut entries = Vec::new(alloc);
+    let mut entries = Vec::with_capacity(alloc, journal.len() as usize)?;
     for i in 0..journal.len() {
         if let Some(entry) = journal.get(i) {
             entries.push(entry)?;

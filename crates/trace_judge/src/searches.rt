@@ -1,100 +1,125 @@
-ghost use Rattle.std.specs.Prelude.{◌≡◌, []};
-ghost use Rattle.std.specs.List.{filter_map, position};
-ghost use Rattle.trace_judge.specs.Judgement.{collides as collides_by, collision as first_collision, collision_at as collision_by, forged as first_forged, forgery_at as forgery_by, is_sealed, seal_in};
+ghost use Rattle.std.specs.Prelude.{◌≡◌, ◌<◌, ◌+◌, ◌^◌, ◌++◌, [], ◌∷◌, List, ℕ, length, OnOk, OnErr, IfOk};
+ghost use Rattle.xom_base.specs.declared.entry.Entry.{Entry as AnEntry};
+ghost use Rattle.journal_findings.specs.Findings.{collision, forged, sealed_by};
+ghost use Rattle.trace_judge.specs.HashSearch.{HasSearchedHashes, IsHash};
+ghost use Rattle.trace_judge.specs.SealSearch.{HasSearchedSeals, IsSeal, all_sealings};
 
-use xom_base::{Block, Entry, Short};
+use crate::collisions::Collisions;
+use crate::forgeries::Forgeries;
+use crate::sealings::Sealings;
+use std::alloc::Global;
+use xom_base::{Entry, Key256, NoMemory};
+use xom_owners::OwnerList;
 
-/// The number of the first Accept of what no earlier Seal sealed. Looks at all earlier entries at
-/// each Accept.
-pub fn forged(entries: &[Entry]) -> Option<u64>
-    ensures { result ≡ first_forged [] entries.now }
-{
-    for (i, entry) in entries.iter().enumerate() {
-        if let Some(number) = forgery_at(&entries[..i], entry) {
-            return Some(number);
-        }
-    }
-    None
+/// The searches for forgeries and for collisions, over one count of entries.
+#[derive(Drop)]
+pub struct Searches<'a> {
+    /// What owners sealed.
+    pub sealings: Sealings<'a>,
+    /// How many entries were fed.
+    pub count: u64,
+    /// The search for forgeries.
+    pub forgeries: Forgeries,
+    /// The search for collisions.
+    pub collisions: Collisions,
 }
 
-/// The number of the entry behind these, if it is a forged Accept.
-fn forgery_at(before: &[Entry], entry: &Entry) -> Option<u64>
-    ensures { result ≡ forgery_by [] before.now entry.now }
-{
-    match entry {
-        Entry::Accept {
-            key,
-            message,
-            place: _place,
-        } => {
-            if was_sealed(before, key, message) {
-                None
-            } else {
-                Some(before.len() as u64 + 1)
+impl<'a> Searches<'a> {
+    ghost use Rattle.trace_judge.specs.Judging.{HasSearched, IsKept};
+
+    /// Nothing was fed.
+    pub fn new(
+        alloc: Global,
+        machine: &Key256,
+        owners: &'a OwnerList,
+    ) -> Result<Searches<'a>, NoMemory>
+        ensures { IfOk result (λ s. HasSearched (sealed_by machine.now owners.now) s []) }
+    {
+        Ok(Searches {
+            sealings: Sealings::new(alloc, machine, owners)?,
+            count: 0,
+            forgeries: Forgeries::new(alloc),
+            collisions: Collisions::new(alloc),
+        })
+    }
+
+    /// Takes the next entry. Costs a look-up in a map of earlier Seals or Hashes at most.
+    pub fn feed(&mut self, entry: &Entry) -> Result<(), NoMemory>
+        ensures ok { OnOk result ((sealed : List (List ℕ × List ℕ)) → (es : List AnEntry) → length es + 1 < 2 ^ 64 → HasSearched sealed self.old es → HasSearched sealed self.new (es ++ entry.now ∷ [])) }
+        ensures err { OnErr result ((sealed : List (List ℕ × List ℕ)) → (es : List AnEntry) → HasSearched sealed self.old es → HasSearched sealed self.new es) }
+        ensures only { OnErr result (IsKept entry.now) }
+    {
+        let number = self.count.wrapping_add(1);
+        match self.look(number, entry) {
+            Ok(()) => {
+                self.count = number;
+                Ok(())
             }
-        }
-        _ => None,
-    }
-}
-
-/// Whether one of these entries sealed the message under the key.
-fn was_sealed(before: &[Entry], key: &Short, message: &Short) -> bool
-    ensures { result ≡ is_sealed key.now message.now (filter_map seal_in before.now) }
-{
-    for entry in before {
-        if let Entry::Seal { key: k, message: m } = entry {
-            if key.bytes() == k.bytes() && message.bytes() == m.bytes() {
-                return true;
-            }
+            Err(e) => Err(e),
         }
     }
-    false
-}
 
-/// The numbers of the first Hash that collides with an earlier one and of the least such earlier
-/// one, that one first. Looks at all earlier entries at each Hash.
-pub fn collision(entries: &[Entry]) -> Option<(u64, u64)>
-    ensures { result ≡ first_collision entries.now }
-{
-    for (i, entry) in entries.iter().enumerate() {
-        if let Some(pair) = collision_at(&entries[..i], entry) {
-            return Some(pair);
+    /// Looks at the next entry, of this number.
+    fn look(&mut self, number: u64, entry: &Entry) -> Result<(), NoMemory>
+        ensures sealings { self.new.sealings ≡ self.old.sealings }
+        ensures count { self.new.count ≡ self.old.count }
+        ensures seals { OnOk result ((es : List AnEntry) → number ≡ length es + 1 → HasSearchedSeals (all_sealings self.old.sealings) self.old.forgeries es → HasSearchedSeals (all_sealings self.old.sealings) self.new.forgeries (es ++ entry.now ∷ [])) }
+        ensures hashes { OnOk result ((es : List AnEntry) → number ≡ length es + 1 → HasSearchedHashes self.old.collisions es → HasSearchedHashes self.new.collisions (es ++ entry.now ∷ [])) }
+        ensures seals_stay { OnErr result ((sealed : List (List ℕ × List ℕ)) → (es : List AnEntry) → HasSearchedSeals sealed self.old.forgeries es → HasSearchedSeals sealed self.new.forgeries es) }
+        ensures hashes_stay { OnErr result ((es : List AnEntry) → HasSearchedHashes self.old.collisions es → HasSearchedHashes self.new.collisions es) }
+        ensures only { OnErr result (IsKept entry.now) }
+    {
+        match entry {
+            Entry::Hash { .. } => match self.collisions.feed(number, entry) {
+                Ok(()) => {
+                    forge(&mut self.forgeries, &self.sealings, number, entry);
+                    Ok(())
+                }
+                Err(e) => Err(e),
+            },
+            _ => match self.forgeries.feed(&self.sealings, number, entry) {
+                Ok(()) => {
+                    collide(&mut self.collisions, number, entry);
+                    Ok(())
+                }
+                Err(e) => Err(e),
+            },
         }
     }
-    None
-}
 
-/// The numbers of the first entry that collides with the one behind these, and of that one.
-fn collision_at(before: &[Entry], entry: &Entry) -> Option<(u64, u64)>
-    ensures { result ≡ collision_by before.now entry.now }
-{
-    match entry {
-        Entry::Hash { preimage, digest } => match first_colliding(before, preimage, digest) {
-            Some(i) => Some((i as u64 + 1, before.len() as u64 + 1)),
-            None => None,
-        },
-        _ => None,
+    /// The first forged Accept, as the lists have it.
+    pub fn forged(&self) -> Option<u64>
+        ensures { (sealed : List (List ℕ × List ℕ)) → (es : List AnEntry) → HasSearched sealed self.now es → result ≡ forged sealed es }
+    {
+        self.forgeries.found()
+    }
+
+    /// The first collision, as the lists have it.
+    pub fn collision(&self) -> Option<(u64, u64)>
+        ensures { (sealed : List (List ℕ × List ℕ)) → (es : List AnEntry) → HasSearched sealed self.now es → result ≡ collision es }
+    {
+        self.collisions.found()
     }
 }
 
-/// The place of the first Hash of another text with this digest.
-fn first_colliding(entries: &[Entry], preimage: &Block, digest: &[u8; 32]) -> Option<usize>
-    ensures { result ≡ position (collides_by preimage.now digest.now) entries.now }
+/// Feeds the search for forgeries, where that wants no memory.
+fn forge(forgeries: &mut Forgeries, owned: &Sealings, number: u64, entry: &Entry)
+    requires { IsSeal entry.now → ⊥ }
+    ensures { (es : List AnEntry) → number ≡ length es + 1 → HasSearchedSeals (all_sealings owned.now) forgeries.old es → HasSearchedSeals (all_sealings owned.now) forgeries.new (es ++ entry.now ∷ []) }
 {
-    entries
-        .iter()
-        .position(|entry| collides(entry, preimage, digest))
+    match forgeries.feed(owned, number, entry) {
+        Ok(()) => {}
+        Err(_) => unreachable!(),
+    }
 }
 
-/// Whether an entry is a Hash of another text with this digest.
-fn collides(entry: &Entry, preimage: &Block, digest: &[u8; 32]) -> bool
-    ensures { result ≡ collides_by preimage.now digest.now entry.now }
+/// Feeds the search for collisions, where that wants no memory.
+fn collide(collisions: &mut Collisions, number: u64, entry: &Entry)
+    requires { IsHash entry.now → ⊥ }
+    ensures { (es : List AnEntry) → number ≡ length es + 1 → HasSearchedHashes collisions.old es → HasSearchedHashes collisions.new (es ++ entry.now ∷ []) }
 {
-    match entry {
-        Entry::Hash {
-            preimage: other,
-            digest: same,
-        } => digest.as_slice() == same.as_slice() && preimage.bytes() != other.bytes(),
-        _ => false,
+    match collisions.feed(number, entry) {
+        Ok(()) => {}
+        Err(_) => unreachable!(),
     }
 }

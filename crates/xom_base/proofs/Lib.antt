@@ -5,3 +5,4 @@ pub mod LineLaws
 pub mod NumberLaws
 pub mod TextLaws
 pub mod NextLaws
+pub mod Images

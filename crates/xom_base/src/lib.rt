@@ -28,7 +28,7 @@ pub use image::PlainImage;
 pub use key::{ImageId, Key128, Key256};
 pub use line_words::{cut, few_words, next_word, words};
 pub use lines::{
-    LineFault, LineFormat, TextFault, WholeFormat, read_lines, read_whole, split_lines,
+    LineFault, LineFormat, TextFault, WholeFormat, first_line, read_lines, read_whole, split_lines,
 };
 pub use list::{ByteList, List, NoMemory, NumberList};
 pub use numbers::{decimal, decimal_below, number, number_below};

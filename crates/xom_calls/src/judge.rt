@@ -4,7 +4,7 @@ use crate::inputs::{TWELVE, image_of, owner_of};
 use std::test::Fail;
 use trace_judge::{GuestEnd, GuestLine, GuestLineList, Report, Verdict, judge, print_report};
 use xom_base::{
-    Block, Entry, ImageId, NoMemory, Received, Released, Rule, Short, Step, StepEnd, Stored, Writes,
+    Block, Entry, ImageId, Key256, NoMemory, Received, Released, Rule, Short, Step, StepEnd, Stored, Writes,
 };
 use xom_journal::{Journal, cost};
 use xom_owners::OwnerList;
@@ -12,6 +12,8 @@ use xom_owners::OwnerList;
 const MINE: ImageId = ImageId([0xab; 16]);
 
 const STRANGE: ImageId = ImageId([1; 16]);
+
+const MACHINE: Key256 = Key256([7; 32]);
 
 #[test]
 fn entries_are_kept_and_paid_for(rt: HostRuntime) -> Result<(), Fail> {
@@ -132,7 +134,7 @@ fn a_journal_is_judged(rt: HostRuntime) -> Result<(), Fail> {
     let mut journal = Journal::new(rt.alloc());
     add_guests(&mut journal)?;
     add_seals(&mut journal)?;
-    let report = judge(rt.alloc(), &owners, &journal)?;
+    let report = judge(rt.alloc(), &MACHINE, &owners, &journal)?;
     let text = print_report(rt.alloc(), &report)?;
     let told = concat!(
         "guest 1 slot 1 id abababababababababababababababab follows 4 steps ended\n",

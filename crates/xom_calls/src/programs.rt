@@ -1,12 +1,12 @@
 //! Sources that are cut into tokens, read, assembled and listed.
 
 use crate::inputs::{PRIVATE, repeated};
-use asm_source::Items;
 use asm_syntax::read_source;
 use asm_tokens::{Token, TokenKind, tokens, unquoted};
 use mips_asm::assemble;
 use mips_text::listing;
 use std::test::Fail;
+use xom_base::List;
 
 // Each line has 1,048,576 bytes or a little more.
 #[test]
@@ -33,7 +33,7 @@ fn the_largest_source_is_read_assembled_and_listed(rt: HostRuntime) -> Result<()
     let source = repeated(rt.alloc(), b"nop\n", 262_144)?;
     let mut parts = read_source(rt.alloc(), &source)?.into_vec();
     assert!(rt; parts.len() == 262_144);
-    let mut lasts = Items::new(rt.alloc());
+    let mut lasts = List::new(rt.alloc());
     lasts.push(parts.pop().ok_or("no part")?)?;
     assert!(rt; lasts.as_slice().len() == 1 && lasts.as_slice()[0].line == 262_144);
     let image = assemble(rt.alloc(), &source)?;

@@ -4,13 +4,14 @@ use Rattle.std.specs.Int.{w32, to_be_bytes}
 use Rattle.std.proofs.lemmas.Bool.{cases_lt}
 use Rattle.std.proofs.lemmas.List.{take-append-drop, drop-drop, length-take, length-take-le, length-drop, get_or-take, get_or-drop, get_or_past}
 use Rattle.std.proofs.lemmas.Nat.{be_bytes_4, from_be_bytes-to_be_bytes_4}
+use Rattle.xom_base.specs.Results.{◌>>=◌}
 use Rattle.xom_base.specs.declared.image.PlainImage.{PlainImage}
 use Rattle.xom_image.specs.declared.fault.ImageFault.{ImageFault}
 use Rattle.xom_image.specs.declared.fault.ImageFault.TheVariants as fault
-use Rattle.xom_image.proofs.Images.{PlainImage-equal}
-use Rattle.xom_image.proofs.Reading.{agreed-all, bad-fields, fields-bad, fields-told, ok_apart, whole-fields, AnswersBy-bad, AnswersBy-only}
+use Rattle.xom_base.proofs.Images.{PlainImage-equal}
+use Rattle.xom_image.proofs.Reading.{agreed-all, fields-told, whole-fields, AnswersBy-first_bad, AnswersBy-only}
 use Rattle.xom_image.specs.Fields.{number_at, agreed, fields_at, IsFormat, IsWhole}
-use Rattle.xom_image.specs.PlainFiles.{plain_head, plain_file, plain_format, plain_of, IsPlainFile, IsFirstBad, plain_image_at, Answers}
+use Rattle.xom_image.specs.PlainFiles.{plain_head, plain_file, plain_format, IsPlainFile, IsFirstBad, plain_image_at, Answers}
 
 pub plain_is_format : IsFormat plain_format
 plain_is_format = record { named = refl; behind = omega arith; before = omega arith }
@@ -91,7 +92,7 @@ pub plain_file-read : (entry : ℕ) (bytes : List ℕ) → entry % 4 ≡ 0 → e
 unfolding plain_image_at plain_file number_at
 plain_file-read entry bytes aligned private fits =
     let file = plain_file entry bytes in
-    ap (plain_of file) (whole-fields plain_format file plain_is_format (plain_file-whole entry bytes aligned private fits))
+    ap (λ read. read >>= (λ fields. Ok (fields.0, bytes))) (whole-fields plain_format file plain_is_format (plain_file-whole entry bytes aligned private fits))
     ∙ ap (λ n. Ok (n, bytes)) (from_be_bytes-to_be_bytes_4 entry (omega arith))
 
 -- ---- What a reader promises follows from what it answers
@@ -105,18 +106,7 @@ Answers-only file result answers image is =
     (λ a b same. PlainImage-equal a b (ap (λ (p : ℕ × List ℕ). p.0) same) (ap (λ (p : ℕ × List ℕ). p.1) same))
     image (IsPlainFile-read file image is) result answers
 
-plain_of-bad : (file : List ℕ) (fields : Result (ℕ × ℕ) ℕ) (n : ℕ) → plain_of file fields ≡ Err n → fields ≡ Err n
-plain_of-bad file (Ok fields) n is = absurd (ok_apart is)
-plain_of-bad file (Err m) n is = cc
-
-plain_image_at-bad : (file : List ℕ) (n : ℕ) → plain_image_at file ≡ Err n → IsFirstBad file n
-unfolding plain_image_at
-plain_image_at-bad file n is = fields-bad plain_format file n plain_is_format (plain_of-bad file (fields_at plain_format file) n is)
-
-bad-plain_image_at : (file : List ℕ) (n : ℕ) → IsFirstBad file n → plain_image_at file ≡ Err n
-unfolding plain_image_at
-bad-plain_image_at file n first = ap (plain_of file) (bad-fields plain_format file n plain_is_format first)
-
 pub Answers-bad : (file : List ℕ) (result : Result PlainImage ImageFault) → Answers (plain_image_at file) result → (n : ℕ) → (result ≡ Err (fault.Bad n)) ↔ IsFirstBad file n
-Answers-bad file result answers n =
-    AnswersBy-bad (λ (image : PlainImage). (image.entry, image.bytes)) (plain_image_at file) (IsFirstBad file) (plain_image_at-bad file) (bad-plain_image_at file) result answers n
+unfolding plain_image_at
+Answers-bad file =
+    AnswersBy-first_bad (λ (image : PlainImage). (image.entry, image.bytes)) plain_format plain_is_format file (λ fields. (fields.0, drop 16 file))

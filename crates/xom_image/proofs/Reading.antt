@@ -3,6 +3,7 @@ use Rattle.std.proofs.Common.{◌≡◌, ℕ, ◌+◌, ◌%◌, ◌^◌, ◌<◌
 use Rattle.std.proofs.lemmas.Bool.{cond_both, eqb-true, eqb-false, ltb-true, ltb-false, and_cases, cases_lt}
 use Rattle.std.proofs.lemmas.Bool.Decides.{nat_tests}
 use Rattle.std.proofs.lemmas.List.Sums.{take_while-cons}
+use Rattle.xom_base.specs.Results.{◌>>=◌}
 use Rattle.xom_image.specs.declared.fault.ImageFault.{ImageFault}
 use Rattle.xom_image.specs.declared.fault.ImageFault.TheVariants as fault
 use Rattle.xom_image.specs.declared.fields.Format.{Format}
@@ -217,3 +218,16 @@ pub AnswersBy-only : {X Image : Type 0} (parts : Image → X) (read : Result X �
 AnswersBy-only parts read equal image is (Ok found) answers = inl (ap Ok (equal found image (ok_parts (sym answers ∙ is))))
 AnswersBy-only parts read equal image is (Err (fault.Bad n)) answers = absurd (ok_apart (sym is ∙ answers))
 AnswersBy-only parts read equal image is (Err fault.NoMemory) answers = inr refl
+
+-- what is made of the fields of a file is a bad place where the fields are
+made-bad : {A B : Type 0} (make : A → B) (read : Result A ℕ) (n : ℕ) → (read >>= (λ x. Ok (make x))) ≡ Err n → read ≡ Err n
+made-bad make (Ok x) n is = absurd (ok_apart is)
+made-bad make (Err m) n is = cc
+
+-- a reader of a format that makes the image of its fields answers the first bad place of a file, if there is one
+pub AnswersBy-first_bad : {X Image : Type 0} (parts : Image → X) (format : Format) → IsFormat format → (file : List ℕ) (make : ℕ × ℕ → X)
+    → (result : Result Image ImageFault) → AnswersBy parts (fields_at format file >>= (λ fields. Ok (make fields))) result → (n : ℕ) → (result ≡ Err (fault.Bad n)) ↔ IsFirstBadOf format file n
+AnswersBy-first_bad parts format is_format file make =
+    AnswersBy-bad parts (fields_at format file >>= (λ fields. Ok (make fields))) (IsFirstBadOf format file)
+    (λ n is. fields-bad format file n is_format (made-bad make (fields_at format file) n is))
+    (λ n first. ap (λ read. read >>= (λ fields. Ok (make fields))) (bad-fields format file n is_format first))

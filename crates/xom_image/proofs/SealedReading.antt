@@ -4,6 +4,7 @@ use Rattle.std.specs.Int.{w32, from_be_bytes}
 use Rattle.std.specs.List.{flat_map}
 use Rattle.std.proofs.Math.Seq.{drop-drop, take_at, take-append-le, drop-append-le, length-take-le, take-take}
 use Rattle.std.proofs.lemmas.List.{take-append-drop, drop-take}
+use Rattle.xom_base.specs.Results.{◌>>=◌}
 use Rattle.xom_seal.specs.declared.line.SealedLine.{SealedLine}
 use Rattle.xom_seal.specs.Envelopes.{entry_in, lines_in}
 use Rattle.xom_image.specs.declared.fault.ImageFault.{ImageFault}
@@ -11,9 +12,9 @@ use Rattle.xom_image.specs.declared.fault.ImageFault.TheVariants as fault
 use Rattle.xom_image.specs.declared.sealed_image.SealedImage.{SealedImage}
 use Rattle.xom_image.proofs.Images.{SealedImage-equal}
 use Rattle.xom_image.proofs.LineBytes.{AreWhole, length-lines_at, lines_at-all, lines_at-lines, lines_at-whole, lines-length}
-use Rattle.xom_image.proofs.Reading.{agreed-all, bad-fields, fields-bad, fields-told, ok_apart, whole-fields, AnswersBy-bad, AnswersBy-only}
+use Rattle.xom_image.proofs.Reading.{agreed-all, fields-told, whole-fields, AnswersBy-first_bad, AnswersBy-only}
 use Rattle.xom_image.specs.Fields.{number_at, agreed, fields_at, IsFormat, IsWhole}
-use Rattle.xom_image.specs.SealedFiles.{sealed_head, line_bytes, sealed_file, sealed_format, lines_at, envelope_at, sealed_of, IsSealedFile, IsFirstBadSealed, sealed_image_at, AnswersSealed}
+use Rattle.xom_image.specs.SealedFiles.{sealed_head, line_bytes, sealed_file, sealed_format, lines_at, envelope_at, IsSealedFile, IsFirstBadSealed, sealed_image_at, AnswersSealed}
 
 pub sealed_is_format : IsFormat sealed_format
 sealed_is_format = record { named = refl; behind = omega arith; before = omega arith }
@@ -145,8 +146,8 @@ unfolding sealed_image_at
 IsSealedFile-read file image is =
     let written = sealed_file image.envelope image.lines in
     let count : number_at written 28 ≡ length image.lines = count_is image.envelope image.lines image.sized ∙ image.counted in
-    ap (λ bytes. sealed_of bytes (fields_at sealed_format bytes)) is
-    ∙ ap (sealed_of written) (whole-fields sealed_format written sealed_is_format (sealed_file-whole image))
+    ap sealed_image_at is
+    ∙ ap (λ read. read >>= (λ fields. Ok (envelope_at written, lines_at written fields.1))) (whole-fields sealed_format written sealed_is_format (sealed_file-whole image))
     ∙ ap (λ n. Ok (envelope_at written, lines_at written n)) count
     ∙ ap (λ envelope. Ok (envelope, lines_at written (length image.lines))) (envelope_is image.envelope image.lines image.sized)
     ∙ ap (λ lines. Ok (image.envelope, lines)) (lines_are image.envelope image.lines image.sized image.whole)
@@ -159,18 +160,7 @@ AnswersSealed-only file result answers image is =
     (λ a b same. SealedImage-equal a b (ap (λ (p : List ℕ × List SealedLine). p.0) same) (ap (λ (p : List ℕ × List SealedLine). p.1) same))
     image (IsSealedFile-read file image is) result answers
 
-sealed_of-bad : (file : List ℕ) (fields : Result (ℕ × ℕ) ℕ) (n : ℕ) → sealed_of file fields ≡ Err n → fields ≡ Err n
-sealed_of-bad file (Ok fields) n is = absurd (ok_apart is)
-sealed_of-bad file (Err m) n is = cc
-
-sealed_image_at-bad : (file : List ℕ) (n : ℕ) → sealed_image_at file ≡ Err n → IsFirstBadSealed file n
-unfolding sealed_image_at
-sealed_image_at-bad file n is = fields-bad sealed_format file n sealed_is_format (sealed_of-bad file (fields_at sealed_format file) n is)
-
-bad-sealed_image_at : (file : List ℕ) (n : ℕ) → IsFirstBadSealed file n → sealed_image_at file ≡ Err n
-unfolding sealed_image_at
-bad-sealed_image_at file n first = ap (sealed_of file) (bad-fields sealed_format file n sealed_is_format first)
-
 pub AnswersSealed-bad : (file : List ℕ) (result : Result SealedImage ImageFault) → AnswersSealed (sealed_image_at file) result → (n : ℕ) → (result ≡ Err (fault.Bad n)) ↔ IsFirstBadSealed file n
-AnswersSealed-bad file result answers n =
-    AnswersBy-bad (λ (image : SealedImage). (image.envelope, image.lines)) (sealed_image_at file) (IsFirstBadSealed file) (sealed_image_at-bad file) (bad-sealed_image_at file) result answers n
+unfolding sealed_image_at
+AnswersSealed-bad file =
+    AnswersBy-first_bad (λ (image : SealedImage). (image.envelope, image.lines)) sealed_format sealed_is_format file (λ fields. (envelope_at file, lines_at file fields.1))

@@ -1,6 +1,7 @@
 -- The file of a plain image: "XOMP", the version 1, the entry, the length, and the bytes. Numbers have four bytes, the highest first. The format is this project's own.
-use Rattle.std.specs.Prelude.{ℕ, ◌≡◌, ◌^◌, List, [], ◌∷◌, ◌++◌, Result, Ok, Err, codes, drop, length}
+use Rattle.std.specs.Prelude.{ℕ, ◌≡◌, ◌^◌, List, [], ◌∷◌, ◌++◌, Result, Ok, codes, drop, length}
 use Rattle.std.specs.Int.{w32, to_be_bytes}
+use Rattle.xom_base.specs.Results.{◌>>=◌}
 use Rattle.xom_base.specs.declared.image.PlainImage.{PlainImage}
 use Rattle.xom_image.specs.declared.fault.ImageFault.{ImageFault}
 use Rattle.xom_image.specs.declared.fields.Format.{Format}
@@ -32,14 +33,11 @@ IsFirstBad file n = IsFirstBadOf plain_format file n
 
 -- ---- Both as one function, to compute with
 
--- the entry and the bytes of a file with these fields
-abbrev pub plain_of : List ℕ → Result (ℕ × ℕ) ℕ → Result (ℕ × List ℕ) ℕ
-plain_of file (Ok fields) = Ok (fields.0, drop 16 file)
-plain_of file (Err n) = Err n
-
 -- the entry and the bytes of the image, or the first bad place
 unfoldable pub plain_image_at : List ℕ → Result (ℕ × List ℕ) ℕ
-plain_image_at file = plain_of file (fields_at plain_format file)
+plain_image_at file = do
+  fields ← fields_at plain_format file
+  Ok (fields.0, drop 16 file)
 
 -- what a reader answers: what was read, unless there is an image for which memory ran out
 abbrev pub Answers : Result (ℕ × List ℕ) ℕ → Result PlainImage ImageFault → Type 0

@@ -1,6 +1,7 @@
 -- The file of a sealed image: "XOMS", the version 1, the envelope of 88 bytes, and then of each line the ciphertext and the tag, 32 bytes each. The format is this project's own.
-use Rattle.std.specs.Prelude.{ℕ, ◌≡◌, ◌+◌, ◌*◌, ◌^◌, List, [], ◌∷◌, ◌++◌, Result, Ok, Err, codes, drop, map, take}
+use Rattle.std.specs.Prelude.{ℕ, ◌≡◌, ◌+◌, ◌*◌, ◌^◌, List, [], ◌∷◌, ◌++◌, Result, Ok, codes, drop, map, take}
 use Rattle.std.specs.List.{flat_map, range_with_len}
+use Rattle.xom_base.specs.Results.{◌>>=◌}
 use Rattle.xom_seal.specs.declared.line.SealedLine.{SealedLine}
 use Rattle.xom_image.specs.declared.fault.ImageFault.{ImageFault}
 use Rattle.xom_image.specs.declared.fields.Format.{Format}
@@ -49,14 +50,11 @@ lines_at file count = map (λ i. line_at file (96 + 64 * i)) (range_with_len 0 c
 abbrev pub envelope_at : List ℕ → List ℕ
 envelope_at file = take 88 (drop 8 file)
 
--- the envelope and the lines of a file with these fields
-abbrev pub sealed_of : List ℕ → Result (ℕ × ℕ) ℕ → Result (List ℕ × List SealedLine) ℕ
-sealed_of file (Ok fields) = Ok (envelope_at file, lines_at file fields.1)
-sealed_of file (Err n) = Err n
-
 -- the envelope and the lines of the image, or the first bad place
 unfoldable pub sealed_image_at : List ℕ → Result (List ℕ × List SealedLine) ℕ
-sealed_image_at file = sealed_of file (fields_at sealed_format file)
+sealed_image_at file = do
+  fields ← fields_at sealed_format file
+  Ok (envelope_at file, lines_at file fields.1)
 
 -- what a reader answers: what was read, unless there is an image for which memory ran out
 abbrev pub AnswersSealed : Result (List ℕ × List SealedLine) ℕ → Result SealedImage ImageFault → Type 0

@@ -6,13 +6,11 @@
 
 mod fault;
 mod fields;
-mod line_list;
 mod plain;
 mod sealed;
 mod sealed_image;
 
 pub use fault::ImageFault;
-pub use line_list::SealedLineList;
 pub use plain::{read_plain, write_plain};
 pub use sealed::{read_sealed, write_sealed};
-pub use sealed_image::SealedImage;
+pub use sealed_image::{SealedImage, SealedLineList};

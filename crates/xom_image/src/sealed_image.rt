@@ -2,7 +2,11 @@ ghost use Rattle.std.specs.Prelude.{◌≡◌, ◌≤◌, ◌<◌, ◌%◌, ◌^
 ghost use Rattle.xom_seal.specs.declared.line.SealedLine.{SealedLine};
 ghost use Rattle.xom_seal.specs.Envelopes.{entry_in, lines_in};
 
-use crate::SealedLineList;
+use xom_base::List;
+use xom_seal::SealedLine;
+
+/// A growing list of sealed lines.
+pub type SealedLineList = List<SealedLine>;
 
 /// A program as its owner sealed it for one machine. Neither the envelope's tag nor a line's is
 /// known to be right.

@@ -1,5 +1,5 @@
 -- The proof that versions on chip keep the law.
-use Rattle.std.proofs.Common.{◌≡◌, inl, inr, cond, Bool, ℕ, ◌+◌, ◌-◌, ◌%◌, ◌<◌, ◌≤◌, ◌^◌, List, [], ◌++◌, Result, Ok, Some, None, length, get_or, set, replicate, refl, sym, ◌∙◌, ap, arith, true, false, length-set}
+use Rattle.std.proofs.Common.{◌≡◌, inl, inr, cond, Bool, ℕ, ◌-◌, ◌<◌, ◌≤◌, List, [], ◌++◌, Result, Ok, length, get_or, set, replicate, refl, sym, ◌∙◌, ap, arith, true, false, length-set}
 use Rattle.std.specs.Prelude.{nat_lt}
 use Rattle.std.proofs.lemmas.List.{get_or-append_right, get_or-replicate, get_or-set_other, get_or-set_same, get_or_append_left, length-append, length-replicate}
 use Rattle.std.proofs.lemmas.Bool.Decides.{eqb_tells, nat_tests}
@@ -51,9 +51,9 @@ answer n = Ok n
 same_answer : (a b : ℕ) → answer a ≡ answer b → a ≡ b
 same_answer a b is = cc
 
-raised : (entries : List Entry) (store : Store) (numbers : ℕ → ℕ) (line number : ℕ) → ChipStands store entries numbers → line < line_limit → next_at store line ≡ number
+raise-stands : (entries : List Entry) (store : Store) (numbers : ℕ → ℕ) (line number : ℕ) → ChipStands store entries numbers → line < line_limit → next_at store line ≡ number
     → (number ≡ next_version (numbers line)) × ChipStands (record store { numbers = set store.numbers line (next_at store line) }) (entries ++ []) (with_version numbers line number)
-raised entries store numbers line number stands low is = (
+raise-stands entries store numbers line number stands low is = (
   sym is ∙ ap next_version (stands.each line low),
   record {
     places = length-set store.numbers line _ ∙ stands.places;
@@ -67,7 +67,7 @@ pub chip_law : VersionLaw chip ChipStands
 chip_law = record {
   builds = λ entries area lines ram few. record { places = length-start_table line_limit lines few; each = λ line low. start_table-each line_limit lines line few low };
   versions = λ entries store numbers line number ram stands low none is. sym (same_answer _ _ is) ∙ stands.each line low;
-  raises = λ entries store numbers line number ram stands low none is. raised entries store numbers line number stands low (same_answer _ _ is);
+  raises = λ entries store numbers line number ram stands low none is. raise-stands entries store numbers line number stands low (same_answer _ _ is);
   torn = λ entries store numbers line ram fault stands low is. absurd (cc);
   longer = λ entries more store numbers stands. record { places = stands.places; each = stands.each };
   alike = λ entries store numbers others same stands. record { places = stands.places; each = λ line low. stands.each line low ∙ same line low };

@@ -14,6 +14,16 @@ line_limit = 32768
 abbrev pub area_size : ℕ
 area_size = 411904
 
+-- how many bytes of the journal a call may use
+abbrev pub build_room : ℕ
+build_room = 800000
+
+abbrev pub version_room : ℕ
+version_room = 2000
+
+abbrev pub raise_room : ℕ
+raise_room = 4000
+
 -- the numbers that a store on chip holds, or the area and the root of one whose numbers lie in RAM
 pub record Store : Type 0 where
   pub numbers : List ℕ

@@ -1,7 +1,7 @@
 ghost use Rattle.std.specs.Prelude.{◌≡◌, ◌≤◌, ◌<◌, ◌+◌, ◌++◌, ℕ, List, IfOk, map};
 ghost use Rattle.xom_base.specs.declared.entry.Entry.{Entry};
 ghost use Rattle.line_ram.specs.Bytes.{HoldsRange};
-ghost use Rattle.xom_versions.specs.Store.{HoldsArea, Store, area_size, hash_entry, line_limit};
+ghost use Rattle.xom_versions.specs.Store.{HoldsArea, Store, area_size, build_room, hash_entry, line_limit, raise_room, version_room};
 ghost use Rattle.xom_versions.specs.Versions.{VersionLaw, Versions};
 
 use line_ram::LineRam;
@@ -40,34 +40,34 @@ pub trait VersionStore: Sized + Drop {
     fn build(&mut self, area: u32, lines: u32, ram: &mut LineRam, journal: &mut Journal)
         requires area { HoldsRange ram.old area area_size }
         requires lines { lines ≤ line_limit }
-        requires room { 800000 ≤ journal.old.spare }
+        requires room { build_room ≤ journal.old.spare }
         ensures store { as_store self.new ≡ versions.store_after_build area lines ram.old }
         ensures ram { ram.new ≡ versions.ram_after_build area lines ram.old }
         ensures entries { journal.new.entries
             ≡ journal.old.entries ++ map hash_entry (versions.texts_of_build area lines ram.old) }
-        ensures spare { journal.old.spare ≤ journal.new.spare + 800000 };
+        ensures spare { journal.old.spare ≤ journal.new.spare + build_room };
 
     /// The version of a line, below 32,768.
     fn version(&self, line: u32, ram: &LineRam, journal: &mut Journal) -> Result<u64, Torn>
         requires area { HoldsArea ram.now (as_store self.now) }
         requires line { line < line_limit }
-        requires room { 2000 ≤ journal.old.spare }
+        requires room { version_room ≤ journal.old.spare }
         ensures answer { result ≡ versions.answer_of_version (as_store self.now) line ram.now }
         ensures entries { journal.new.entries
             ≡ journal.old.entries ++ map hash_entry (versions.texts_of_version (as_store self.now) line ram.now) }
-        ensures spare { journal.old.spare ≤ journal.new.spare + 2000 };
+        ensures spare { journal.old.spare ≤ journal.new.spare + version_room };
 
     /// Raises the version of a line, below 32,768, by 1 modulo 2^64, and gives the new one.
     fn raise(&mut self, line: u32, ram: &mut LineRam, journal: &mut Journal) -> Result<u64, Torn>
         requires area { HoldsArea ram.old (as_store self.old) }
         requires line { line < line_limit }
-        requires room { 4000 ≤ journal.old.spare }
+        requires room { raise_room ≤ journal.old.spare }
         ensures answer { result ≡ versions.answer_of_raise (as_store self.old) line ram.old }
         ensures store { as_store self.new ≡ versions.store_after_raise (as_store self.old) line ram.old }
         ensures ram { ram.new ≡ versions.ram_after_raise (as_store self.old) line ram.old }
         ensures entries { journal.new.entries
             ≡ journal.old.entries ++ map hash_entry (versions.texts_of_raise (as_store self.old) line ram.old) }
-        ensures spare { journal.old.spare ≤ journal.new.spare + 4000 };
+        ensures spare { journal.old.spare ≤ journal.new.spare + raise_room };
 
     // The functions serve: a line's number is answered, and raised, as long as no two hashed texts
     // have one digest.

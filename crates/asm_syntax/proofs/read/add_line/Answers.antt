@@ -9,7 +9,7 @@ pub loop-label-preserved : goal.loop-label-preserved
 loop-label-preserved c =
     let step = parts_of_label c.args.number c.loop-label.parts c.in-Some.label.now c.in-Some.more.now in
     let before = rw c.in-Some.ensures at c.loop-label.invariant in
-    rw (c.in_ok-push.ensures, c.in_ok-label.ensures) (sym step ∙ before)
+    rw (c.in_ok-push.ensures.ok, c.in_ok-label.ensures) (sym step ∙ before)
 
 pub returns : goal.returns
 returns c =

@@ -2,7 +2,7 @@
 use Rattle.std.proofs.Common.{◌≡◌, ◌+◌, Some, inl, inr, refl, sym, subst, ◌∙◌, take}
 use Rattle.std.specs.List.{All}
 use Rattle.std.proofs.lemmas.List.Elements.{All-get_or, All-more, All-push}
-use Rattle.mips_asm.specs.declared.chunk.Chunk.{Chunk}
+use Rattle.mips_asm.specs.declared.placed_bytes.PlacedBytes.{PlacedBytes}
 use Rattle.mips_asm.specs.declared.placed.Placed.{Placed}
 use Rattle.mips_asm.specs.Encoding.{Gives}
 use Rattle.mips_asm.specs.Images.{FitsImage}
@@ -41,7 +41,7 @@ loop-placed-preserved c =
     let given : Gives labels item.place item.part.content c.in-Some.bytes = rw c.in-Some.is at c.in_ok-bytes.ensures in
     let inside = subst IsInside (sym c.placed-item.is) (All-get_or IsInside placed i item c.loop-placed-test.true c.requires.inside) in
     let sized = subst IsSized (sym c.placed-item.is) (All-get_or IsSized placed i item c.loop-placed-test.true c.requires.sized) in
-    let chunk : Chunk = record { place = item.place; bytes = c.in-Some.bytes } in
+    let chunk : PlacedBytes = record { place = item.place; bytes = c.in-Some.bytes } in
     record {
       writes = subst (Writes labels (take (i + 1) placed)) (sym c.in_ok-push.ensures.items)
           (Writes_here labels placed i item c.loop-placed.chunks.items c.in-Some.bytes c.loop-placed-test.true c.placed-item.is c.loop-placed.invariant.writes given);

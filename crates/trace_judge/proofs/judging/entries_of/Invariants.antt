@@ -1,4 +1,4 @@
--- The entries so far are those in front.
+-- The entries so far are listed.
 use Rattle.std.proofs.Common.{◌≡◌, take}
 use Rattle.trace_judge.proofs.judging.entries_of.Given as goal
 

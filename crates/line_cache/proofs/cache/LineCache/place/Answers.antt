@@ -56,3 +56,16 @@ returns-in-None-clause-lines c =
     let at : c.first_place-first.result + c.from.result < length opened.ways = omega (arith, c.first_place-first.ensures, c.from.ensures) in
     let old = ap victim_of (get_or_read opened.ways (c.first_place-first.result + c.from.result) c.index.result.now at c.index.ensures free_way) in
     (placed_full opened c.args.self.now c.self.view_is c.self.invariant c.args.slot c.args.line c.args.bytes.now c.requires.some c.requires.known c.requires.inside c.requires.absent c.first_place-first.result c.new-way.result c.first_place-first.ensures c.new-way.ensures c.victim-victim.result c.from.result c.in-None.ensures.value c.from.ensures (c.victim-victim.ensures ∙ old)).lines
+
+pub returns-in-Some-clause-range : goal.returns-in-Some-clause-range
+returns-in-Some-clause-range c =
+    let opened : Cache = record { ways = c.self.inside.ways.items; pointers = c.self.inside.pointers } in
+    (placed_free opened c.args.self.now c.self.view_is c.self.invariant c.args.slot c.args.line c.args.bytes.now c.requires.some c.requires.known c.requires.inside c.requires.absent c.first_place-first.result c.new-way.result c.first_place-first.ensures c.new-way.ensures c.in-Some.free c.in-Some.ensures.value).range
+
+pub returns-in-None-clause-range : goal.returns-in-None-clause-range
+returns-in-None-clause-range c =
+    let opened : Cache = record { ways = c.self.inside.ways.items; pointers = c.self.inside.pointers } in
+    let places = c.self.invariant.places in
+    let at : c.first_place-first.result + c.from.result < length opened.ways = omega (arith, c.first_place-first.ensures, c.from.ensures) in
+    let old = ap victim_of (get_or_read opened.ways (c.first_place-first.result + c.from.result) c.index.result.now at c.index.ensures free_way) in
+    (placed_full opened c.args.self.now c.self.view_is c.self.invariant c.args.slot c.args.line c.args.bytes.now c.requires.some c.requires.known c.requires.inside c.requires.absent c.first_place-first.result c.new-way.result c.first_place-first.ensures c.new-way.ensures c.victim-victim.result c.from.result c.in-None.ensures.value c.from.ensures (c.victim-victim.ensures ∙ old)).range

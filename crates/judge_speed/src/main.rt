@@ -1,0 +1,211 @@
+//! How fast a journal is judged: `mixed N` feeds a judge so many entries, in turn a seal, an accept of it, a
+//! hash and three steps that follow; `steps N` steps alone; `owned N` accepts of lines that the owner
+//! sealed; `installs N` so many installs and kills of a guest of one line. `sealings N` seals so many lines and
+//! judges none: the cryptography of `owned`. The benchmark of judging times them.
+#![tactic(auto)]
+
+use std::alloc::Global;
+use std::process::ExitCode;
+use std::{env, io};
+use trace_judge::{Judge, Report};
+use xom_base::{
+    Block, ByteList, Entry, ImageId, Key256, NoMemory, PlainImage, Received, Released, Short, Step,
+    StepEnd, Stored, Writes, number,
+};
+use xom_owners::{Owner, OwnerList};
+use xom_seal::{LineName, LineSealer, image_keys};
+
+const MACHINE: Key256 = Key256([1; 32]);
+
+const IMAGE: Key256 = Key256([2; 32]);
+
+const ID: ImageId = ImageId([3; 16]);
+
+/// `addiu $8, $0, 7`, `j 0` and a `nop` in its delay slot.
+const LOOP: [u8; 12] = [0x24, 8, 0, 7, 8, 0, 0, 0, 0, 0, 0, 0];
+
+/// What is timed.
+#[derive(Clone, Copy)]
+enum Work {
+    Mixed,
+    Steps,
+    Owned,
+    Installs,
+    Sealings,
+}
+
+fn main(rt: HostRuntime) -> io::Result<ExitCode> {
+    let mut words = Vec::new(rt.alloc());
+    for word in env::args(&rt)?.skip(1) {
+        words.push(word)?;
+    }
+    let [what, count] = words.as_slice() else {
+        return usage(&rt);
+    };
+    let (Some(work), Some(count)) = (work_of(what.as_str()), number(count.as_bytes())) else {
+        return usage(&rt);
+    };
+    match lines_of_report(rt.alloc(), work, count) {
+        Ok(lines) => println!(rt; "{lines}")?,
+        Err(_) => println!(rt; "out of memory or refused")?,
+    }
+    Ok(ExitCode::from(0))
+}
+
+fn usage(rt: &HostRuntime) -> io::Result<ExitCode> {
+    println!(rt;
+        "judge_speed: words are `mixed N`, `steps N`, `owned N`, `installs N` or `sealings N`"
+    )?;
+    Ok(ExitCode::from(1))
+}
+
+fn work_of(word: &str) -> Option<Work> {
+    match word {
+        "mixed" => Some(Work::Mixed),
+        "steps" => Some(Work::Steps),
+        "owned" => Some(Work::Owned),
+        "installs" => Some(Work::Installs),
+        "sealings" => Some(Work::Sealings),
+        _ => None,
+    }
+}
+
+/// How many lines the report has, where it finds nothing.
+fn lines_of_report(alloc: Global, work: Work, count: u64) -> Result<u64, NoMemory> {
+    let mut owners = OwnerList::new(alloc);
+    owners.push(owner(alloc)?)?;
+    if let Work::Sealings = work {
+        return Ok(sealed(count));
+    }
+    let accept = owned();
+    let mut judge = Judge::new(alloc, &MACHINE, &owners)?;
+    for i in 0..count {
+        judge.feed(&entry(work, i, &accept))?;
+    }
+    lines(&judge.report()?)
+}
+
+/// The owner of the loop.
+fn owner(alloc: Global) -> Result<Owner, NoMemory> {
+    Ok(Owner {
+        plain: PlainImage {
+            entry: 0,
+            bytes: ByteList::from_vec(Vec::from_slice(alloc, &LOOP)?),
+        },
+        key: IMAGE,
+        id: ID,
+    })
+}
+
+fn lines(report: &Report) -> Result<u64, NoMemory> {
+    match (report.forged, report.collision) {
+        (None, None) => Ok(report.guests.len() as u64),
+        _ => Err(NoMemory),
+    }
+}
+
+/// So many sealings of the loop's line; the first byte of the last tag.
+fn sealed(count: u64) -> u64 {
+    let sealer = LineSealer::new(&image_keys(&IMAGE, &ID));
+    let mut last = 0;
+    for _ in 0..count {
+        let sealing = sealer.seal(&LineName::Image { id: ID, line: 0 }, &line());
+        last = u64::from(sealing.sealed.tag[0]);
+    }
+    last
+}
+
+/// The loop's line.
+fn line() -> [u8; 32] {
+    let mut line = [0; 32];
+    line[..12].copy_from_slice(&LOOP);
+    line
+}
+
+/// The entry at a place, counted from 0.
+fn entry(work: Work, i: u64, accept: &Entry) -> Entry {
+    match work {
+        Work::Installs if i % 2 == 0 => install(i / 2 + 1),
+        Work::Installs => Entry::Kill { install: i / 2 + 1 },
+        _ if i == 0 => install(1),
+        Work::Steps => step(i - 1),
+        Work::Owned => *accept,
+        _ => mixed(i - 1),
+    }
+}
+
+fn install(install: u64) -> Entry {
+    Entry::Install {
+        install,
+        slot: 1,
+        id: ID,
+        place: 0,
+        entry: 0,
+        lines: 1,
+    }
+}
+
+/// The step at a place of the loop's run.
+fn step(i: u64) -> Entry {
+    let (pc, npc, writes) = match i % 3 {
+        0 => (0, 4, Writes::One { reg: 8, value: 7 }),
+        1 => (4, 8, Writes::Nothing),
+        _ => (8, 0, Writes::Nothing),
+    };
+    let step = Step {
+        pc,
+        npc,
+        writes,
+        stored: Stored::Nothing,
+        received: Received::Nothing,
+        released: Released::Nothing,
+        end: StepEnd::Goes,
+    };
+    Entry::Step { install: 1, step }
+}
+
+/// An accept of the loop's line.
+fn owned() -> Entry {
+    let sealer = LineSealer::new(&image_keys(&IMAGE, &ID));
+    let sealing = sealer.seal(&LineName::Image { id: ID, line: 0 }, &line());
+    Entry::Accept {
+        key: Short::new(&IMAGE.0),
+        message: sealing.message,
+        place: 0,
+    }
+}
+
+/// In turn a seal, an accept of it, a hash and three steps.
+fn mixed(i: u64) -> Entry {
+    let round = (i / 6).wrapping_mul(0x9e37_79b9_7f4a_7c15).to_be_bytes();
+    match i % 6 {
+        0 => Entry::Seal {
+            key: Short::new(&[9; 32]),
+            message: message(&round),
+        },
+        1 => Entry::Accept {
+            key: Short::new(&[9; 32]),
+            message: message(&round),
+            place: 0,
+        },
+        2 => hash(&round),
+        other => step(other),
+    }
+}
+
+/// A message of 61 bytes that tells its round.
+fn message(round: &[u8; 8]) -> Short {
+    let mut text = [2; 61];
+    text[9..17].copy_from_slice(round);
+    Short::new(&text)
+}
+
+/// A hash of a text that tells its round, under a made-up digest.
+fn hash(round: &[u8; 8]) -> Entry {
+    let mut digest = [0; 32];
+    digest[..8].copy_from_slice(round);
+    Entry::Hash {
+        preimage: Block::new(round),
+        digest,
+    }
+}

@@ -1,0 +1,300 @@
+-- The functions of a step's fields, and of the step, have just the values of their grammar.
+use Rattle.std.proofs.Common.{◌≡◌, ℕ, ◌+◌, ◌^◌, ◌<◌, ◌≤◌, Bool, true, false, cond, eqb, ◌⊎◌, inl, inr, List, [], ◌∷◌, ◌++◌, length, Option, Some, None, refl, sym, ap, subst, ◌∙◌, arith}
+use Rattle.std.specs.Prelude.{◌↔◌, codes, option_map}
+use Rattle.std.specs.Str.{bytes_eq}
+use Rattle.std.proofs.lemmas.Bool.{cases_Bool}
+use Rattle.std.proofs.lemmas.List.{length-append}
+use Rattle.std.proofs.lemmas.Option.{none-some, option_and_then_some as steps, same_Some}
+use Rattle.xom_base.specs.Hex.{IsHex, hex_of}
+use Rattle.xom_base.specs.Numbers.{Writes as WritesNumber}
+use Rattle.xom_base.specs.Words.{cut_of}
+use Rattle.xom_base.proofs.CutLaws.{cut_of-at, cut_of-whole, option_map_some}
+use Rattle.xom_base.proofs.HexLaws.{hex_of-exact}
+use Rattle.xom_base.specs.declared.event.OwnFault.{OwnFault}
+use Rattle.xom_base.specs.declared.event.OwnFault.TheVariants as fault
+use Rattle.xom_base.specs.declared.step.Writes.{Writes}
+use Rattle.xom_base.specs.declared.step.Writes.TheVariants as writes
+use Rattle.xom_base.specs.declared.step.Stored.{Stored}
+use Rattle.xom_base.specs.declared.step.Stored.TheVariants as stored
+use Rattle.xom_base.specs.declared.step.Received.{Received}
+use Rattle.xom_base.specs.declared.step.Received.TheVariants as received
+use Rattle.xom_base.specs.declared.step.Released.{Released}
+use Rattle.xom_base.specs.declared.step.Released.TheVariants as released
+use Rattle.xom_base.specs.declared.step.StepEnd.{StepEnd}
+use Rattle.xom_base.specs.declared.step.StepEnd.TheVariants as ended
+use Rattle.xom_base.specs.declared.step.Step.{Step}
+use Rattle.step_text.specs.StepFields.{IsEnd, IsFault, IsHex8, IsReceived, IsReleased, IsStep, IsStored, IsWrites, behind, bytes_at_of, cell_of, count_below_of, end_of, fault_of, hex8_of, low_bytes, named_hex8_of, named_number_of, named_pair_of, or_else, received_of, released_of, step_of, stored_bytes_of, stored_of, writes_of}
+use Rattle.step_text.proofs.FieldLaws.{behind_head, cell_found, cell_none, cell_only, count_found, count_only, hex8_of-exact, hex8_without, is_word, named_hex8_found, named_hex8_none, named_hex8_only, named_number_found, named_number_only, named_pair_found, named_pair_none, named_pair_only, number_without, or_else_some, other_head, other_word, same_word}
+
+-- ---- a choice by a word
+
+-- the word is a name and the value that of the name, or it is another word
+either : {A : Type 0} (test : Bool) (x : A) (other : Option A) (y : A) → cond test (Some x) other ≡ Some y → ((test ≡ true) × (x ≡ y)) ⊎ ((test ≡ false) × (other ≡ Some y))
+either true x other y h = inl (refl, same_Some x y h)
+either false x other y h = inr (refl, h)
+
+-- ---- WRITES
+
+writes_found : (word : List ℕ) (w : Writes) → writes_of word ≡ Some w → IsWrites word w
+unfolding writes_of
+writes_found word w h =
+    elim (either (bytes_eq word (codes "-")) writes.Nothing _ w h) [
+      | inl t ↦ subst (IsWrites word) t.1 (same_word word (codes "-") t.0)
+      | inr t ↦ elim (or_else_some _ _ w t.1) [
+        | inl first ↦
+            let m = option_map_some (λ (cell : ℕ × ℕ). writes.One cell.0 cell.1) (cell_of word) w first in
+            subst (IsWrites word) (same_Some (writes.One m.0.0 m.0.1) w m.2) (cell_found word m.0.0 m.0.1 m.1)
+        | inr second ↦
+            let m = option_map_some (λ (pair : ℕ × ℕ). writes.Pair pair.0 pair.1) (named_pair_of (codes "hl=") word) w second in
+            subst (IsWrites word) (same_Some (writes.Pair m.0.0 m.0.1) w m.2) (named_pair_found (codes "hl=") word m.0.0 m.0.1 m.1)
+      ]
+    ]
+
+writes_only : (word : List ℕ) (w : Writes) → IsWrites word w → writes_of word ≡ Some w
+unfolding writes_of
+writes_only word writes.Nothing is = rw (is_word word (codes "-") is) refl
+writes_only word (writes.One reg value) is =
+    let away : bytes_eq word (codes "-") ≡ false = other_head 114 45 word _ _ is.2 refl in
+    rw (away, cell_only word reg value is) refl
+writes_only word (writes.Pair hi lo) is =
+    let away : bytes_eq word (codes "-") ≡ false = other_head 104 45 word _ _ is.2 refl in
+    let no_cell : cell_of word ≡ None = cell_none word (behind_head 114 104 _ word _ is.2 refl) in
+    rw (away, no_cell, named_pair_only (codes "hl=") word hi lo is) refl
+
+pub writes_of-exact : (word : List ℕ) (w : Writes) → (writes_of word ≡ Some w) ↔ IsWrites word w
+writes_of-exact word w = (writes_found word w, writes_only word w)
+
+-- ---- STORED
+
+stored_bytes_found : (word : List ℕ) (s : Stored) → stored_bytes_of word ≡ Some s → IsStored word s
+unfolding stored_bytes_of bytes_at_of
+stored_bytes_found word s h =
+    steps _ (cut_of 43 word) s h (λ parts cuts h.
+    steps _ (hex8_of parts.0) s h (λ address high h.
+    steps _ (cut_of 61 parts.1) s h (λ more cuts_more h.
+    steps _ (count_below_of 5 more.0) s h (λ count read h.
+    steps _ (hex_of count more.1) s h (λ bytes low h.
+    let c = count_found 5 more.0 count read in
+    subst (IsStored word) (same_Some (stored.Bytes address count (low_bytes count bytes)) s h) (
+      parts.0,
+      more.0,
+      more.1,
+      bytes,
+      cut_of-whole 43 word parts.0 parts.1 cuts ∙ ap (λ more. parts.0 ++ (43 ∷ more)) (cut_of-whole 61 parts.1 more.0 more.1 cuts_more),
+      (hex8_of-exact parts.0 address).0 high,
+      c.0,
+      c.1,
+      (hex_of-exact count more.1 bytes).0 low,
+      refl,
+    ))))))
+
+stored_found : (word : List ℕ) (s : Stored) → stored_of word ≡ Some s → IsStored word s
+unfolding stored_of
+stored_found word s h =
+    elim (either (bytes_eq word (codes "-")) stored.Nothing _ s h) [
+      | inl t ↦ subst (IsStored word) t.1 (same_word word (codes "-") t.0)
+      | inr t ↦ stored_bytes_found word s t.1
+    ]
+
+-- a word that begins with eight digits is no dash
+long_word : (a more word : List ℕ) (n : ℕ) → word ≡ a ++ more → IsHex8 a n → bytes_eq word (codes "-") ≡ false
+long_word a more word n is hex =
+    let sized : length a ≡ 8 = hex.1.sized in
+    let long : length word ≡ length a + length more = ap length is ∙ length-append a more in
+    other_word word (codes "-") (omega arith)
+
+stored_only : (word : List ℕ) (s : Stored) → IsStored word s → stored_of word ≡ Some s
+unfolding stored_of stored_bytes_of bytes_at_of
+stored_only word stored.Nothing is = rw (is_word word (codes "-") is) refl
+stored_only word (stored.Bytes address count value) (a, c, h, bytes, whole, high, counts, least, low, valued) =
+    rw (long_word a (43 ∷ (c ++ (61 ∷ h))) word address whole high) (
+    rw whole (
+    rw (cut_of-at 43 a (c ++ (61 ∷ h)) (hex8_without address 43 a (omega arith) high)) (
+    rw ((hex8_of-exact a address).1 high) (
+    rw (cut_of-at 61 c h (number_without 5 count 61 c (omega arith) refl refl counts)) (
+    rw (count_only 5 c count counts least, (hex_of-exact count h bytes).1 low) (
+    ap (λ v. Some (stored.Bytes address count v)) (sym valued)))))))
+
+pub stored_of-exact : (word : List ℕ) (s : Stored) → (stored_of word ≡ Some s) ↔ IsStored word s
+stored_of-exact word s = (stored_found word s, stored_only word s)
+
+-- ---- RECEIVED
+
+received_found : (word : List ℕ) (g : Received) → received_of word ≡ Some g → IsReceived word g
+unfolding received_of
+received_found word g h =
+    elim (either (bytes_eq word (codes "-")) received.Nothing _ g h) [
+      | inl t ↦ subst (IsReceived word) t.1 (same_word word (codes "-") t.0)
+      | inr t ↦ elim (or_else_some _ _ g t.1) [
+        | inl first ↦
+            let m = option_map_some received.Cell (named_hex8_of (codes "cell=") word) g first in
+            subst (IsReceived word) (same_Some (received.Cell m.0) g m.2) (named_hex8_found (codes "cell=") word m.0 m.1)
+        | inr others ↦ elim (or_else_some _ _ g others) [
+          | inl second ↦
+              let m = option_map_some (λ (pair : ℕ × ℕ). received.Null pair.0 pair.1) (named_pair_of (codes "null=") word) g second in
+              subst (IsReceived word) (same_Some (received.Null m.0.0 m.0.1) g m.2) (named_pair_found (codes "null=") word m.0.0 m.0.1 m.1)
+          | inr third ↦
+              let m = option_map_some received.Signal (named_number_of (codes "signal=") word) g third in
+              subst (IsReceived word) (same_Some (received.Signal m.0) g m.2) (named_number_found (codes "signal=") word m.0 m.1)
+        ]
+      ]
+    ]
+
+received_only : (word : List ℕ) (g : Received) → IsReceived word g → received_of word ≡ Some g
+unfolding received_of
+received_only word received.Nothing is = rw (is_word word (codes "-") is) refl
+received_only word (received.Cell value) is =
+    let away : bytes_eq word (codes "-") ≡ false = other_head 99 45 word _ _ is.1 refl in
+    rw (away, named_hex8_only (codes "cell=") word value is) refl
+received_only word (received.Null address value) is =
+    let away : bytes_eq word (codes "-") ≡ false = other_head 110 45 word _ _ is.2 refl in
+    let no_cell : named_hex8_of (codes "cell=") word ≡ None = named_hex8_none (codes "cell=") word (behind_head 99 110 _ word _ is.2 refl) in
+    rw (away, no_cell, named_pair_only (codes "null=") word address value is) refl
+received_only word (received.Signal n) is =
+    let away : bytes_eq word (codes "-") ≡ false = other_head 115 45 word _ _ is.1 refl in
+    let no_cell : named_hex8_of (codes "cell=") word ≡ None = named_hex8_none (codes "cell=") word (behind_head 99 115 _ word _ is.1 refl) in
+    let no_null : named_pair_of (codes "null=") word ≡ None = named_pair_none (codes "null=") word (behind_head 110 115 _ word _ is.1 refl) in
+    rw (away, no_cell, no_null, named_number_only (codes "signal=") word n is) refl
+
+pub received_of-exact : (word : List ℕ) (g : Received) → (received_of word ≡ Some g) ↔ IsReceived word g
+received_of-exact word g = (received_found word g, received_only word g)
+
+-- ---- RELEASED
+
+released_found : (word : List ℕ) (r : Released) → released_of word ≡ Some r → IsReleased word r
+unfolding released_of
+released_found word r h =
+    elim (either (bytes_eq word (codes "-")) released.Nothing _ r h) [
+      | inl t ↦ subst (IsReleased word) t.1 (same_word word (codes "-") t.0)
+      | inr t ↦ elim (or_else_some _ _ r t.1) [
+        | inl first ↦
+            let m = option_map_some (λ (cell : ℕ × ℕ). released.Cell cell.0 cell.1) (cell_of word) r first in
+            subst (IsReleased word) (same_Some (released.Cell m.0.0 m.0.1) r m.2) (cell_found word m.0.0 m.0.1 m.1)
+        | inr second ↦
+            let m = option_map_some (λ (pair : ℕ × ℕ). released.Null pair.0 pair.1) (named_pair_of (codes "null=") word) r second in
+            subst (IsReleased word) (same_Some (released.Null m.0.0 m.0.1) r m.2) (named_pair_found (codes "null=") word m.0.0 m.0.1 m.1)
+      ]
+    ]
+
+released_only : (word : List ℕ) (r : Released) → IsReleased word r → released_of word ≡ Some r
+unfolding released_of
+released_only word released.Nothing is = rw (is_word word (codes "-") is) refl
+released_only word (released.Cell reg value) is =
+    let away : bytes_eq word (codes "-") ≡ false = other_head 114 45 word _ _ is.2 refl in
+    rw (away, cell_only word reg value is) refl
+released_only word (released.Null address value) is =
+    let away : bytes_eq word (codes "-") ≡ false = other_head 110 45 word _ _ is.2 refl in
+    let no_cell : cell_of word ≡ None = cell_none word (behind_head 114 110 _ word _ is.2 refl) in
+    rw (away, no_cell, named_pair_only (codes "null=") word address value is) refl
+
+pub released_of-exact : (word : List ℕ) (r : Released) → (released_of word ≡ Some r) ↔ IsReleased word r
+released_of-exact word r = (released_found word r, released_only word r)
+
+-- ---- END
+
+end_found : (word : List ℕ) (e : StepEnd) → end_of word ≡ Some e → IsEnd word e
+unfolding end_of
+end_found word e h =
+    elim (either (bytes_eq word (codes "goes")) ended.Goes _ e h) [
+      | inl t ↦ subst (IsEnd word) t.1 (same_word word (codes "goes") t.0)
+      | inr t ↦ elim (either (bytes_eq word (codes "exit")) ended.Exit _ e t.1) [
+        | inl u ↦ subst (IsEnd word) u.1 (same_word word (codes "exit") u.0)
+        | inr u ↦
+            let m = option_map_some ended.Call (named_number_of (codes "call=") word) e u.1 in
+            subst (IsEnd word) (same_Some (ended.Call m.0) e m.2) (named_number_found (codes "call=") word m.0 m.1)
+      ]
+    ]
+
+end_only : (word : List ℕ) (e : StepEnd) → IsEnd word e → end_of word ≡ Some e
+unfolding end_of
+end_only word ended.Goes is = rw (is_word word (codes "goes") is) refl
+end_only word ended.Exit is = rw is refl
+end_only word (ended.Call code) is =
+    let no_goes : bytes_eq word (codes "goes") ≡ false = other_head 99 103 word _ _ is.1 refl in
+    let no_exit : bytes_eq word (codes "exit") ≡ false = other_head 99 101 word _ _ is.1 refl in
+    rw (no_goes, no_exit, named_number_only (codes "call=") word code is) refl
+
+pub end_of-exact : (word : List ℕ) (e : StepEnd) → (end_of word ≡ Some e) ↔ IsEnd word e
+end_of-exact word e = (end_found word e, end_only word e)
+
+-- ---- steps
+
+step_found : (words : List (List ℕ)) (step : Step) → step_of words ≡ Some step → IsStep words step
+unfolding step_of
+step_found [] step h = absurd (none-some step h)
+step_found (pc ∷ []) step h = absurd (none-some step h)
+step_found (pc ∷ npc ∷ []) step h = absurd (none-some step h)
+step_found (pc ∷ npc ∷ w ∷ []) step h = absurd (none-some step h)
+step_found (pc ∷ npc ∷ w ∷ s ∷ []) step h = absurd (none-some step h)
+step_found (pc ∷ npc ∷ w ∷ s ∷ g ∷ []) step h = absurd (none-some step h)
+step_found (pc ∷ npc ∷ w ∷ s ∷ g ∷ r ∷ []) step h = absurd (none-some step h)
+step_found (pc ∷ npc ∷ w ∷ s ∷ g ∷ r ∷ e ∷ more ∷ rest) step h = absurd (none-some step h)
+step_found (pc ∷ npc ∷ w ∷ s ∷ g ∷ r ∷ e ∷ []) step h =
+    steps _ (hex8_of pc) step h (λ pc_n pc_is h.
+    steps _ (hex8_of npc) step h (λ npc_n npc_is h.
+    steps _ (writes_of w) step h (λ w_v w_is h.
+    steps _ (stored_of s) step h (λ s_v s_is h.
+    steps _ (received_of g) step h (λ g_v g_is h.
+    steps _ (released_of r) step h (λ r_v r_is h.
+    steps _ (end_of e) step h (λ e_v e_is h.
+    subst (IsStep (pc ∷ npc ∷ w ∷ s ∷ g ∷ r ∷ e ∷ []))
+    (same_Some record { pc = pc_n; npc = npc_n; writes = w_v; stored = s_v; received = g_v; released = r_v; end = e_v } step h) (
+      pc,
+      npc,
+      w,
+      s,
+      g,
+      r,
+      e,
+      refl,
+      (hex8_of-exact pc pc_n).0 pc_is,
+      (hex8_of-exact npc npc_n).0 npc_is,
+      writes_found w w_v w_is,
+      stored_found s s_v s_is,
+      received_found g g_v g_is,
+      released_found r r_v r_is,
+      end_found e e_v e_is,
+    ))))))))
+
+step_only : (words : List (List ℕ)) (step : Step) → IsStep words step → step_of words ≡ Some step
+unfolding step_of
+step_only words step (pc, npc, w, s, g, r, e, is, pc_is, npc_is, w_is, s_is, g_is, r_is, e_is) =
+    ap step_of is ∙ (
+    rw ((hex8_of-exact pc step.pc).1 pc_is, (hex8_of-exact npc step.npc).1 npc_is, writes_only w step.writes w_is, stored_only s step.stored s_is) (
+    rw (received_only g step.received g_is, released_only r step.released r_is, end_only e step.end e_is) refl))
+
+pub step_of-exact : (words : List (List ℕ)) (step : Step) → (step_of words ≡ Some step) ↔ IsStep words step
+step_of-exact words step = (step_found words step, step_only words step)
+
+-- ---- faults
+
+fault_found : (word : List ℕ) (kind : OwnFault) → fault_of word ≡ Some kind → IsFault word kind
+unfolding fault_of
+fault_found word kind h =
+    elim (either (bytes_eq word (codes "Reserved")) fault.Reserved _ kind h) [
+      | inl t ↦ subst (IsFault word) t.1 (same_word word (codes "Reserved") t.0)
+      | inr t ↦ elim (either (bytes_eq word (codes "Foreign")) fault.Foreign _ kind t.1) [
+        | inl t ↦ subst (IsFault word) t.1 (same_word word (codes "Foreign") t.0)
+        | inr t ↦ elim (either (bytes_eq word (codes "Overflow")) fault.Overflow _ kind t.1) [
+          | inl t ↦ subst (IsFault word) t.1 (same_word word (codes "Overflow") t.0)
+          | inr t ↦ elim (either (bytes_eq word (codes "Address")) fault.Address _ kind t.1) [
+            | inl t ↦ subst (IsFault word) t.1 (same_word word (codes "Address") t.0)
+            | inr t ↦ elim (either (bytes_eq word (codes "Break")) fault.Break None kind t.1) [
+              | inl t ↦ subst (IsFault word) t.1 (same_word word (codes "Break") t.0)
+              | inr t ↦ absurd (none-some kind t.1)
+            ]
+          ]
+        ]
+      ]
+    ]
+
+fault_only : (word : List ℕ) (kind : OwnFault) → IsFault word kind → fault_of word ≡ Some kind
+unfolding fault_of
+fault_only word fault.Reserved is = rw is refl
+fault_only word fault.Foreign is = rw is refl
+fault_only word fault.Overflow is = rw is refl
+fault_only word fault.Address is = rw is refl
+fault_only word fault.Break is = rw is refl
+
+pub fault_of-exact : (word : List ℕ) (kind : OwnFault) → (fault_of word ≡ Some kind) ↔ IsFault word kind
+fault_of-exact word kind = (fault_found word kind, fault_only word kind)

@@ -1,0 +1,38 @@
+-- Reports of equal parts are equal, and a judge that is fed a journal.
+use Rattle.std.proofs.Common.{◌≡◌, ℕ, ◌+◌, ◌^◌, ◌<◌, List, [], ◌∷◌, ◌++◌, Option, Some, None, true, length, min, take, ap, subst, sym, ◌∙◌, arith, length-take}
+use Rattle.std.specs.Prelude.{IfOk, Result, Ok, Err, slice_get}
+use Rattle.xom_base.specs.declared.entry.Entry.{Entry}
+use Rattle.xom_base.specs.declared.key.Key256.{Key256}
+use Rattle.xom_base.specs.declared.list.NoMemory.{NoMemory}
+use Rattle.xom_owners.specs.declared.owner.Owner.{Owner}
+use Rattle.trace_judge.specs.declared.report.GuestLine.{GuestLine}
+use Rattle.trace_judge.specs.declared.report.Report.{Report}
+use Rattle.trace_judge.specs.declared.stream.Judge.{Judge}
+use Rattle.trace_judge.specs.Judgement.{judgement}
+use Rattle.trace_judge.specs.Judging.{HasJudged}
+use Rattle.trace_judge.specs.Numbers.{install_count, may_stand}
+use Rattle.trace_judge.proofs.Takes.{take_got, take_none}
+
+abbrev report_of : List GuestLine → Option ℕ → Option (ℕ × ℕ) → Report
+report_of guests forged collision = record { guests = guests; forged = forged; collision = collision }
+
+pub same_report : {gs hs : List GuestLine} {f g : Option ℕ} {p q : Option (ℕ × ℕ)} → gs ≡ hs → f ≡ g → p ≡ q → (let r : Report = record { guests = gs; forged = f; collision = p } in r) ≡ record { guests = hs; forged = g; collision = q }
+same_report {gs} {hs} {f} {g} {p} {q} lines first pair =
+    ap (λ x. report_of x f p) lines ∙ ap (λ x. report_of hs x p) first ∙ ap (λ x. report_of hs g x) pair
+
+-- ---- A journal, entry by entry
+
+-- one more entry of a journal
+pub judged_next : (machine : Key256) (owners : List Owner) (old new : Judge) (entries : List Entry) (i : ℕ) (e : Entry) → slice_get entries i ≡ Some e → i + 1 < 2 ^ 64 → may_stand (install_count (take i entries)) e ≡ true → ((m : Key256) (os : List Owner) (es : List Entry) → length es + 1 < 2 ^ 64 → may_stand (install_count es) e ≡ true → HasJudged m os old es → HasJudged m os new (es ++ e ∷ [])) → HasJudged machine owners old (take i entries) → HasJudged machine owners new (take (i + 1) entries)
+judged_next machine owners old new entries i e got small may feeds judged =
+    let short : length (take i entries) ≡ min i (length entries) = length-take i entries in
+    subst (HasJudged machine owners new) (sym (take_got entries i e got)) (feeds machine owners (take i entries) (omega arith) may judged)
+
+-- nothing more behind the last
+pub judged_none : (machine : Key256) (owners : List Owner) (judge : Judge) (entries : List Entry) (i : ℕ) → slice_get entries i ≡ None → HasJudged machine owners judge (take i entries) → HasJudged machine owners judge (take (i + 1) entries)
+judged_none machine owners judge entries i none judged = subst (HasJudged machine owners judge) (sym (take_none entries i none)) judged
+
+-- the report of a judge that was fed all
+pub judgement-of_report : (machine : Key256) (owners : List Owner) (judge : Judge) (entries : List Entry) (result : Result Report NoMemory) → IfOk result (λ report. (m : Key256) (os : List Owner) (es : List Entry) → HasJudged m os judge es → report ≡ judgement m os es) → HasJudged machine owners judge entries → IfOk result (λ report. report ≡ judgement machine owners entries)
+judgement-of_report machine owners judge entries (Ok report) tells judged = tells machine owners entries judged
+judgement-of_report machine owners judge entries (Err e) tells judged = tt
