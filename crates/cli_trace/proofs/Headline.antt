@@ -19,7 +19,7 @@ use Rattle.xom_model.specs.Run.{is_flagged, one_event, run_from}
 use Rattle.xom_model.specs.Holds.{Holds, Installs, IsAlone, IsInstalled}
 use Rattle.xom_model.proofs.StartKept.{installed_holds}
 use Rattle.xom_model.proofs.Turns.{events_keep}
-use Rattle.script_kernel.specs.Turns.{script_told}
+use Rattle.script_kernel.specs.Turns.{ops_of, script_told}
 use Rattle.cli_trace.specs.declared.trace.Parts.{Parts}
 use Rattle.cli_trace.specs.Trace.{AllFollow, first_of, last_of, last_record, owner_in, report_of}
 
@@ -83,6 +83,6 @@ pub all_follow : (parts : Parts) → AllFollow (report_of parts)
 all_follow parts =
     let owners = owner_in parts ∷ [] in
     let entries = (last_record parts).core.entries in
-    let holds = last_of-holds (owner_in parts) parts.file.schedule.interrupts parts.file.budget parts.script in
+    let holds = last_of-holds (owner_in parts) parts.file.schedule.interrupts parts.file.budget (ops_of parts.script.lines) in
     let follows = Follows-lines owners entries (All-of_gets (IsRun owners entries) entries (λ i e is. run-at owners entries holds.slots.alone e i is)) in
     λ k d within. (length (steps_of _ entries), follows k d within)

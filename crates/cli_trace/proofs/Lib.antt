@@ -1,3 +1,5 @@
+pub mod Only
+pub mod Reading
 pub mod Runnable
 pub mod Told
 pub mod Headline

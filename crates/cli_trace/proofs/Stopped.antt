@@ -2,7 +2,7 @@
 use Rattle.std.proofs.Common.{ℕ, List, Ok, Err}
 use Rattle.xom_io.specs.Answers.{Told}
 use Rattle.xom_base.specs.declared.image.PlainImage.{PlainImage}
-use Rattle.xom_script.specs.declared.run_file.RunFile.{RunFile}
+use Rattle.cli_trace.specs.declared.lone_run.LoneRun.{LoneRun}
 use Rattle.cli_base.specs.declared.refusal.Stop.{Stop}
 use Rattle.cli_base.specs.Inputs.{Held, image_of, without}
 use Rattle.cli_base.specs.Readings.{Gives}
@@ -15,7 +15,7 @@ unfolding run_file_of
 run_file-without held name n = input-without _ _ held name n
 
 -- a run, stopped in its image
-pub parts_stop_image : (told : Told) (run : List ℕ) (before between after : ℕ) (file : RunFile) (why : Stop) → Gives told (λ held. run_file_of held run) before between (Ok file)
+pub parts_stop_image : (told : Told) (run : List ℕ) (before between after : ℕ) (file : LoneRun) (why : Stop) → Gives told (λ held. run_file_of held run) before between (Ok file)
     → Gives told (λ held. image_of held file.owner.plain) between after (Err why) → Gives told (λ held. parts_of held run) before after (Err why)
 unfolding parts_of
 parts_stop_image told run before between after file why gave is =
@@ -23,7 +23,7 @@ parts_stop_image told run before between after file why gave is =
     (stops-through told (λ held. image_of held file.owner.plain) _ between after why is)
 
 -- a run, stopped in its script
-pub parts_stop_script : (told : Told) (run : List ℕ) (before between later after : ℕ) (file : RunFile) (image : PlainImage) (why : Stop) → Gives told (λ held. run_file_of held run) before between (Ok file)
+pub parts_stop_script : (told : Told) (run : List ℕ) (before between later after : ℕ) (file : LoneRun) (image : PlainImage) (why : Stop) → Gives told (λ held. run_file_of held run) before between (Ok file)
     → Gives told (λ held. image_of held file.owner.plain) between later (Ok image) → Gives told (λ held. script_of held file.kernel) later after (Err why)
     → Gives told (λ held. parts_of held run) before after (Err why)
 unfolding parts_of

@@ -16,7 +16,7 @@ use Rattle.trace_judge.specs.ReportText.{report_text}
 use Rattle.xom_model.specs.State.{Record, power_on}
 use Rattle.xom_model.specs.Install.{given}
 use Rattle.xom_model.specs.Run.{IsSchedule, run_from}
-use Rattle.script_kernel.specs.Turns.{script_told}
+use Rattle.script_kernel.specs.Turns.{is_built, ops_of, script_told}
 use Rattle.journal_text.specs.JournalTexts.{journal_text}
 use Rattle.cli_base.specs.declared.answer.Answer.{Answer}
 use Rattle.cli_base.specs.declared.answer.OutputFile.{OutputFile}
@@ -25,7 +25,7 @@ use Rattle.cli_base.specs.declared.refusal.Refusal.{Refusal}
 use Rattle.cli_base.specs.Inputs.{◌>>=◌, Held, image_of}
 use Rattle.cli_trace.specs.Console.{console_lines, console_of}
 use Rattle.cli_trace.specs.Inputs.{run_file_of, script_of}
-use Rattle.xom_script.specs.declared.run_file.RunFile.{RunFile}
+use Rattle.cli_trace.specs.declared.lone_run.LoneRun.{LoneRun}
 
 -- ---- What is read
 
@@ -34,8 +34,8 @@ unfoldable pub parts_of : Held → List ℕ → Result Parts Refusal
 parts_of held run = do
   file ← run_file_of held run
   image ← image_of held file.owner.plain
-  ops ← script_of held file.kernel
-  Ok (record { file = file; image = image; script = ops })
+  script ← script_of held file.kernel
+  Ok (record { file = file; image = image; script = script })
 
 -- ---- What is run and judged
 
@@ -52,12 +52,19 @@ unfoldable pub last_of : Owner → Interrupts → ℕ → List Op → Record
 last_of owner line budget ops = unwrap_or (run_from script_told line budget 0 (first_of owner) ops) (first_of owner)
 
 abbrev pub last_record : Parts → Record
-last_record parts = last_of (owner_in parts) parts.file.schedule.interrupts parts.file.budget parts.script
+last_record parts = last_of (owner_in parts) parts.file.schedule.interrupts parts.file.budget (ops_of parts.script.lines)
 
--- a run can be made of a run file: its schedule keeps the rules, and its budget is small
-pub record IsRunnable (file : RunFile) : Type 0 where
+-- a run can be made of a run file: its schedule keeps the rules, without writes of the bus, and its
+-- budget is small
+pub record IsRunnable (file : LoneRun) : Type 0 where
   pub schedule : IsSchedule file.schedule.interrupts
+  pub pokes : file.schedule.pokes ≡ []
   pub budget : file.budget ≤ 2 ^ 20
+
+-- and of all its parts: its kernel has each line of the script
+pub record CanRun (parts : Parts) : Type 0 where
+  pub file : IsRunnable parts.file
+  pub script : is_built parts.script ≡ true
 
 -- the judgement of its journal, by the machine key of the run file
 abbrev pub report_of : Parts → Report

@@ -3,6 +3,7 @@
 #![tactic(auto)]
 
 mod console;
+mod lone_run;
 mod reading;
 pub mod run;
 pub mod trace;

@@ -2,7 +2,7 @@ ghost use Rattle.std.specs.Prelude.{◌≡◌, IfOk, string_bytes};
 ghost use Rattle.cli_base.specs.Commands.{IsDone};
 ghost use Rattle.cli_base.specs.Readings.{Gives};
 ghost use Rattle.cli_trace.specs.Run.{console_run, run_of};
-ghost use Rattle.cli_trace.specs.Trace.{IsRunnable};
+ghost use Rattle.cli_trace.specs.Trace.{CanRun};
 
 use crate::console::console;
 use crate::trace::{Parts, judged, read_parts, status};
@@ -28,7 +28,7 @@ pub fn run<F: Files>(alloc: Global, files: &mut F, run: &String) -> Result<Answe
 /// Makes the run, and prints its console.
 #[tactic(auto, unfolding(crate::specs::Run::console_run))]
 fn console_alone(alloc: Global, parts: Parts) -> Result<Answer, NoMemory>
-    requires { IsRunnable parts.file }
+    requires { CanRun parts }
     ensures { IfOk result (λ answer. answer ≡ console_run parts) }
 {
     let made = judged(alloc, parts)?;

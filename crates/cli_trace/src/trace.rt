@@ -1,11 +1,13 @@
-ghost use Rattle.std.specs.Prelude.{◌≡◌, ◌≤◌, ◌^◌, IfOk, option_map, string_bytes};
+ghost use Rattle.std.specs.Prelude.{◌≡◌, ◌≤◌, ◌^◌, IfOk, option_map, string_bytes, [], true};
 ghost use Rattle.std.specs.List.{list_any};
 ghost use Rattle.cli_base.specs.Commands.{IsDone};
 ghost use Rattle.cli_base.specs.Readings.{Gives};
-ghost use Rattle.cli_trace.specs.Trace.{IsRunnable, answer_of, ending_text, events_line, is_doubted as is_doubted_by, is_stop as is_stop_by, is_suspect as is_suspect_by, journal_file as journal_file_of, last_of, last_record, parts_of, report_of, trace_of, trace_status, traced as traced_of};
+ghost use Rattle.cli_trace.specs.Trace.{CanRun, answer_of, ending_text, events_line, is_doubted as is_doubted_by, is_stop as is_stop_by, is_suspect as is_suspect_by, journal_file as journal_file_of, last_of, last_record, parts_of, report_of, trace_of, trace_status, traced as traced_of};
+ghost use Rattle.script_kernel.specs.Turns.{is_built, ops_of};
 ghost use Rattle.xom_model.specs.Run.{IsSchedule};
 
 use crate::console::{console, end_line};
+use crate::lone_run::LoneRun;
 use crate::reading::{run_file, script};
 use cli_base::{Answer, OutputFile, Stop, image};
 use journal_text::print_journal;
@@ -18,13 +20,13 @@ use xom_io::{Files, Name};
 use xom_journal::Journal;
 use xom_machine::{Machine, run};
 use xom_owners::{Owner, OwnerList};
-use xom_script::{RunFile, Script};
+use xom_script::Script;
 
 /// All that a run is made of.
 #[derive(Drop)]
 pub struct Parts {
     /// The run file.
-    pub file: RunFile,
+    pub file: LoneRun,
     /// The image of its owner, which is its guest.
     pub image: PlainImage,
     /// What its kernel does.
@@ -66,7 +68,7 @@ pub fn trace<F: Files>(
 pub fn read_parts<F: Files>(alloc: Global, files: &mut F, run: &String) -> Result<Parts, Stop>
     ensures gives { Gives (F.held files.old) (λ held. parts_of held (string_bytes run.now))
         (F.reads files.old) (F.reads files.new) result }
-    ensures runnable { IfOk result (λ parts. IsRunnable parts.file) }
+    ensures runnable { IfOk result CanRun }
     ensures names { F.held files.new ≡ F.held files.old }
     ensures writes { F.writes files.new ≡ F.writes files.old }
 {
@@ -83,7 +85,7 @@ pub fn read_parts<F: Files>(alloc: Global, files: &mut F, run: &String) -> Resul
 /// Makes the run, and says what a trace has to say of it.
 #[tactic(auto, unfolding(crate::specs::Trace::traced))]
 fn traced(alloc: Global, parts: Parts, journal: Option<&String>) -> Result<Answer, NoMemory>
-    requires { IsRunnable parts.file }
+    requires { CanRun parts }
     ensures { IfOk result (λ answer. answer ≡ traced_of (option_map (λ name. string_bytes name.now) journal.entry) parts) }
 {
     let made = judged(alloc, parts)?;
@@ -92,7 +94,7 @@ fn traced(alloc: Global, parts: Parts, journal: Option<&String>) -> Result<Answe
 
 /// Makes the run and judges its journal.
 pub fn judged(alloc: Global, parts: Parts) -> Result<JudgedRun, NoMemory>
-    requires { IsRunnable parts.file }
+    requires { CanRun parts }
     ensures machine { IfOk result (λ made. made.machine.state ≡ last_record parts) }
     ensures report { IfOk result (λ made. made.report ≡ report_of parts) }
 {
@@ -123,8 +125,10 @@ fn ran(
     script: Script,
 ) -> Result<Machine, NoMemory>
     requires schedule { IsSchedule schedule.now.interrupts }
+    requires pokes { schedule.now.pokes ≡ [] }
+    requires built { is_built script ≡ true }
     requires budget { budget ≤ 2 ^ 20 }
-    ensures { IfOk result (λ machine. machine.state ≡ last_of owner.now schedule.now.interrupts budget script) }
+    ensures { IfOk result (λ machine. machine.state ≡ last_of owner.now schedule.now.interrupts budget (ops_of script.lines)) }
 {
     let mut machine = Machine::new(alloc)?;
     machine.give(owner.id, owner.key, &owner.plain)?;

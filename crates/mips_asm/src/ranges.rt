@@ -6,10 +6,10 @@ ghost use Rattle.mips_asm.specs.Passes.{line_of};
 ghost use Rattle.mips_asm.specs.Sources.{IsFirst, IsOutOfRange, Writes};
 
 use crate::AsmFault;
-use crate::placed_bytes::PlacedBytes;
 use crate::data::bytes_of;
 use crate::labels::Labels;
 use crate::placed::Placed;
+use crate::placed_bytes::PlacedBytes;
 use std::alloc::Global;
 
 /// What each statement writes at its place. The fault is the first line with a value out of its range,

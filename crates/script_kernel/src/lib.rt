@@ -3,4 +3,4 @@
 
 mod kernel;
 
-pub use kernel::ScriptKernel;
+pub use kernel::{ScriptKernel, is_built};

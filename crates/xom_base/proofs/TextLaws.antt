@@ -125,3 +125,26 @@ module _ {X : Type 0} (make : List (List ℕ) → Option X) (row : List (List �
       alone : (r : Result (List X) TextFault) → IfOk r (IsText (Rows row) (λ values last. values) tt text) → IfOk r (IsRows row text)
       alone (Ok values) is = rw is.3 is.2
       alone (Err fault) is = tt
+
+-- ---- formats whose function is tied to their relations
+
+module _ {A : Type 0} (read : Result A ℕ) (IsOf : A → Type 0) (IsBad : ℕ → Type 0)
+    (exact : (value : A) → (read ≡ Ok value) ↔ IsOf value) (bad : (n : ℕ) → read ≡ Err n → IsBad n) where
+  exact_only : (r : Result A TextFault) → AnswersRead read r → (value : A) → IsOf value → OrOut text_fault.NoMemory (Ok value) r
+  exact_only (Ok other) h value is = inl (ap Ok (same_Ok other value (sym h ∙ (exact value).1 is)))
+  exact_only (Err (text_fault.Line n)) h value is = absurd (ok_err value n (sym ((exact value).1 is) ∙ h))
+  exact_only (Err text_fault.NoMemory) h value is = inr refl
+
+  exact_bad : (r : Result A TextFault) → AnswersRead read r → (n : ℕ) → r ≡ Err (text_fault.Line n) → IsBad n
+  exact_bad (Ok value) h n is = absurd (ok_err value (text_fault.Line n) is)
+  exact_bad (Err (text_fault.Line m)) h n is =
+      let same : m ≡ n = cc in
+      bad n (h ∙ ap Err same)
+  exact_bad (Err text_fault.NoMemory) h n is = absurd cc
+
+  exact_found : (r : Result A TextFault) → AnswersRead read r → IfOk r IsOf
+  exact_found (Ok value) h = (exact value).0 h
+  exact_found (Err fault) h = tt
+
+  pub AnswersText-exact : (r : Result A TextFault) → AnswersRead read r → AnswersText IsOf IsBad r
+  AnswersText-exact r h = record { found = exact_found r h; only = exact_only r h; bad = exact_bad r h }

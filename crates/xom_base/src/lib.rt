@@ -33,5 +33,5 @@ pub use lines::{
 pub use list::{ByteList, List, NoMemory, NumberList};
 pub use numbers::{decimal, decimal_below, number, number_below};
 pub use payload::{Block, Payload, Short};
-pub use schedule::{Interrupts, Schedule};
+pub use schedule::{Interrupts, Poke, PokeList, Schedule};
 pub use step::{Received, Released, Step, StepEnd, Stored, Writes, step_eq};

@@ -4,7 +4,8 @@ use crate::inputs::{TWELVE, image_of, owner_of};
 use std::test::Fail;
 use trace_judge::{GuestEnd, GuestLine, GuestLineList, Report, Verdict, judge, print_report};
 use xom_base::{
-    Block, Entry, ImageId, Key256, NoMemory, Received, Released, Rule, Short, Step, StepEnd, Stored, Writes,
+    Block, Entry, ImageId, Key256, NoMemory, Received, Released, Rule, Short, Step, StepEnd,
+    Stored, Writes,
 };
 use xom_journal::{Journal, cost};
 use xom_owners::OwnerList;

@@ -8,8 +8,8 @@ use std::alloc::Global;
 use std::test::Fail;
 use tag_regs::Cells;
 use xom_base::{
-    Cause, Event, ImageId, Interrupts, Key256, NoMemory, NumberList, Op, Outcome, OwnFault, Rule,
-    RunEnd, Schedule, Stored, Turn,
+    Cause, Event, ImageId, Interrupts, Key256, NoMemory, NumberList, Op, Outcome, OwnFault,
+    PokeList, Rule, RunEnd, Schedule, Stored, Turn,
 };
 use xom_guest::guest_event;
 use xom_machine::{Kernel, Machine, View, next_event, run};
@@ -142,6 +142,7 @@ fn a_guest_runs_to_its_end(rt: HostRuntime) -> Result<(), Fail> {
     machine.reserve_run(9)?;
     let schedule = Schedule {
         interrupts: Interrupts::Never,
+        pokes: PokeList::new(rt.alloc()),
     };
     let end = run(&mut machine, &mut Patient { resumes: 0 }, &schedule, 100);
     assert!(rt; matches!(end, RunEnd::Halted));
@@ -160,6 +161,7 @@ fn an_interrupted_guest_goes_on(rt: HostRuntime) -> Result<(), Fail> {
     numbers.push(1)?;
     let schedule = Schedule {
         interrupts: Interrupts::At(numbers),
+        pokes: PokeList::new(rt.alloc()),
     };
     let _end = run(&mut machine, &mut Patient { resumes: 1 }, &schedule, 100);
     assert!(rt; machine.events() == 7);
@@ -172,6 +174,7 @@ fn an_event_is_made_by_itself(rt: HostRuntime) -> Result<(), Fail> {
     let mut machine = machine_of_twelve(rt.alloc())?;
     let schedule = Schedule {
         interrupts: Interrupts::Every(1),
+        pokes: PokeList::new(rt.alloc()),
     };
     let event = next_event(&machine, &mut Patient { resumes: 0 }, &schedule, 0);
     assert!(rt; matches!(event, Event::Do(Op::Enter { slot: 1 })));

@@ -8,7 +8,7 @@ use xom_base::{
     Block, ByteList, Chunk, Interrupts, LineFault, LineFormat, NumberList, Op, Payload, Short,
     TextFault, read_lines, split_lines, words,
 };
-use xom_script::{read_run, read_script};
+use xom_script::{KernelLine, ScriptLine, read_run, read_script};
 
 #[test]
 fn lists_chunks_and_payloads_hold_what_is_put(rt: HostRuntime) -> Result<(), Fail> {
@@ -79,7 +79,7 @@ fn long_texts_are_cut(rt: HostRuntime) -> Result<(), Fail> {
     assert!(rt; words(rt.alloc(), &text)?.len() == 524_288);
     let text = repeated(rt.alloc(), b"enter 1\n", 131_072)?;
     assert!(rt; split_lines(rt.alloc(), &text)?.len() == 131_072);
-    assert!(rt; read_script(rt.alloc(), &text)?.ops().len() == 131_072);
+    assert!(rt; read_script(rt.alloc(), &text)?.lines.len() == 131_072);
     Ok(())
 }
 
@@ -89,12 +89,12 @@ fn the_operations_of_a_script_are_read(rt: HostRuntime) -> Result<(), Fail> {
     let script = read_script(rt.alloc(), text)?;
     assert!(rt;
         matches!(
-            script.ops(),
+            script.lines.as_slice(),
             [
-                Op::Enter { slot: 1 },
-                Op::SetReg { reg: 5, value: 9 },
-                Op::Resume { slot: 1, signal: 0 },
-                Op::Halt
+                ScriptLine::Do(Op::Enter { slot: 1 }),
+                ScriptLine::Do(Op::SetReg { reg: 5, value: 9 }),
+                ScriptLine::Do(Op::Resume { slot: 1, signal: 0 }),
+                ScriptLine::Do(Op::Halt)
             ]
         )
     );
@@ -118,9 +118,13 @@ fn the_fields_of_a_run_file_are_read(rt: HostRuntime) -> Result<(), Fail> {
     }
     let run = read_run(rt.alloc(), text.as_bytes())?;
     assert!(rt; run.machine.0[31] == 31 && run.boot == 7 && run.frames == 16 && run.budget == 1000);
-    assert!(rt; run.owner.plain.as_str() == "one.plain");
-    assert!(rt; run.owner.key.0[0] == 0x11 && run.owner.id.0[15] == 0x22);
-    assert!(rt; run.kernel.as_string().as_str() == "one.script");
+    let ([owner], [guest]) = (run.owners.as_slice(), run.guests.as_slice()) else {
+        panic!(rt; "there is one owner and one guest");
+    };
+    assert!(rt; owner.plain.as_str() == "one.plain" && guest.sealed.as_str() == "one.plain");
+    assert!(rt; owner.key.0[0] == 0x11 && owner.id.0[15] == 0x22 && guest.line == 6);
+    assert!(rt; matches!(&run.kernel, KernelLine::Script(name) if name.as_str() == "one.script"));
+    assert!(rt; run.kernel_line == 7 && run.schedule.pokes.is_empty());
     let Interrupts::At(times) = &run.schedule.interrupts else {
         panic!(rt; "no guest events are listed");
     };

@@ -1,4 +1,4 @@
-ghost use Rattle.std.specs.Prelude.{◌≡◌, ◌<◌, ◌+◌, ◌^◌, ◌==◌, true, false};
+ghost use Rattle.std.specs.Prelude.{◌≡◌, ◌<◌, ◌+◌, ◌^◌, ◌==◌, true, false, []};
 ghost use Rattle.std.specs.List.{list_any};
 ghost use Rattle.std.specs.List.Sorted.{IsStrictlyIncreasing};
 ghost use Rattle.xom_machine.specs.Runs.{IsNext};
@@ -10,7 +10,7 @@ use xom_base::{Event, Interrupts, Schedule, Turn};
 
 /// The next event of a run in which so many guest events were made before: of the guest where one
 /// runs, with the interrupt line set by its number, else the kernel's turn. A number of the
-/// schedule is looked up by halves.
+/// schedule is looked up by halves. There are no writes of the bus yet, so the schedule has none.
 pub fn next_event<K: Kernel>(
     machine: &Machine,
     kernel: &mut K,
@@ -19,6 +19,7 @@ pub fn next_event<K: Kernel>(
 ) -> Event
     requires going { machine.now.state.halted ≡ false }
     requires schedule { IsSchedule schedule.now.interrupts }
+    requires pokes { schedule.now.pokes ≡ [] }
     requires few { guests < 2 ^ 63 }
     ensures fits { fits_of machine.now.state result ≡ true }
     ensures next { IsNext K.told schedule.now.interrupts guests machine.now.state kernel.old result kernel.new }

@@ -1,4 +1,4 @@
-ghost use Rattle.std.specs.Prelude.{◌≡◌, ◌≤◌, ◌<◌, ◌+◌, ◌*◌, ◌^◌, ◌↔◌, true, false, List, ℕ, length, IfSome, OnOk, OnErr, IsOk};
+ghost use Rattle.std.specs.Prelude.{◌≡◌, ◌≤◌, ◌<◌, ◌+◌, ◌*◌, ◌^◌, ◌↔◌, true, false, List, ℕ, length, IfSome, OnOk, OnErr, IsOk, []};
 ghost use Rattle.xom_owners.specs.declared.owner.Owner.{Owner};
 ghost use Rattle.xom_base.specs.declared.event.Event.{Event};
 ghost use Rattle.xom_machine.specs.Runs.{IsRun, Ran, WentOn, guests_in as guests_in_event};
@@ -11,7 +11,8 @@ use xom_private::EVENT_ROOM;
 
 /// Runs a kernel over a machine from its first event on, up to the kernel's Halt or to so many
 /// events. Each event is made by `next_event`, `reserve_event` and `step`. Want of memory is
-/// answered only where the journal had less room than all the events of the budget may take.
+/// answered only where the journal had less room than all the events of the budget may take. The
+/// machine doesn't make writes of the bus yet, so the schedule has none.
 pub fn run<K: Kernel>(
     machine: &mut Machine,
     kernel: &mut K,
@@ -21,6 +22,7 @@ pub fn run<K: Kernel>(
     requires first { machine.old.state.events ≡ 0 }
     requires going { machine.old.state.halted ≡ false }
     requires schedule { IsSchedule schedule.now.interrupts }
+    requires pokes { schedule.now.pokes ≡ [] }
     requires few { budget < 2 ^ 62 }
 
     // What the machine keeps of each guest is kept, whatever the kernel does.
@@ -48,6 +50,7 @@ fn make_events<K: Kernel>(
 ) -> RunEnd
     requires first { machine.old.state.events ≡ 0 }
     requires schedule { IsSchedule schedule.now.interrupts }
+    requires pokes { schedule.now.pokes ≡ [] }
     requires few { budget < 2 ^ 62 }
     ensures { Ran K.told schedule.now.interrupts budget machine.old kernel.old result machine.new }
 {
@@ -76,6 +79,7 @@ fn make_next<K: Kernel>(
 ) -> Result<(), NoMemory>
     requires going { machine.old.state.halted ≡ false }
     requires schedule { IsSchedule schedule.now.interrupts }
+    requires pokes { schedule.now.pokes ≡ [] }
     requires few { guests.old < 2 ^ 62 }
     requires count { machine.old.state.events < 2 ^ 62 }
     ensures ok { OnOk result (WentOn K.told schedule.now.interrupts guests.old machine.old kernel.old guests.new machine.new kernel.new) }

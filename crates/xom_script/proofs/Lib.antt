@@ -1,3 +1,5 @@
-pub mod FormLaws
-pub mod RunFileLaws
+pub mod FieldLaws
+pub mod RuleLaws
+pub mod RunLaws
+pub mod RunLineLaws
 pub mod ScriptLaws

@@ -1,110 +1,211 @@
--- A script's function has just the values of its grammar.
-use Rattle.std.proofs.Common.{◌≡◌, ℕ, ◌^◌, true, cond, eqb, inl, inr, List, [], ◌∷◌, Some, None, Result, Ok, Err, refl, ap, subst}
+-- The function of scripts has just the values of their grammar.
+use Rattle.std.proofs.Common.{◌≡◌, ℕ, ◌^◌, ◌<◌, ◌≤◌, ◌&&◌, ltb, leb, inl, inr, List, [], ◌∷◌, Some, None, Result, Ok, Err, refl, sym, ap, subst, ◌∙◌, arith}
 use Rattle.std.specs.Prelude.{◌↔◌, codes}
 use Rattle.std.specs.Str.{bytes_eq}
-use Rattle.std.proofs.lemmas.Bool.{eqb-true}
+use Rattle.std.proofs.lemmas.Bool.{and_parts, leb-true, le-leb, ltb-true, lt-ltb}
 use Rattle.std.proofs.lemmas.Option.{none-some, option_and_then_some as steps, same_Some}
-use Rattle.std.proofs.lemmas.Slice.Eq.{bytes_eq-Decides}
-use Rattle.xom_base.specs.Lines.{Rows, Tells, lines_of, read_from}
-use Rattle.xom_base.specs.Numbers.{number_below_of}
-use Rattle.xom_base.proofs.LineLaws.{Tells-rows, only_reads, reads_from}
-use Rattle.xom_base.proofs.NumberLaws.{cond_then, number_below_of-exact}
-use Rattle.xom_base.specs.declared.event.Op.{Op}
-use Rattle.xom_base.specs.declared.event.Op.TheVariants.{Install, Enter, Resume, Save, Restore, Map, Unmap, SetReg, Kill, Out, Halt}
-use Rattle.xom_script.specs.Scripts.{IsOp, IsScript, enter_of, op_of, op_step, resume_of, script_at, setreg_of, values_of}
-use Rattle.xom_script.proofs.FormLaws.{chosen, holds_some}
+use Rattle.xom_base.specs.Lines.{AnswersRead, AnswersText, Rows, Tells, lines_of, made_of, read_from}
+use Rattle.xom_base.specs.Numbers.{Writes, number_below_of}
+use Rattle.xom_base.proofs.LineLaws.{Tells-rows, bad_from, only_bad, only_reads, reads_from, same_Err, same_Ok}
+use Rattle.xom_base.proofs.NumberLaws.{number_below_of-exact}
+use Rattle.xom_base.proofs.TextLaws.{AnswersText-exact}
+use Rattle.xom_base.specs.declared.lines.TextFault.{TextFault}
+use Rattle.xom_base.specs.declared.event.Op.TheVariants as op
+use Rattle.xom_script.specs.Fields.{Writes32, write_bytes_of}
+use Rattle.xom_script.specs.ScriptLines.{IsScriptLine, none_of, one_of, rows_of_none, rows_of_one, rows_of_three, rows_of_two, script_line_of, three_of, two_of, write_of}
+use Rattle.xom_script.specs.Scripts.{IsBadScript, IsScript, script_at, script_step, script_with}
+use Rattle.xom_script.specs.declared.script.Script.{Script}
+use Rattle.xom_script.specs.declared.script_line.ScriptLine.{ScriptLine}
+use Rattle.xom_script.specs.declared.script_line.ScriptLine.TheVariants as line
+use Rattle.xom_script.proofs.FieldLaws.{chosen, holds_some, row_found, same_word, write_bytes_of-exact}
 
--- the word is the one that it was compared with
-same_word : (word name : List ℕ) → bytes_eq word name ≡ true → word ≡ name
-same_word word name h = (bytes_eq-Decides word name).0 h
+-- ---- lines, as they are read
 
-enter_found : (name a : List ℕ) (op : Op) → name ≡ codes "enter" → enter_of a ≡ Some op → IsOp (name ∷ a ∷ []) op
-unfolding enter_of
-enter_found name a op is h =
-    steps _ (number_below_of (2 ^ 32) a) op h (λ slot read h.
-    subst (IsOp (name ∷ a ∷ [])) (same_Some (Enter slot) op h)
-    (a, ap (λ (name : List ℕ). name ∷ a ∷ []) is, (number_below_of-exact (2 ^ 32) a slot).0 read))
+-- what these words write is the line that was found
+given : (words : List (List ℕ)) (found value : ScriptLine) → IsScriptLine words found → Some found ≡ Some value → IsScriptLine words value
+given words found value is same = subst (IsScriptLine words) (same_Some found value same) is
 
-resume_found : (name a b : List ℕ) (op : Op) → name ≡ codes "resume" → resume_of a b ≡ Some op → IsOp (name ∷ a ∷ b ∷ []) op
-unfolding resume_of
-resume_found name a b op is h =
-    steps _ (number_below_of (2 ^ 32) a) op h (λ slot read_slot h.
-    steps _ (number_below_of (2 ^ 32) b) op h (λ signal read_signal h.
-    let none = holds_some (eqb signal 0) (Resume slot signal) op h in
-    subst (IsOp (name ∷ a ∷ b ∷ [])) (same_Some (Resume slot signal) op none.1) (
-      a,
-      b,
-      ap (λ (name : List ℕ). name ∷ a ∷ b ∷ []) is,
-      (number_below_of-exact (2 ^ 32) a slot).0 read_slot,
-      (number_below_of-exact (2 ^ 32) b signal).0 read_signal,
-      eqb-true signal 0 none.0,
+number32 : (word : List ℕ) (n : ℕ) → number_below_of (2 ^ 32) word ≡ Some n → Writes32 word n
+number32 word n h = (number_below_of-exact (2 ^ 32) word n).0 h
+
+none_found : (name : List ℕ) (value : ScriptLine) → none_of name ≡ Some value → IsScriptLine (name ∷ []) value
+unfolding none_of
+none_found name value h =
+    row_found (IsScriptLine (name ∷ []) value) name value rows_of_none h (
+      λ is same. given (name ∷ []) (line.Do op.Halt) value (ap (λ name. name ∷ []) is) same,
+      (λ is same. given (name ∷ []) line.Show value (ap (λ name. name ∷ []) is) same, tt),
+    )
+
+one_found : (name a : List ℕ) (value : ScriptLine) → one_of name a ≡ Some value → IsScriptLine (name ∷ a ∷ []) value
+unfolding one_of
+one_found name a value h =
+    steps _ (number_below_of (2 ^ 32) a) value h (λ x read h.
+    let w = number32 a x read in
+    let words = name ∷ a ∷ [] in
+    row_found (IsScriptLine words value) name value (rows_of_one x) h (
+      λ is same. given words (line.Do (op.Enter x)) value (a, ap (λ name. name ∷ a ∷ []) is, w) same,
+      (
+        λ is same. given words (line.Do (op.Kill x)) value (a, ap (λ name. name ∷ a ∷ []) is, w) same,
+        (
+          λ is same.
+              let t = holds_some (ltb x 256) (line.Do (op.Out x)) value same in
+              given words (line.Do (op.Out x)) value (a, ap (λ name. name ∷ a ∷ []) is, (w.0, ltb-true x 256 t.0)) t.1,
+          tt,
+        ),
+      ),
+    ))
+
+two_found : (name a b : List ℕ) (value : ScriptLine) → two_of name a b ≡ Some value → IsScriptLine (name ∷ a ∷ b ∷ []) value
+unfolding two_of
+two_found name a b value h =
+    steps _ (number_below_of (2 ^ 32) a) value h (λ x read_x h.
+    steps _ (number_below_of (2 ^ 32) b) value h (λ y read_y h.
+    let w = number32 a x read_x in
+    let v = number32 b y read_y in
+    let words = name ∷ a ∷ b ∷ [] in
+    row_found (IsScriptLine words value) name value (rows_of_two x y) h (
+      λ is same. given words (line.Do (op.Resume x y)) value (a, b, ap (λ name. name ∷ a ∷ b ∷ []) is, w, v) same,
+      (
+        λ is same. given words (line.Do (op.Unmap x y)) value (a, b, ap (λ name. name ∷ a ∷ b ∷ []) is, w, v) same,
+        (
+          λ is same. given words (line.Do (op.SetReg x y)) value (a, b, ap (λ name. name ∷ a ∷ b ∷ []) is, w, v) same,
+          (
+            λ is same.
+                let t = holds_some (ltb y 256) (line.Flip x y) value same in
+                given words (line.Flip x y) value (a, b, ap (λ name. name ∷ a ∷ b ∷ []) is, w, (v.0, ltb-true y 256 t.0)) t.1,
+            tt,
+          ),
+        ),
+      ),
     )))
 
-setreg_found : (name a b : List ℕ) (op : Op) → name ≡ codes "setreg" → setreg_of a b ≡ Some op → IsOp (name ∷ a ∷ b ∷ []) op
-unfolding setreg_of
-setreg_found name a b op is h =
-    steps _ (number_below_of (2 ^ 32) a) op h (λ reg read_reg h.
-    steps _ (number_below_of (2 ^ 32) b) op h (λ value read_value h.
-    subst (IsOp (name ∷ a ∷ b ∷ [])) (same_Some (SetReg reg value) op h) (
-      a,
-      b,
-      ap (λ (name : List ℕ). name ∷ a ∷ b ∷ []) is,
-      (number_below_of-exact (2 ^ 32) a reg).0 read_reg,
-      (number_below_of-exact (2 ^ 32) b value).0 read_value,
-    )))
+three_found : (name a b c : List ℕ) (value : ScriptLine) → three_of name a b c ≡ Some value → IsScriptLine (name ∷ a ∷ b ∷ c ∷ []) value
+unfolding three_of
+three_found name a b c value h =
+    steps _ (number_below_of (2 ^ 32) a) value h (λ x read_x h.
+    steps _ (number_below_of (2 ^ 32) b) value h (λ y read_y h.
+    steps _ (number_below_of (2 ^ 32) c) value h (λ z read_z h.
+    let w = number32 a x read_x in
+    let v = number32 b y read_y in
+    let u = number32 c z read_z in
+    let words = name ∷ a ∷ b ∷ c ∷ [] in
+    row_found (IsScriptLine words value) name value (rows_of_three x y z) h (
+      λ is same. given words (line.Do (op.Install x y z)) value (a, b, c, ap (λ name. name ∷ a ∷ b ∷ c ∷ []) is, w, v, u) same,
+      (
+        λ is same. given words (line.Do (op.Save x y z)) value (a, b, c, ap (λ name. name ∷ a ∷ b ∷ c ∷ []) is, w, v, u) same,
+        (
+          λ is same. given words (line.Do (op.Restore x y z)) value (a, b, c, ap (λ name. name ∷ a ∷ b ∷ c ∷ []) is, w, v, u) same,
+          (
+            λ is same. given words (line.Do (op.Map x y z)) value (a, b, c, ap (λ name. name ∷ a ∷ b ∷ c ∷ []) is, w, v, u) same,
+            (
+              λ is same.
+                  let t = holds_some (leb 1 z && leb z 8192) (line.Copy x y z) value same in
+                  let range = and_parts (leb 1 z) (leb z 8192) t.0 in
+                  let most : z ≤ 8192 = leb-true z 8192 range.1 in
+                  given words (line.Copy x y z) value (a, b, c, ap (λ name. name ∷ a ∷ b ∷ c ∷ []) is, w, v, (u.0, omega arith), leb-true 1 z range.0) t.1,
+              tt,
+            ),
+          ),
+        ),
+      ),
+    ))))
 
-op_found : (words : List (List ℕ)) (op : Op) → op_of words ≡ Some op → IsOp words op
-unfolding op_of
-op_found [] op h = absurd (none-some op h)
-op_found (name ∷ []) op h =
-    let t = holds_some (bytes_eq name (codes "halt")) Halt op h in
-    subst (IsOp (name ∷ [])) (same_Some Halt op t.1) (ap (λ (name : List ℕ). name ∷ []) (same_word name (codes "halt") t.0))
-op_found (name ∷ a ∷ []) op h =
-    let t = cond_then (bytes_eq name (codes "enter")) (enter_of a) op h in
-    enter_found name a op (same_word name (codes "enter") t.0) t.1
-op_found (name ∷ a ∷ b ∷ []) op h =
-    elim (chosen (bytes_eq name (codes "resume")) (resume_of a b) (cond (bytes_eq name (codes "setreg")) (setreg_of a b) None) (Some op) h) [
-      | inl t ↦ resume_found name a b op (same_word name (codes "resume") t.0) t.1
-      | inr t ↦
-          let u = cond_then (bytes_eq name (codes "setreg")) (setreg_of a b) op t.1 in
-          setreg_found name a b op (same_word name (codes "setreg") u.0) u.1
+write_found : (a h : List ℕ) (value : ScriptLine) → write_of a h ≡ Some value → IsScriptLine (codes "write" ∷ a ∷ h ∷ []) value
+unfolding write_of
+write_found a h value is =
+    steps _ (number_below_of (2 ^ 32) a) value is (λ address read_a is.
+    steps _ (write_bytes_of h) value is (λ bytes read_h same.
+    given (codes "write" ∷ a ∷ h ∷ []) (line.Write address bytes) value
+    (a, h, refl, number32 a address read_a, (write_bytes_of-exact h bytes).0 read_h) same))
+
+line_found : (words : List (List ℕ)) (value : ScriptLine) → script_line_of words ≡ Some value → IsScriptLine words value
+unfolding script_line_of
+line_found [] value h = absurd (none-some value h)
+line_found (name ∷ []) value h = none_found name value h
+line_found (name ∷ a ∷ []) value h = one_found name a value h
+line_found (name ∷ a ∷ b ∷ []) value h =
+    elim (chosen (bytes_eq name (codes "write")) (write_of a b) (two_of name a b) (Some value) h) [
+      | inl t ↦
+          subst (λ name. IsScriptLine (name ∷ a ∷ b ∷ []) value) (sym (same_word name (codes "write") t.0)) (write_found a b value t.1)
+      | inr t ↦ two_found name a b value t.1
     ]
-op_found (name ∷ a ∷ b ∷ c ∷ words) op h = absurd (none-some op h)
+line_found (name ∷ a ∷ b ∷ c ∷ []) value h = three_found name a b c value h
+line_found (name ∷ a ∷ b ∷ c ∷ d ∷ words) value h = absurd (none-some value h)
 
-op_only : (words : List (List ℕ)) (op : Op) → IsOp words op → op_of words ≡ Some op
-unfolding op_of enter_of resume_of setreg_of
-op_only words (Enter slot) w = rw w.1 (rw ((number_below_of-exact (2 ^ 32) w.0 slot).1 w.2) refl)
-op_only words (Resume slot signal) w =
-    rw w.2 (rw ((number_below_of-exact (2 ^ 32) w.0 slot).1 w.3, (number_below_of-exact (2 ^ 32) w.1 signal).1 w.4, w.5) refl)
-op_only words (SetReg reg value) w =
-    rw w.2 (rw ((number_below_of-exact (2 ^ 32) w.0 reg).1 w.3, (number_below_of-exact (2 ^ 32) w.1 value).1 w.4) refl)
-op_only words Halt w = rw w refl
-op_only words (Install slot envelope area) w = absurd w
-op_only words (Save slot reg address) w = absurd w
-op_only words (Restore slot reg address) w = absurd w
-op_only words (Map slot page frame) w = absurd w
-op_only words (Unmap slot page) w = absurd w
-op_only words (Kill slot) w = absurd w
-op_only words (Out byte) w = absurd w
+-- ---- lines, as they are written
 
-pub op_of-exact : (words : List (List ℕ)) (op : Op) → (op_of words ≡ Some op) ↔ IsOp words op
-op_of-exact words op = (op_found words op, op_only words op)
+read32 : (word : List ℕ) (n : ℕ) → Writes32 word n → number_below_of (2 ^ 32) word ≡ Some n
+read32 word n w = (number_below_of-exact (2 ^ 32) word n).1 w
 
-op_of-nothing : op_of [] ≡ None
-unfolding op_of
-op_of-nothing = refl
+-- a number below a smaller bound
+read_small : (bound : ℕ) (word : List ℕ) (n : ℕ) → bound ≤ 2 ^ 32 → Writes bound word n → number_below_of (2 ^ 32) word ≡ Some n
+read_small bound word n small w = let below : n < bound = w.1 in read32 word n (w.0, omega arith)
+
+line_only : (words : List (List ℕ)) (value : ScriptLine) → IsScriptLine words value → script_line_of words ≡ Some value
+unfolding script_line_of none_of one_of two_of three_of write_of
+line_only words (line.Do (op.Install slot envelope area)) w =
+    rw w.3 (rw (read32 w.0 slot w.4, read32 w.1 envelope w.5, read32 w.2 area w.6) refl)
+line_only words (line.Do (op.Enter slot)) w = rw w.1 (rw (read32 w.0 slot w.2) refl)
+line_only words (line.Do (op.Resume slot signal)) w = rw w.2 (rw (read32 w.0 slot w.3, read32 w.1 signal w.4) refl)
+line_only words (line.Do (op.Save slot reg address)) w =
+    rw w.3 (rw (read32 w.0 slot w.4, read32 w.1 reg w.5, read32 w.2 address w.6) refl)
+line_only words (line.Do (op.Restore slot reg address)) w =
+    rw w.3 (rw (read32 w.0 slot w.4, read32 w.1 reg w.5, read32 w.2 address w.6) refl)
+line_only words (line.Do (op.Map slot page frame)) w =
+    rw w.3 (rw (read32 w.0 slot w.4, read32 w.1 page w.5, read32 w.2 frame w.6) refl)
+line_only words (line.Do (op.Unmap slot page)) w = rw w.2 (rw (read32 w.0 slot w.3, read32 w.1 page w.4) refl)
+line_only words (line.Do (op.SetReg reg value)) w = rw w.2 (rw (read32 w.0 reg w.3, read32 w.1 value w.4) refl)
+line_only words (line.Do (op.Kill slot)) w = rw w.1 (rw (read32 w.0 slot w.2) refl)
+line_only words (line.Do (op.Out byte)) w =
+    rw w.1 (rw (read_small 256 w.0 byte (omega arith) w.2, lt-ltb byte 256 w.2.1) refl)
+line_only words (line.Do op.Halt) w = rw w refl
+line_only words (line.Write address bytes) w =
+    rw w.2 (rw (read32 w.0 address w.3, (write_bytes_of-exact w.1 bytes).1 w.4) refl)
+line_only words (line.Copy from to count) w =
+    let small : count < 8193 = w.6.1 in
+    rw w.3 (rw (read32 w.0 from w.4, read32 w.1 to w.5, read_small 8193 w.2 count (omega arith) w.6, le-leb 1 count w.7, le-leb count 8192 (omega arith)) refl)
+line_only words (line.Flip address mask) w =
+    rw w.2 (rw (read32 w.0 address w.3, read_small 256 w.1 mask (omega arith) w.4, lt-ltb mask 256 w.4.1) refl)
+line_only words line.Show w = rw w refl
+
+pub script_line_of-exact : (words : List (List ℕ)) (value : ScriptLine) → (script_line_of words ≡ Some value) ↔ IsScriptLine words value
+script_line_of-exact words value = (line_found words value, line_only words value)
+
+no_words : script_line_of [] ≡ None
+unfolding script_line_of
+no_words = refl
+
+-- ---- the whole
 
 -- the lines of a script, one by one
-tells : Tells op_step (Rows IsOp)
-tells = Tells-rows op_of IsOp op_of-exact op_of-nothing
+tells : Tells script_step (Rows IsScriptLine)
+tells = Tells-rows script_line_of IsScriptLine script_line_of-exact no_words
 
-values_some : {X : Type 0} (read : Result (List X × Unit {0}) ℕ) (values : List X) → values_of read ≡ Some values → read ≡ Ok (values, tt)
-values_some (Ok read) values h = ap (λ values. Ok (values, tt)) (same_Some read.0 values h)
-values_some (Err bad) values h = absurd (none-some values h)
-
-pub script_at-exact : (text : List ℕ) (ops : List Op) → (script_at text ≡ Some ops) ↔ IsScript text ops
+-- the function has a script exactly where the text is this script
+pub script_at-exact : (text : List ℕ) (script : Script) → (script_at text ≡ Ok script) ↔ IsScript text script
 unfolding script_at
-script_at-exact text ops = (
-  λ h. reads_from op_step (Rows IsOp) tells tt 1 (lines_of text) ops tt (values_some (read_from op_step tt 1 (lines_of text)) ops h),
-  λ h. ap values_of (only_reads op_step (Rows IsOp) tells tt 1 (lines_of text) ops tt h),
+script_at-exact text script = (
+  λ h. made (read_from script_step tt 1 (lines_of text)) refl h,
+  λ h. rw (only_reads script_step (Rows IsScriptLine) tells tt 1 (lines_of text) script.lines tt h) refl,
 )
+  where
+    made : (read : Result (List ScriptLine × Unit {0}) ℕ) → read_from script_step tt 1 (lines_of text) ≡ read → made_of script_with read ≡ Ok script → IsScript text script
+    made (Ok read) is h =
+        rw (sym (same_Ok (script_with read.0 read.1) script h)) (reads_from script_step (Rows IsScriptLine) tells tt 1 (lines_of text) read.0 read.1 is)
+    made (Err bad) is h = absurd cc
+
+-- and a line exactly where it is the first bad one
+pub script_at-bad : (text : List ℕ) (bad : ℕ) → (script_at text ≡ Err bad) ↔ IsBadScript text bad
+unfolding script_at
+script_at-bad text bad = (
+  λ h. made (read_from script_step tt 1 (lines_of text)) refl h,
+  λ h. rw (only_bad script_step (Rows IsScriptLine) tells tt 1 (lines_of text) bad h) refl,
+)
+  where
+    made : (read : Result (List ScriptLine × Unit {0}) ℕ) → read_from script_step tt 1 (lines_of text) ≡ read → made_of script_with read ≡ Err bad → IsBadScript text bad
+    made (Ok read) is h = absurd cc
+    made (Err other) is h =
+        bad_from script_step (Rows IsScriptLine) tells tt 1 (lines_of text) bad (is ∙ ap Err (same_Err other bad h))
+
+pub script_answers : (text : List ℕ) (r : Result Script TextFault) → AnswersRead (script_at text) r → AnswersText (IsScript text) (IsBadScript text) r
+script_answers text = AnswersText-exact (script_at text) (IsScript text) (IsBadScript text) (script_at-exact text) (λ bad. (script_at-bad text bad).0)

@@ -1,0 +1,77 @@
+-- What a field of a line, or a row of lines, was where it has a value.
+use Rattle.std.proofs.Common.{◌≡◌, ℕ, suc, ◌≤◌, Bool, true, false, not, cond, eqb, ◌⊎◌, inl, inr, List, [], ◌∷◌, length, Option, Some, None, refl, subst, arith}
+use Rattle.std.specs.Prelude.{◌↔◌}
+use Rattle.std.specs.List.{AllByRecursion}
+use Rattle.std.specs.Str.{IsUtf8, bytes_eq, is_utf8}
+use Rattle.std.proofs.lemmas.Bool.{eqb-true, false_from_ne_true}
+use Rattle.std.proofs.lemmas.Bool.Decides.{nat_tests}
+use Rattle.std.proofs.lemmas.Option.{none-some, option_and_then_some as steps, same_Some}
+use Rattle.std.proofs.lemmas.Slice.Eq.{bytes_eq-Decides}
+use Rattle.std.proofs.lemmas.Str.{IsUtf8-from_is_utf8, is_utf8-from_IsUtf8}
+use Rattle.xom_base.specs.Hex.{hex_within}
+use Rattle.xom_base.proofs.HexLaws.{hex_within-exact}
+use Rattle.xom_script.specs.Fields.{WritesBytes, name_of, row_of, write_bytes_of}
+
+-- a guarded value
+pub holds_some : {A : Type 0} (b : Bool) (x y : A) → cond b (Some x) None ≡ Some y → (b ≡ true) × (Some x ≡ Some y)
+holds_some true x y h = (refl, h)
+holds_some false x y h = absurd (none-some y h)
+
+-- a choice of two
+pub chosen : {A : Type 0} (b : Bool) (x y z : A) → cond b x y ≡ z → ((b ≡ true) × (x ≡ z)) ⊎ ((b ≡ false) × (y ≡ z))
+chosen true x y z h = inl (refl, h)
+chosen false x y z h = inr (refl, h)
+
+-- the word is the one that it was compared with
+pub same_word : (word name : List ℕ) → bytes_eq word name ≡ true → word ≡ name
+same_word word name h = (bytes_eq-Decides word name).0 h
+
+-- what holds of the value of each row holds of the value that was found
+pub row_found : {A : Type 0} (P : Type 0) (name : List ℕ) (value : A) (rows : List (List ℕ × Option A)) → row_of rows name ≡ Some value
+    → AllByRecursion (λ row. name ≡ row.0 → row.1 ≡ Some value → P) rows → P
+row_found P name value [] h each = absurd (none-some value h)
+row_found P name value (row ∷ rows) h each =
+    elim (chosen (bytes_eq name row.0) row.1 (row_of rows name) (Some value) h) [
+      | inl t ↦ each.0 (same_word name row.0 t.0) t.1
+      | inr t ↦ row_found P name value rows t.1 each.1
+    ]
+
+-- a list without items
+pub no_items : {A : Type 0} (items : List A) → eqb (length items) 0 ≡ true → items ≡ []
+no_items [] h = refl
+no_items (item ∷ items) h = let none : suc (length items) ≡ 0 = eqb-true (suc (length items)) 0 h in absurd (omega arith)
+
+-- ---- file names
+
+pub name_of-utf8 : (word : List ℕ) → IsUtf8 word → name_of word ≡ Some word
+unfolding name_of
+name_of-utf8 word utf8 = rw (is_utf8-from_IsUtf8 word utf8) refl
+
+pub name_of-none : (word : List ℕ) → (IsUtf8 word → ⊥) → name_of word ≡ None
+unfolding name_of
+name_of-none word never = rw (false_from_ne_true (is_utf8 word) (λ utf8. never (IsUtf8-from_is_utf8 word utf8))) refl
+
+pub name_of-found : (word name : List ℕ) → name_of word ≡ Some name → (word ≡ name) × IsUtf8 name
+unfolding name_of
+name_of-found word name h =
+    let t = holds_some (is_utf8 word) word name h in
+    let same : word ≡ name = same_Some word name t.1 in
+    (same, subst IsUtf8 same (IsUtf8-from_is_utf8 word t.0))
+
+-- ---- bytes of a write
+
+some_bytes : (bytes : List ℕ) → not (eqb (length bytes) 0) ≡ true → 1 ≤ length bytes
+some_bytes bytes h = grind (arith, nat_tests)
+
+has_bytes : (bytes : List ℕ) → 1 ≤ length bytes → not (eqb (length bytes) 0) ≡ true
+has_bytes bytes h = grind (arith, nat_tests)
+
+pub write_bytes_of-exact : (word bytes : List ℕ) → (write_bytes_of word ≡ Some bytes) ↔ WritesBytes word bytes
+unfolding write_bytes_of
+write_bytes_of-exact word bytes = (
+  λ h.
+      steps _ (hex_within 8192 word) bytes h (λ read is h.
+      let t = holds_some (not (eqb (length read) 0)) read bytes h in
+      subst (WritesBytes word) (same_Some read bytes t.1) ((hex_within-exact 8192 word read).0 is, some_bytes read t.0)),
+  λ h. rw ((hex_within-exact 8192 word bytes).1 h.0, has_bytes bytes h.1) refl,
+)

@@ -1,0 +1,34 @@
+-- The words that stand in lines of run files and scripts.
+use Rattle.std.specs.Prelude.{ℕ, ◌^◌, ◌≤◌, ◌==◌, not, Bool, if◌then◌else◌, List, [], ◌∷◌, length, Option, Some, None}
+use Rattle.std.specs.Str.{bytes_eq, is_utf8}
+use Rattle.xom_base.specs.Options.{◌>>=◌}
+use Rattle.xom_base.specs.Hex.{WritesHex, hex_within}
+use Rattle.xom_base.specs.Numbers.{Writes}
+
+-- the value where the test holds
+abbrev pub where_holds : {A : Type 0} → Bool → A → Option A
+where_holds test x = if test then Some x else None
+
+-- a number below 2^32
+abbrev pub Writes32 : List ℕ → ℕ → Type 0
+Writes32 = Writes (2 ^ 32)
+
+-- the bytes of one write: 1 to 8,192
+abbrev pub WritesBytes : List ℕ → List ℕ → Type 0
+WritesBytes word bytes = WritesHex 8192 word bytes × (1 ≤ length bytes)
+
+-- ---- the same as functions
+
+unfoldable pub write_bytes_of : List ℕ → Option (List ℕ)
+write_bytes_of word = do
+  bytes ← hex_within 8192 word
+  where_holds (not (length bytes == 0)) bytes
+
+-- a file name is a word in UTF-8
+unfoldable pub name_of : List ℕ → Option (List ℕ)
+name_of word = where_holds (is_utf8 word) word
+
+-- what stands in the row of this name, of rows that each have a name
+abbrev pub row_of : {A : Type 0} → List (List ℕ × Option A) → List ℕ → Option A
+row_of [] name = None
+row_of (row ∷ rows) name = if bytes_eq name row.0 then row.1 else row_of rows name

@@ -1,0 +1,285 @@
+ghost use Rattle.std.specs.Prelude.{◌≡◌, IfOk, map, option_map};
+ghost use Rattle.xom_script.specs.RunLines.{at_of, boot_of, budget_of, every_of, frames_of, guest_of, guest_with_input_of, interrupt_of, kernel_of, machine_of, never_of, owner_of, pages_of, poke_of, run_line_of, times_of};
+
+use crate::run_file::{KernelLine, OwnerFile};
+use crate::words::{name, number32, write_bytes};
+use std::alloc::Global;
+use xom_base::{
+    ImageId, Interrupts, Key256, NoMemory, NumberList, Poke, hex16, hex32, number, number_below,
+};
+use xom_io::Name;
+
+/// One line of a run file.
+#[derive(Drop)]
+pub enum RunLine {
+    /// The machine key.
+    Machine(Key256),
+    /// The number of the power-on.
+    Boot(u64),
+    /// How many frames RAM has.
+    Frames(u32),
+    /// At most how many events are made.
+    Budget(u64),
+    /// The owner of an image.
+    Owner(OwnerFile),
+    /// A guest: its sealed image file, and maybe its input file.
+    Guest { sealed: Name, input: Option<Name> },
+    /// What the kernel does.
+    Kernel(KernelLine),
+    /// The interrupt line.
+    Interrupt(Interrupts),
+    /// A write of the bus.
+    Poke(Poke),
+}
+
+/// The line that these words write, wherever it stands.
+#[tactic(auto, unfolding(crate::specs::RunLines::run_line_of))]
+pub fn run_line(alloc: Global, words: &[&[u8]]) -> Result<Option<RunLine>, NoMemory>
+    ensures { IfOk result (λ found. found ≡ run_line_of (map (λ word. word.now) words.now)) }
+{
+    let [kind, words @ ..] = words else {
+        return Ok(None);
+    };
+    if *kind == b"machine".as_slice() {
+        Ok(machine(words))
+    } else if *kind == b"boot".as_slice() {
+        Ok(boot(words))
+    } else if *kind == b"frames".as_slice() {
+        Ok(frames(words))
+    } else if *kind == b"budget".as_slice() {
+        Ok(budget(words))
+    } else if *kind == b"owner".as_slice() {
+        owner(alloc, words)
+    } else if *kind == b"guest".as_slice() {
+        guest(alloc, words)
+    } else if *kind == b"kernel".as_slice() {
+        kernel(alloc, words)
+    } else if *kind == b"interrupt".as_slice() {
+        interrupt(alloc, words)
+    } else if *kind == b"poke".as_slice() {
+        poke(alloc, words)
+    } else {
+        Ok(None)
+    }
+}
+
+#[tactic(auto, unfolding(crate::specs::RunLines::machine_of))]
+fn machine(words: &[&[u8]]) -> Option<RunLine>
+    ensures { result ≡ machine_of (map (λ word. word.now) words.now) }
+{
+    match words {
+        [key] => Some(RunLine::Machine(Key256(hex32(key)?))),
+        _ => None,
+    }
+}
+
+#[tactic(auto, unfolding(crate::specs::RunLines::boot_of))]
+fn boot(words: &[&[u8]]) -> Option<RunLine>
+    ensures { result ≡ boot_of (map (λ word. word.now) words.now) }
+{
+    match words {
+        [n] => Some(RunLine::Boot(number_below(n, 1 << 63)?)),
+        _ => None,
+    }
+}
+
+#[tactic(auto, unfolding(crate::specs::RunLines::frames_of))]
+fn frames(words: &[&[u8]]) -> Option<RunLine>
+    ensures { result ≡ frames_of (map (λ word. word.now) words.now) }
+{
+    match words {
+        [n] => {
+            let frames = number_below(n, 8193)?;
+            (frames >= 4).then_some(RunLine::Frames(frames as u32))
+        }
+        _ => None,
+    }
+}
+
+#[tactic(auto, unfolding(crate::specs::RunLines::budget_of))]
+fn budget(words: &[&[u8]]) -> Option<RunLine>
+    ensures { result ≡ budget_of (map (λ word. word.now) words.now) }
+{
+    match words {
+        [n] => Some(RunLine::Budget(number_below(n, 1_048_577)?)),
+        _ => None,
+    }
+}
+
+#[tactic(auto, unfolding(crate::specs::RunLines::owner_of))]
+fn owner(alloc: Global, words: &[&[u8]]) -> Result<Option<RunLine>, NoMemory>
+    ensures { IfOk result (λ found. found ≡ owner_of (map (λ word. word.now) words.now)) }
+{
+    let [plain, key, id] = words else {
+        return Ok(None);
+    };
+    let Some(plain) = name(alloc, plain)? else {
+        return Ok(None);
+    };
+    let Some(key) = hex32(key) else {
+        return Ok(None);
+    };
+    let Some(id) = hex16(id) else {
+        return Ok(None);
+    };
+    Ok(Some(RunLine::Owner(OwnerFile {
+        plain,
+        key: Key256(key),
+        id: ImageId(id),
+    })))
+}
+
+#[tactic(auto, unfolding(crate::specs::RunLines::guest_of))]
+fn guest(alloc: Global, words: &[&[u8]]) -> Result<Option<RunLine>, NoMemory>
+    ensures { IfOk result (λ found. found ≡ guest_of (map (λ word. word.now) words.now)) }
+{
+    match words {
+        [sealed] => match name(alloc, sealed)? {
+            Some(sealed) => Ok(Some(RunLine::Guest {
+                sealed,
+                input: None,
+            })),
+            None => Ok(None),
+        },
+        [sealed, input] => guest_with_input(alloc, sealed, input),
+        _ => Ok(None),
+    }
+}
+
+#[tactic(auto, unfolding(crate::specs::RunLines::guest_with_input_of))]
+fn guest_with_input(alloc: Global, sealed: &[u8], input: &[u8]) -> Result<Option<RunLine>, NoMemory>
+    ensures { IfOk result (λ found. found ≡ guest_with_input_of sealed.now input.now) }
+{
+    let Some(sealed) = name(alloc, sealed)? else {
+        return Ok(None);
+    };
+    match name(alloc, input)? {
+        Some(input) => Ok(Some(RunLine::Guest {
+            sealed,
+            input: Some(input),
+        })),
+        None => Ok(None),
+    }
+}
+
+#[tactic(auto, unfolding(crate::specs::RunLines::kernel_of))]
+fn kernel(alloc: Global, words: &[&[u8]]) -> Result<Option<RunLine>, NoMemory>
+    ensures { IfOk result (λ found. found ≡ kernel_of (map (λ word. word.now) words.now)) }
+{
+    let [kind, word] = words else {
+        return Ok(None);
+    };
+    if *kind == b"script".as_slice() {
+        Ok(name(alloc, word)?.map(|name| RunLine::Kernel(KernelLine::Script(name))))
+    } else if *kind == b"image".as_slice() {
+        Ok(name(alloc, word)?.map(|name| RunLine::Kernel(KernelLine::Image(name))))
+    } else if *kind == b"xomos".as_slice() {
+        Ok(pages(word))
+    } else {
+        Ok(None)
+    }
+}
+
+#[tactic(auto, unfolding(crate::specs::RunLines::pages_of))]
+fn pages(word: &[u8]) -> Option<RunLine>
+    ensures { result ≡ pages_of word.now }
+{
+    let pages = number_below(word, 257)?;
+    (pages >= 2).then_some(RunLine::Kernel(KernelLine::Xomos(pages as u32)))
+}
+
+#[tactic(auto, unfolding(crate::specs::RunLines::interrupt_of))]
+fn interrupt(alloc: Global, words: &[&[u8]]) -> Result<Option<RunLine>, NoMemory>
+    ensures { IfOk result (λ found. found ≡ interrupt_of (map (λ word. word.now) words.now)) }
+{
+    let [kind, words @ ..] = words else {
+        return Ok(None);
+    };
+    if *kind == b"never".as_slice() {
+        Ok(never(words))
+    } else if *kind == b"every".as_slice() {
+        Ok(every(words))
+    } else if *kind == b"at".as_slice() {
+        at(alloc, words)
+    } else {
+        Ok(None)
+    }
+}
+
+#[tactic(auto, unfolding(crate::specs::RunLines::never_of))]
+fn never(words: &[&[u8]]) -> Option<RunLine>
+    ensures { result ≡ never_of (map (λ word. word.now) words.now) }
+{
+    match words {
+        [] => Some(RunLine::Interrupt(Interrupts::Never)),
+        _ => None,
+    }
+}
+
+#[tactic(auto, unfolding(crate::specs::RunLines::every_of))]
+fn every(words: &[&[u8]]) -> Option<RunLine>
+    ensures { result ≡ every_of (map (λ word. word.now) words.now) }
+{
+    match words {
+        [n] => {
+            let n = number(n)?;
+            (n >= 1).then_some(RunLine::Interrupt(Interrupts::Every(n)))
+        }
+        _ => None,
+    }
+}
+
+#[tactic(auto, unfolding(crate::specs::RunLines::at_of))]
+fn at(alloc: Global, words: &[&[u8]]) -> Result<Option<RunLine>, NoMemory>
+    ensures { IfOk result (λ found. found ≡ at_of (map (λ word. word.now) words.now)) }
+{
+    if words.is_empty() {
+        return Ok(None);
+    }
+    match times(alloc, words)? {
+        Some(times) => Ok(Some(RunLine::Interrupt(Interrupts::At(times)))),
+        None => Ok(None),
+    }
+}
+
+/// The numbers of these words, which ascend strictly from at least 1.
+fn times(alloc: Global, words: &[&[u8]]) -> Result<Option<NumberList>, NoMemory>
+    ensures { IfOk result (λ found. found ≡ times_of 0 (map (λ word. word.now) words.now)) }
+{
+    let mut times = NumberList::new(alloc);
+    let mut last = 0;
+    for word in words {
+        let Some(time) = number(word) else {
+            return Ok(None);
+        };
+        if time <= last {
+            return Ok(None);
+        }
+        times.push(time)?;
+        last = time;
+    }
+    Ok(Some(times))
+}
+
+#[tactic(auto, unfolding(crate::specs::RunLines::poke_of))]
+fn poke(alloc: Global, words: &[&[u8]]) -> Result<Option<RunLine>, NoMemory>
+    ensures { IfOk result (λ found. found ≡ poke_of (map (λ word. word.now) words.now)) }
+{
+    let [event, address, bytes] = words else {
+        return Ok(None);
+    };
+    let Some(event) = number(event) else {
+        return Ok(None);
+    };
+    let Some(address) = number32(address) else {
+        return Ok(None);
+    };
+    match write_bytes(alloc, bytes)? {
+        Some(bytes) => Ok(Some(RunLine::Poke(Poke {
+            event,
+            address,
+            bytes,
+        }))),
+        None => Ok(None),
+    }
+}

@@ -1,0 +1,40 @@
+ghost use Rattle.std.specs.Prelude.{◌≡◌, ◌^◌, IfOk};
+ghost use Rattle.xom_base.specs.Numbers.{number_below_of};
+ghost use Rattle.xom_script.specs.Fields.{name_of, write_bytes_of};
+
+use std::alloc::Global;
+use xom_base::{ByteList, NoMemory, hex_list, number_below};
+use xom_io::Name;
+
+/// A number below 2^32.
+pub fn number32(word: &[u8]) -> Option<u32>
+    ensures { result ≡ number_below_of (2 ^ 32) word.now }
+{
+    let n = number_below(word, 1 << 32)?;
+    Some(n as u32)
+}
+
+/// The bytes of one write: 1 to 8,192.
+#[tactic(auto, unfolding(crate::specs::Fields::write_bytes_of))]
+pub fn write_bytes(alloc: Global, word: &[u8]) -> Result<Option<ByteList>, NoMemory>
+    ensures { IfOk result (λ found. found ≡ write_bytes_of word.now) }
+{
+    let Some(bytes) = hex_list(alloc, word, 8192)? else {
+        return Ok(None);
+    };
+    if bytes.is_empty() {
+        return Ok(None);
+    }
+    Ok(Some(bytes))
+}
+
+/// A file name: a word in UTF-8.
+#[tactic(auto, unfolding(crate::specs::Fields::name_of))]
+pub fn name(alloc: Global, word: &[u8]) -> Result<Option<Name>, NoMemory>
+    ensures { IfOk result (λ found. found ≡ name_of word.now) }
+{
+    let Ok(text) = str::from_utf8(word) else {
+        return Ok(None);
+    };
+    Ok(Some(Name::new(String::from_str(alloc, text)?)))
+}
