@@ -1,5 +1,4 @@
-pub mod Only
-pub mod Reading
+pub mod Building
 pub mod Runnable
 pub mod Told
 pub mod Headline

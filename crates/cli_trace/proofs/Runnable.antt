@@ -21,7 +21,7 @@ use Rattle.cli_base.specs.Readings.{IsLined}
 use Rattle.cli_base.specs.declared.refusal.InputFault.TheVariants.{BadLine}
 use Rattle.cli_base.specs.declared.refusal.InputStop.{InputStop}
 use Rattle.cli_base.specs.declared.refusal.InputStop.TheVariants as input_stop
-use Rattle.cli_trace.proofs.Reading.{or_stop-keeps}
+use Rattle.cli_trace.proofs.Building.{or_stop-keeps}
 use Rattle.cli_trace.specs.Inputs.{or_stop}
 use Rattle.cli_trace.specs.Trace.{IsRunnable}
 use Rattle.cli_trace.specs.declared.lone_run.LoneRun.{LoneRun}

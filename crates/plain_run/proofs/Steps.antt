@@ -40,28 +40,37 @@ unfit_stays s g unfit =
 
 -- ---- what a step received
 
--- a step has a cell's value where its wish receives, and nothing otherwise
-made_received : (pc npc : ℕ) (written : Writes) (w : Wish) (bytes : List ℕ) (got : ℕ)
-    → (made pc npc written w bytes got).received ≡ (if receives w then received.Cell got else received.Nothing)
-made_received pc npc written wish.Nothing bytes got = refl
-made_received pc npc written (wish.Load reg address kind old) bytes got = refl
-made_received pc npc written (wish.Store address count value) bytes got = refl
-made_received pc npc written (wish.Release reg value) bytes got = refl
-made_received pc npc written (wish.Receive reg from) bytes got = refl
-made_received pc npc written wish.Exit bytes got = refl
-made_received pc npc written (wish.Call code) bytes got = refl
-made_received pc npc written (wish.Do operation) bytes got = refl
-made_received pc npc written (wish.Ask reg what) bytes got = refl
+made_nothing : (pc npc : ℕ) (written : Writes) (w : Wish) (bytes : List ℕ) (got : ℕ) → receives w ≡ false → (made pc npc written w bytes got).received ≡ received.Nothing
+made_nothing pc npc written wish.Nothing bytes got h = refl
+made_nothing pc npc written (wish.Load reg address kind old) bytes got h = refl
+made_nothing pc npc written (wish.Store address count value) bytes got h = refl
+made_nothing pc npc written (wish.Release reg value) bytes got h = refl
+made_nothing pc npc written (wish.Receive reg from) bytes got h = cc
+made_nothing pc npc written wish.Exit bytes got h = refl
+made_nothing pc npc written (wish.Call code) bytes got h = refl
+made_nothing pc npc written (wish.Do operation) bytes got h = refl
+made_nothing pc npc written (wish.Ask reg what) bytes got h = refl
+
+made_cell : (pc npc : ℕ) (written : Writes) (w : Wish) (bytes : List ℕ) (got : ℕ) → receives w ≡ true → (made pc npc written w bytes got).received ≡ received.Cell got
+made_cell pc npc written wish.Nothing bytes got h = cc
+made_cell pc npc written (wish.Load reg address kind old) bytes got h = cc
+made_cell pc npc written (wish.Store address count value) bytes got h = cc
+made_cell pc npc written (wish.Release reg value) bytes got h = cc
+made_cell pc npc written (wish.Receive reg from) bytes got h = refl
+made_cell pc npc written wish.Exit bytes got h = cc
+made_cell pc npc written (wish.Call code) bytes got h = cc
+made_cell pc npc written (wish.Do operation) bytes got h = cc
+made_cell pc npc written (wish.Ask reg what) bytes got h = cc
 
 -- the step of an effect that doesn't receive
 step_nothing : (s : State) (effect : Effect) (got : ℕ) → receives effect.wish ≡ false → (step_made s.pc s.npc effect s.bytes got).received ≡ received.Nothing
 unfolding step_made
-step_nothing s effect got h = rw h at (made_received s.pc s.npc effect.writes effect.wish s.bytes got)
+step_nothing s effect got h = made_nothing s.pc s.npc effect.writes effect.wish s.bytes got h
 
 -- the step of an effect that receives
 step_cell : (s : State) (effect : Effect) (got : ℕ) → receives effect.wish ≡ true → (step_made s.pc s.npc effect s.bytes got).received ≡ received.Cell got
 unfolding step_made
-step_cell s effect got h = rw h at (made_received s.pc s.npc effect.writes effect.wish s.bytes got)
+step_cell s effect got h = made_cell s.pc s.npc effect.writes effect.wish s.bytes got h
 
 -- the step that an effect does is the one that is answered
 same_did : (s : State) (effect : Effect) (got : ℕ) (step : Step) → (did s effect got).0 ≡ Did step → step_made s.pc s.npc effect s.bytes got ≡ step

@@ -24,7 +24,7 @@ use xom_base::{LineFault, LineFormat, TextFault, WholeFormat, read_whole, words}
 /// the text.
 pub fn read_run(alloc: Global, text: &[u8]) -> Result<RunFile, TextFault>
     // What is read is in the grammar, what is in the grammar is read, and a line is the first bad one.
-    ensures answers { AnswersText (IsRunFile text.now) (IsBadRun text.now) result }
+    ensures text { AnswersText (IsRunFile text.now) (IsBadRun text.now) result }
     ensures rules { IfOk result KeepsRules }
     ensures value { AnswersRead (run_file_at text.now) result }
 {

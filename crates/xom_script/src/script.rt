@@ -21,7 +21,7 @@ pub struct Script {
 /// with the first line that is none of these, or `NoMemory`. It costs time linear in the text.
 pub fn read_script(alloc: Global, text: &[u8]) -> Result<Script, TextFault>
     // What is read is in the grammar, what is in the grammar is read, and a line is the first bad one.
-    ensures answers { AnswersText (IsScript text.now) (IsBadScript text.now) result }
+    ensures text { AnswersText (IsScript text.now) (IsBadScript text.now) result }
     ensures value { AnswersRead (script_at text.now) result }
 {
     script_in(alloc, text)

@@ -1,4 +1,4 @@
-use Rattle.cli_trace.proofs.Reading.{named-keeps}
+use Rattle.cli_trace.proofs.Building.{named-keeps}
 use Rattle.cli_trace.specs.Trace.{IsRunnable}
 use Rattle.cli_trace.proofs.reading.run_file.Goals as goal
 

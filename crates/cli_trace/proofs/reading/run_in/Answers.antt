@@ -1,6 +1,6 @@
 use Rattle.xom_script.specs.RunFiles.{run_file_at}
 use Rattle.cli_trace.specs.LoneRuns.{lone_of}
-use Rattle.cli_trace.proofs.Reading.{read-built, read-stopped}
+use Rattle.cli_trace.proofs.Building.{read-built, read-stopped}
 use Rattle.cli_trace.proofs.Runnable.{read-runnable}
 use Rattle.cli_trace.proofs.reading.run_in.Goals as goal
 

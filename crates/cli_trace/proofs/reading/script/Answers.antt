@@ -1,6 +1,6 @@
 use Rattle.std.proofs.Common.{◌≡◌, true}
 use Rattle.script_kernel.specs.Turns.{is_built}
-use Rattle.cli_trace.proofs.Reading.{named-keeps}
+use Rattle.cli_trace.proofs.Building.{named-keeps}
 use Rattle.cli_trace.proofs.reading.script.Goals as goal
 
 pub returns-clause-built : goal.returns-clause-built

@@ -2,7 +2,7 @@ use Rattle.std.proofs.Common.{◌≡◌, true}
 use Rattle.script_kernel.specs.Turns.{is_built}
 use Rattle.xom_script.specs.Scripts.{script_at}
 use Rattle.cli_trace.specs.LoneRuns.{built_script}
-use Rattle.cli_trace.proofs.Reading.{or_stop-keeps, read-built, read-stopped}
+use Rattle.cli_trace.proofs.Building.{or_stop-keeps, read-built, read-stopped}
 use Rattle.cli_trace.proofs.reading.script_in.Goals as goal
 
 pub returns-in-Ok-clause-value : goal.returns-in-Ok-clause-value

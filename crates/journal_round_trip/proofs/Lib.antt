@@ -1,0 +1,5 @@
+pub mod WordLaws
+pub mod PieceLaws
+pub mod FieldLaws
+pub mod EntryLaws
+pub mod TextLaws

@@ -1,0 +1,72 @@
+ghost use Rattle.std.specs.Prelude.{◌≡◌};
+ghost use Rattle.slot_keys.specs.GuestKeys.{keys_of_install, no_keys, with_registers};
+ghost use Rattle.xom_seal.specs.Keys.{register_keys as register_keys_of};
+
+use std::marker::Model;
+use xom_base::{ImageId, Key256};
+use xom_seal::{LineSealer, RegisterSealer, image_keys, register_keys, run_keys};
+
+/// The keys of a guest, made ready for any number of lines and registers. They are seen as the keys.
+#[derive(Drop)]
+pub struct SlotKeys {
+    image: LineSealer,
+    run: LineSealer,
+    registers: RegisterSealer,
+}
+
+impl Model for SlotKeys {
+    ghost use Rattle.slot_keys.specs.GuestKeys.{GuestKeys};
+
+    ghost Value = { GuestKeys };
+
+    ghost view = { λ s. record { image = s.image; run = s.run; registers = s.registers } };
+}
+
+impl SlotKeys {
+    /// The keys of a fresh install, whose registers begin at epoch 0. `boot` is the number of the
+    /// machine's start, `install` the number of the install under it.
+    pub fn new(key: &Key256, id: &ImageId, boot: u64, install: u64) -> SlotKeys
+        ensures { result ≡ keys_of_install key.now id.now boot install 0 }
+    {
+        SlotKeys {
+            image: LineSealer::new(&image_keys(key, id)),
+            run: LineSealer::new(&run_keys(key, boot, install)),
+            registers: RegisterSealer::new(&register_keys(key, boot, install, 0)),
+        }
+    }
+
+    /// The keys of no guest.
+    pub fn none() -> SlotKeys
+        ensures { result ≡ no_keys }
+    {
+        SlotKeys::new(&Key256([0; 32]), &ImageId([0; 16]), 0, 0)
+    }
+
+    /// Makes the keys of registers those of an epoch. What was saved under another is of no use then.
+    pub fn renew(&mut self, key: &Key256, boot: u64, install: u64, epoch: u64)
+        ensures { self.new ≡ with_registers self.old (register_keys_of key.now boot install epoch) }
+    {
+        self.registers = RegisterSealer::new(&register_keys(key, boot, install, epoch));
+    }
+
+    /// The keys of the image's lines.
+    pub fn image(&self) -> &LineSealer
+        ensures { result.now ≡ self.now.image }
+    {
+        &self.image
+    }
+
+    /// The keys of the lines that the machine writes back.
+    pub fn run(&self) -> &LineSealer
+        ensures { result.now ≡ self.now.run }
+    {
+        &self.run
+    }
+
+    /// The keys of saved registers under the current epoch.
+    pub fn registers(&self) -> &RegisterSealer
+        ensures { result.now ≡ self.now.registers }
+    {
+        &self.registers
+    }
+}
