@@ -191,9 +191,13 @@ module _ (words : List (List ℕ)) (before after : Outside) where
           × WritesFile before.disk after.disk (journal_file journal (last_record parts).core.entries) × AllFollow (report_of parts)
       unfolding traced
       headline_here whole put held told run journal named =
-          let found = trace-answer held run journal answer (is_wanted (Trace run journal) named held told) in
-          (found.0, found.1, subst (λ (a : Answer). Appends before.output.written after.output.written a.text) found.2 whole,
-          subst (λ (a : Answer). WritesFile before.disk after.disk a.file) found.2 put, all_follow found.0)
+          let found = trace-answer held run journal answer (is_wanted (Trace run journal) named held told) in (
+            found.0,
+            found.1,
+            subst (λ (a : Answer). Appends before.output.written after.output.written a.text) found.2 whole,
+            subst (λ (a : Answer). WritesFile before.disk after.disk a.file) found.2 put,
+            all_follow found.0,
+          )
 
       console_here : Appends before.output.written after.output.written answer.text → (held : Held) → before.disk.held ≡ Some held → (run : List ℕ) → row_of words ≡ Some (Run run)
           → (parts : Parts) × (parts_of held run ≡ Ok parts) × (trace_of held run None ≡ Ok (traced None parts)) × (answer.status ≡ (traced None parts).status)
