@@ -1,5 +1,5 @@
 -- The status of a run is one of four, and 9 comes only by what the journal names.
-use Rattle.std.proofs.Common.{◌≡◌, ◌⊎◌, ℕ, suc, inl, inr, Bool, true, false, cond, ◌||◌, List, [], ◌∷◌, refl, ap, arith}
+use Rattle.std.proofs.Common.{◌≡◌, ◌⊎◌, ℕ, suc, inl, inr, Bool, true, false, cond, ◌||◌, List, [], ◌∷◌, Option, refl, ap, arith}
 use Rattle.std.specs.Prelude.{All}
 use Rattle.std.specs.List.{list_any}
 use Rattle.mips_plain.specs.declared.verdict.Verdict.TheVariants.{Follows}
@@ -21,9 +21,9 @@ chosen false false false = inr (inl refl)
 trace_status-done : (report : Report) (r : Record) → IsDone (trace_status report r)
 trace_status-done report r = chosen (is_suspect report) (list_any is_stop r.core.entries) r.halted
 
-pub traced-done : (parts : Parts) → IsDone (traced parts).status
+pub traced-done : (journal : Option (List ℕ)) (parts : Parts) → IsDone (traced journal parts).status
 unfolding traced
-traced-done parts = trace_status-done (report_of parts) (last_record parts)
+traced-done journal parts = trace_status-done (report_of parts) (last_record parts)
 
 pub console_run-done : (parts : Parts) → IsDone (console_run parts).status
 unfolding console_run

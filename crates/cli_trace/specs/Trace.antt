@@ -1,5 +1,5 @@
--- `trace RUN`: the run that a run file tells, and the judgement of the journal that it made.
-use Rattle.std.specs.Prelude.{◌≡◌, ℕ, ◌^◌, ◌≤◌, ◌⊎◌, Bool, true, false, ◌||◌, List, [], ◌∷◌, ◌++◌, All, None, Result, Ok, codes, unwrap_or, is_some, if◌then◌else◌}
+-- `trace RUN` and `trace RUN JOURNAL`: the run that a run file tells, and the judgement of the journal that it made.
+use Rattle.std.specs.Prelude.{◌≡◌, ℕ, ◌^◌, ◌≤◌, ◌⊎◌, Bool, true, false, ◌||◌, List, [], ◌∷◌, ◌++◌, All, Option, Some, None, Result, Ok, codes, unwrap_or, is_some, if◌then◌else◌}
 use Rattle.std.specs.Fmt.{decimal}
 use Rattle.std.specs.List.{list_any}
 use Rattle.xom_base.specs.declared.entry.Entry.{Entry}
@@ -17,7 +17,9 @@ use Rattle.xom_model.specs.State.{Record, power_on}
 use Rattle.xom_model.specs.Install.{given}
 use Rattle.xom_model.specs.Run.{IsSchedule, run_from}
 use Rattle.script_kernel.specs.Turns.{is_built, ops_of, script_told}
+use Rattle.journal_text.specs.JournalTexts.{journal_text}
 use Rattle.cli_base.specs.declared.answer.Answer.{Answer}
+use Rattle.cli_base.specs.declared.answer.OutputFile.{OutputFile}
 use Rattle.cli_trace.specs.declared.trace.Parts.{Parts}
 use Rattle.cli_base.specs.declared.refusal.Refusal.{Refusal}
 use Rattle.cli_base.specs.Inputs.{◌>>=◌, Held, image_of}
@@ -102,18 +104,24 @@ trace_status report r = if is_suspect report then 9 else (if list_any is_stop r.
 abbrev pub trace_text : Report → Record → List ℕ
 trace_text report r = (console_lines (console_of r.core.entries) ++ report_text report) ++ events_line r
 
--- that text, with the status
-abbrev pub answer_of : Report → Record → Answer
-answer_of report r = record { text = trace_text report r; file = None; status = trace_status report r }
+-- the text of the journal as a file, where one is named
+abbrev pub journal_file : Option (List ℕ) → List Entry → Option OutputFile
+journal_file None entries = None
+journal_file (Some name) entries = Some (record { name = name; bytes = journal_text entries })
 
-unfoldable pub traced : Parts → Answer
-traced parts = answer_of (report_of parts) (last_record parts)
+-- that text, with the journal's file and the status
+abbrev pub answer_of : Option (List ℕ) → Report → Record → Answer
+answer_of journal report r =
+    record { text = trace_text report r; file = journal_file journal r.core.entries; status = trace_status report r }
+
+unfoldable pub traced : Option (List ℕ) → Parts → Answer
+traced journal parts = answer_of journal (report_of parts) (last_record parts)
 
 -- the answer of the command
-unfoldable pub trace_of : Held → List ℕ → Result Answer Refusal
-trace_of held run = do
+unfoldable pub trace_of : Held → List ℕ → Option (List ℕ) → Result Answer Refusal
+trace_of held run journal = do
   parts ← parts_of held run
-  Ok (traced parts)
+  Ok (traced journal parts)
 
 -- the report names a forged entry or a collision
 abbrev pub NamesFinding : Report → Type 0

@@ -1,21 +1,22 @@
-ghost use Rattle.std.specs.Prelude.{◌≡◌, ◌≤◌, ◌^◌, IfOk, string_bytes, [], true};
+ghost use Rattle.std.specs.Prelude.{◌≡◌, ◌≤◌, ◌^◌, IfOk, option_map, string_bytes, [], true};
 ghost use Rattle.std.specs.List.{list_any};
 ghost use Rattle.cli_base.specs.Commands.{IsDone};
 ghost use Rattle.cli_base.specs.Readings.{Gives};
-ghost use Rattle.cli_trace.specs.Trace.{CanRun, answer_of, ending_text, events_line, is_doubted as is_doubted_by, is_stop as is_stop_by, is_suspect as is_suspect_by, last_of, last_record, parts_of, report_of, trace_of, trace_status, traced as traced_of};
+ghost use Rattle.cli_trace.specs.Trace.{CanRun, answer_of, ending_text, events_line, is_doubted as is_doubted_by, is_stop as is_stop_by, is_suspect as is_suspect_by, journal_file as journal_file_of, last_of, last_record, parts_of, report_of, trace_of, trace_status, traced as traced_of};
 ghost use Rattle.script_kernel.specs.Turns.{is_built, ops_of};
 ghost use Rattle.xom_model.specs.Run.{IsSchedule};
 
 use crate::console::{console, end_line};
 use crate::lone_run::LoneRun;
 use crate::reading::{run_file, script};
-use cli_base::{Answer, Stop, image};
+use cli_base::{Answer, OutputFile, Stop, image};
+use journal_text::print_journal;
 use mips_plain::Verdict;
 use script_kernel::ScriptKernel;
 use std::alloc::Global;
 use trace_judge::{GuestLine, Report, judge, print_report};
 use xom_base::{ByteList, Entry, NoMemory, PlainImage, RunEnd, Schedule};
-use xom_io::Files;
+use xom_io::{Files, Name};
 use xom_journal::Journal;
 use xom_machine::{Machine, run};
 use xom_owners::{Owner, OwnerList};
@@ -41,18 +42,24 @@ pub struct JudgedRun {
     pub report: Report,
 }
 
-/// `trace RUN`: reads what a run is made of, makes it, and prints its console and the report on its
-/// journal.
+/// `trace RUN` and `trace RUN JOURNAL`: reads what a run is made of, makes it, and prints its console
+/// and the report on its journal. Where a file is named for the journal, its text is written there.
 #[tactic(auto, unfolding(crate::specs::Trace::trace_of))]
-pub fn trace<F: Files>(alloc: Global, files: &mut F, run: &String) -> Result<Answer, Stop>
-    ensures gives { Gives (F.held files.old) (λ held. trace_of held (string_bytes run.now))
+pub fn trace<F: Files>(
+    alloc: Global,
+    files: &mut F,
+    run: &String,
+    journal: Option<&String>,
+) -> Result<Answer, Stop>
+    ensures gives { Gives (F.held files.old)
+        (λ held. trace_of held (string_bytes run.now) (option_map (λ name. string_bytes name.now) journal.entry))
         (F.reads files.old) (F.reads files.new) result }
     ensures done { IfOk result (λ answer. IsDone answer.status) }
     ensures names { F.held files.new ≡ F.held files.old }
     ensures writes { F.writes files.new ≡ F.writes files.old }
 {
     let parts = read_parts(alloc, files, run)?;
-    Ok(traced(alloc, parts)?)
+    Ok(traced(alloc, parts, journal)?)
 }
 
 /// Reads the run file, the image of its owner and the script of its kernel, in this order. The
@@ -77,12 +84,12 @@ pub fn read_parts<F: Files>(alloc: Global, files: &mut F, run: &String) -> Resul
 
 /// Makes the run, and says what a trace has to say of it.
 #[tactic(auto, unfolding(crate::specs::Trace::traced))]
-fn traced(alloc: Global, parts: Parts) -> Result<Answer, NoMemory>
+fn traced(alloc: Global, parts: Parts, journal: Option<&String>) -> Result<Answer, NoMemory>
     requires { CanRun parts }
-    ensures { IfOk result (λ answer. answer ≡ traced_of parts) }
+    ensures { IfOk result (λ answer. answer ≡ traced_of (option_map (λ name. string_bytes name.now) journal.entry) parts) }
 {
     let made = judged(alloc, parts)?;
-    answer(alloc, &made.report, &made.machine)
+    answer(alloc, &made.report, &made.machine, journal)
 }
 
 /// Makes the run and judges its journal.
@@ -132,9 +139,15 @@ fn ran(
     }
 }
 
-/// What the trace has to say: the console, the report, and the line of the events.
-fn answer(alloc: Global, report: &Report, machine: &Machine) -> Result<Answer, NoMemory>
-    ensures { IfOk result (λ answer. answer ≡ answer_of report.now machine.now.state) }
+/// What the trace has to say: the console, the report, and the line of the events; and the file of the
+/// journal, where one is named.
+fn answer(
+    alloc: Global,
+    report: &Report,
+    machine: &Machine,
+    journal: Option<&String>,
+) -> Result<Answer, NoMemory>
+    ensures { IfOk result (λ answer. answer ≡ answer_of (option_map (λ name. string_bytes name.now) journal.entry) report.now machine.now.state) }
 {
     let mut text = console(alloc, machine.journal())?;
     end_line(&mut text)?;
@@ -144,9 +157,26 @@ fn answer(alloc: Global, report: &Report, machine: &Machine) -> Result<Answer, N
     text.extend_from_slice(events.as_bytes())?;
     Ok(Answer {
         text: ByteList::from_vec(text),
-        file: None,
+        file: journal_file(alloc, journal, machine.journal())?,
         status: status(report, machine),
     })
+}
+
+/// The file of a journal, where one is named.
+fn journal_file(
+    alloc: Global,
+    name: Option<&String>,
+    journal: &Journal,
+) -> Result<Option<OutputFile>, NoMemory>
+    ensures { IfOk result (λ file. file ≡ journal_file_of (option_map (λ n. string_bytes n.now) name.entry) journal.now.entries) }
+{
+    match name {
+        None => Ok(None),
+        Some(name) => Ok(Some(OutputFile {
+            name: Name::new(name.clone()?),
+            bytes: print_journal(alloc, journal)?,
+        })),
+    }
 }
 
 /// How many events there were, and how the run ended.

@@ -24,7 +24,7 @@ use Rattle.cli_base.specs.Refusals.{line_of, refusal_status, words_line}
 use Rattle.xom_cli.specs.Rows.{Row, Run, Trace, row_of, target_of}
 use Rattle.cli_trace.specs.Console.{console_of}
 use Rattle.cli_trace.specs.Run.{console_run}
-use Rattle.cli_trace.specs.Trace.{AllFollow, NamesFinding, last_record, parts_of, report_of, trace_of, trace_text, traced}
+use Rattle.cli_trace.specs.Trace.{AllFollow, NamesFinding, journal_file, last_record, parts_of, report_of, trace_of, trace_text, traced}
 use Rattle.xom_cli.proofs.Delivered.{done_not_1, done_not_2, done_not_3, done_not_4, done_not_5, fails-rising, lacks-count, lacks-held, never-long, puts-changes, puts-count, puts-file, puts-nothing, same-changes, same-count, takes-prefix}
 use Rattle.cli_trace.proofs.Headline.{all_follow}
 use Rattle.cli_trace.proofs.Statuses.{nine-names}
@@ -76,7 +76,7 @@ module _ (words : List (List ℕ)) (before after : Outside) where
     keeps = λ one. absurd (elim one [ inl e ↦ omega arith | inr other ↦ elim other [ inl e ↦ omega arith | inr e ↦ omega arith ] ]);
     unprinted = leaves.unprinted;
     done_all = λ held told d. absurd (done_not_5 d);
-    headline = λ held told run row d. absurd (done_not_5 d);
+    headline = λ held told run journal row d. absurd (done_not_5 d);
     console = λ held told run row d. absurd (done_not_5 d);
     finding_cause = λ held told run row nine. absurd (omega arith);
   }
@@ -133,7 +133,7 @@ module _ (words : List (List ℕ)) (before after : Outside) where
       keeps = λ _. same;
       unprinted = (same_leaves same).unprinted;
       done_all = λ held told d. absurd (done_not_1 d);
-      headline = λ held told run row d. absurd (done_not_1 d);
+      headline = λ held told run journal row d. absurd (done_not_1 d);
       console = λ held told run row d. absurd (done_not_1 d);
       finding_cause = λ held told run row nine. absurd (omega arith);
     }
@@ -186,22 +186,28 @@ module _ (words : List (List ℕ)) (before after : Outside) where
           let same : row ≡ asked = cc in
           subst (λ r. IsOutcome r held (Ok answer)) same (wanted held told)
 
-      headline_here : Appends before.output.written after.output.written answer.text → (held : Held) → before.disk.held ≡ Some held → (run : List ℕ) → row_of words ≡ Some (Trace run)
-          → (parts : Parts) × (parts_of held run ≡ Ok parts) × Appends before.output.written after.output.written (trace_text (report_of parts) (last_record parts)) × AllFollow (report_of parts)
+      headline_here : Appends before.output.written after.output.written answer.text → WritesFile before.disk after.disk answer.file → (held : Held) → before.disk.held ≡ Some held → (run : List ℕ) (journal : Option (List ℕ)) → row_of words ≡ Some (Trace run journal)
+          → (parts : Parts) × (parts_of held run ≡ Ok parts) × Appends before.output.written after.output.written (trace_text (report_of parts) (last_record parts))
+          × WritesFile before.disk after.disk (journal_file journal (last_record parts).core.entries) × AllFollow (report_of parts)
       unfolding traced
-      headline_here whole held told run named =
-          let found = trace-answer held run answer (is_wanted (Trace run) named held told) in
-          (found.0, found.1, subst (λ (a : Answer). Appends before.output.written after.output.written a.text) found.2 whole, all_follow found.0)
+      headline_here whole put held told run journal named =
+          let found = trace-answer held run journal answer (is_wanted (Trace run journal) named held told) in (
+            found.0,
+            found.1,
+            subst (λ (a : Answer). Appends before.output.written after.output.written a.text) found.2 whole,
+            subst (λ (a : Answer). WritesFile before.disk after.disk a.file) found.2 put,
+            all_follow found.0,
+          )
 
       console_here : Appends before.output.written after.output.written answer.text → (held : Held) → before.disk.held ≡ Some held → (run : List ℕ) → row_of words ≡ Some (Run run)
-          → (parts : Parts) × (parts_of held run ≡ Ok parts) × (trace_of held run ≡ Ok (traced parts)) × (answer.status ≡ (traced parts).status)
+          → (parts : Parts) × (parts_of held run ≡ Ok parts) × (trace_of held run None ≡ Ok (traced None parts)) × (answer.status ≡ (traced None parts).status)
           × Appends before.output.written after.output.written (console_of (last_record parts).core.entries) × AllFollow (report_of parts)
       unfolding traced console_run
       console_here whole held told run named =
           let found = run-answer held run answer (is_wanted (Run run) named held told) in (
             found.0,
             found.1,
-            parts-traced held run found.0 found.1,
+            parts-traced held run None found.0 found.1,
             ap (λ (a : Answer). a.status) found.2,
             subst (λ (a : Answer). Appends before.output.written after.output.written a.text) found.2 whole,
             all_follow found.0,
@@ -212,8 +218,8 @@ module _ (words : List (List ℕ)) (before after : Outside) where
       finding_here nine held told run (inl named) =
           let found = run-answer held run answer (is_wanted (Run run) named held told) in
           (found.0, found.1, nine-names found.0 (sym (ap (λ (a : Answer). a.status) found.2) ∙ nine))
-      finding_here nine held told run (inr named) =
-          let found = trace-answer held run answer (is_wanted (Trace run) named held told) in
+      finding_here nine held told run (inr (journal, named)) =
+          let found = trace-answer held run journal answer (is_wanted (Trace run journal) named held told) in
           (found.0, found.1, nine-names found.0 (sym (ap (λ (a : Answer). a.status) found.2) ∙ nine))
 
       -- the file was put, and all of the text
@@ -235,7 +241,7 @@ module _ (words : List (List ℕ)) (before after : Outside) where
         keeps = λ one. absurd (elim one [ inl e ↦ done_not_1 (subst IsDone e done) | inr other ↦ elim other [ inl e ↦ done_not_2 (subst IsDone e done) | inr e ↦ done_not_4 (subst IsDone e done) ] ]);
         unprinted = λ rises. absurd (let is : after.disk.writes ≡ before.disk.writes = puts-count before.disk after.disk answer.file u puts in omega arith);
         done_all = λ held told _. (printed (Ok answer), answer_printed held told, refl, takes.1, puts-file before.disk after.disk answer.file u puts);
-        headline = λ held told run named _. headline_here takes.1 held told run named;
+        headline = λ held told run journal named _. headline_here takes.1 (puts-file before.disk after.disk answer.file u puts) held told run journal named;
         console = λ held told run named _. console_here takes.1 held told run named;
         finding_cause = λ held told run named nine. finding_here nine held told run named;
       }
@@ -259,7 +265,7 @@ module _ (words : List (List ℕ)) (before after : Outside) where
         keeps = λ one. absurd (elim one [ inl e ↦ omega arith | inr other ↦ elim other [ inl e ↦ omega arith | inr e ↦ omega arith ] ]);
         unprinted = leaves.unprinted;
         done_all = λ held told d. absurd (done_not_3 d);
-        headline = λ held told run named d. absurd (done_not_3 d);
+        headline = λ held told run journal named d. absurd (done_not_3 d);
         console = λ held told run named d. absurd (done_not_3 d);
         finding_cause = λ held told run named nine. absurd (omega arith);
       }
@@ -308,7 +314,7 @@ module _ (words : List (List ℕ)) (before after : Outside) where
         keeps = λ _. same;
         unprinted = (same_leaves same).unprinted;
         done_all = λ held told d. absurd (done_not_4 d);
-        headline = λ held told run named d. absurd (done_not_4 d);
+        headline = λ held told run journal named d. absurd (done_not_4 d);
         console = λ held told run named d. absurd (done_not_4 d);
         finding_cause = λ held told run named nine. absurd (omega arith);
       }
@@ -365,7 +371,7 @@ module _ (words : List (List ℕ)) (before after : Outside) where
         keeps = λ _. same;
         unprinted = (same_leaves same).unprinted;
         done_all = λ held told d. absurd (done_not_2 d);
-        headline = λ held told run named d. absurd (done_not_2 d);
+        headline = λ held told run journal named d. absurd (done_not_2 d);
         console = λ held told run named d. absurd (done_not_2 d);
         finding_cause = λ held told run named nine. absurd (omega arith);
       }

@@ -47,7 +47,7 @@ row-one (Disasm image) held x y p q = sym p ∙ q
 row-one (Plain image steps received) held x y p q = sym p ∙ q
 row-one (Seal image key id machine sealed) held x y p q = sym p ∙ q
 row-one (Run run) held x y p q = sym p ∙ q
-row-one (Trace run) held x y p q = sym p ∙ q
+row-one (Trace run journal) held x y p q = sym p ∙ q
 
 printed-one : (o : Option Row) (held : Held) (p q : Printed) → IsPrintedBy o held p → IsPrintedBy o held q → p ≡ q
 printed-one None held p q a b = a ∙ sym b

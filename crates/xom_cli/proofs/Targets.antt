@@ -1,5 +1,6 @@
 -- The file that a command answers is the one that its words name.
 use Rattle.std.proofs.Common.{◌≡◌, List, ℕ, Option, Some, None, Result, Ok, Err, refl, sym, ◌∙◌, ap}
+use Rattle.xom_base.specs.declared.entry.Entry.{Entry}
 use Rattle.xom_base.specs.declared.key.ImageId.{ImageId}
 use Rattle.xom_base.specs.declared.key.Key256.{Key256}
 use Rattle.cli_base.specs.declared.answer.Answer.{Answer}
@@ -13,7 +14,7 @@ use Rattle.xom_cli.specs.Outcome.{IsOutcome}
 use Rattle.cli_programs.specs.Programs.{disasm_of, plain_of, seal_of, values_of}
 use Rattle.xom_cli.specs.Rows.{Row, Asm, Disasm, Plain, Seal, Run, Trace, target_of}
 use Rattle.cli_trace.specs.Run.{console_run, run_of}
-use Rattle.cli_trace.specs.Trace.{parts_of, trace_of, traced}
+use Rattle.cli_trace.specs.Trace.{journal_file, last_record, parts_of, trace_of, traced}
 
 -- where two steps answer, the first did, and the second of what it gave
 pub bind-ok : {A B : Type 0} (o : Result A Refusal) (f : A → Result B Refusal) (value : B) → (o >>= f) ≡ Ok value → (x : A) × (o ≡ Ok x) × (f x ≡ Ok value)
@@ -21,20 +22,24 @@ bind-ok (Ok x) f value is = (x, refl, is)
 bind-ok (Err refusal) f value is = absurd (cc)
 
 -- the answer of a trace is that of its parts
-pub trace-answer : (held : Held) (run : List ℕ) (answer : Answer) → trace_of held run ≡ Ok answer → (parts : Parts) × (parts_of held run ≡ Ok parts) × (answer ≡ traced parts)
+pub trace-answer : (held : Held) (run : List ℕ) (journal : Option (List ℕ)) (answer : Answer) → trace_of held run journal ≡ Ok answer → (parts : Parts) × (parts_of held run ≡ Ok parts) × (answer ≡ traced journal parts)
 unfolding trace_of
-trace-answer held run answer is =
-    let found = bind-ok (parts_of held run) (λ parts. Ok (traced parts)) answer is in
+trace-answer held run journal answer is =
+    let found = bind-ok (parts_of held run) (λ parts. Ok (traced journal parts)) answer is in
     (found.0, found.1, let last = found.2 in cc)
 
-traced-file : (parts : Parts) → (traced parts).file ≡ None
-unfolding traced
-traced-file parts = refl
+journal_file-name : (journal : Option (List ℕ)) (entries : List Entry) (file : OutputFile) → journal_file journal entries ≡ Some file → journal ≡ Some file.name
+journal_file-name None entries file is = absurd (cc)
+journal_file-name (Some name) entries file is = cc
 
-trace-file : (held : Held) (run : List ℕ) (answer : Answer) → trace_of held run ≡ Ok answer → answer.file ≡ None
-trace-file held run answer is =
-    let found = trace-answer held run answer is in
-    ap (λ (a : Answer). a.file) found.2 ∙ traced-file found.0
+traced-file : (journal : Option (List ℕ)) (parts : Parts) (file : OutputFile) → (traced journal parts).file ≡ Some file → journal ≡ Some file.name
+unfolding traced
+traced-file journal parts file is = journal_file-name journal (last_record parts).core.entries file is
+
+trace-file : (held : Held) (run : List ℕ) (journal : Option (List ℕ)) (answer : Answer) (file : OutputFile) → trace_of held run journal ≡ Ok answer → answer.file ≡ Some file → journal ≡ Some file.name
+trace-file held run journal answer file is written =
+    let found = trace-answer held run journal answer is in
+    traced-file journal found.0 file (sym (ap (λ (a : Answer). a.file) found.2) ∙ written)
 
 -- the answer of `run` is that of its parts
 pub run-answer : (held : Held) (run : List ℕ) (answer : Answer) → run_of held run ≡ Ok answer → (parts : Parts) × (parts_of held run ≡ Ok parts) × (answer ≡ console_run parts)
@@ -53,9 +58,9 @@ run-file held run answer is =
     ap (λ (a : Answer). a.file) found.2 ∙ console_run-file found.0
 
 -- where the parts are read, they are traced
-pub parts-traced : (held : Held) (run : List ℕ) (parts : Parts) → parts_of held run ≡ Ok parts → trace_of held run ≡ Ok (traced parts)
+pub parts-traced : (held : Held) (run : List ℕ) (journal : Option (List ℕ)) (parts : Parts) → parts_of held run ≡ Ok parts → trace_of held run journal ≡ Ok (traced journal parts)
 unfolding trace_of
-parts-traced held run parts is = ap (λ read. read >>= (λ p. Ok (traced p))) is
+parts-traced held run journal parts is = ap (λ read. read >>= (λ p. Ok (traced journal p))) is
 
 asm_read-file : (source target : List ℕ) (read : Result (List ℕ) Refusal) (answer : Answer) (file : OutputFile) → AssemblesRead source target read (Ok answer) → answer.file ≡ Some file → file.name ≡ target
 asm_read-file source target (Ok text) answer file is written = let last = is.2 in cc
@@ -81,4 +86,4 @@ target-written (Disasm image) held answer file is written = let none = disasm-fi
 target-written (Plain image steps received) held answer file is written = let none = plain-file held image steps received answer is in absurd (cc)
 target-written (Seal image key id machine sealed) held answer file is written = ap Some (sym (seal-file held image key id machine sealed answer file is written))
 target-written (Run run) held answer file is written = let none = run-file held run answer is in absurd (cc)
-target-written (Trace run) held answer file is written = let none = trace-file held run answer is in absurd (cc)
+target-written (Trace run journal) held answer file is written = trace-file held run journal answer file is written

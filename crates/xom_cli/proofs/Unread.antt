@@ -106,9 +106,9 @@ parts-unread held run name is = elim (bind-err (run_file_of held run) _ (Unread 
   ]
 ]
 
-trace-unread : (held : Held) (run name : List ℕ) → trace_of held run ≡ Err (Unread name) → held name ≡ None
+trace-unread : (held : Held) (run : List ℕ) (journal : Option (List ℕ)) (name : List ℕ) → trace_of held run journal ≡ Err (Unread name) → held name ≡ None
 unfolding trace_of
-trace-unread held run name is = elim (bind-err (parts_of held run) _ (Unread name) is) [
+trace-unread held run journal name is = elim (bind-err (parts_of held run) _ (Unread name) is) [
   | inl here ↦ parts-unread held run name here
   | inr parts ↦ absurd (let last = parts.2 in cc)
 ]
@@ -126,4 +126,4 @@ row-unread (Disasm image) held name is = disasm-unread held image name is
 row-unread (Plain image steps received) held name is = plain-unread held image steps received name is
 row-unread (Seal image key id machine sealed) held name is = seal-unread held image key id machine sealed name is
 row-unread (Run run) held name is = run-unread held run name is
-row-unread (Trace run) held name is = trace-unread held run name is
+row-unread (Trace run journal) held name is = trace-unread held run journal name is

@@ -18,7 +18,7 @@ IsOutcome (Disasm image) held result = disasm_of held image ≡ result
 IsOutcome (Plain image steps received) held result = plain_of held image steps received ≡ result
 IsOutcome (Seal image key id machine sealed) held result = seal_of held image key id machine sealed ≡ result
 IsOutcome (Run run) held result = run_of held run ≡ result
-IsOutcome (Trace run) held result = trace_of held run ≡ result
+IsOutcome (Trace run journal) held result = trace_of held run journal ≡ result
 
 -- what is printed, the file that is written, if there is one, and the status
 pub record Printed : Type 0 where

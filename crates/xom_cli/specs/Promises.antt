@@ -11,7 +11,7 @@ use Rattle.xom_cli.specs.Outcome.{IsPrinted, Printed, printed}
 use Rattle.cli_base.specs.Refusals.{line_of}
 use Rattle.xom_cli.specs.Rows.{Run, Trace, row_of, target_of}
 use Rattle.cli_trace.specs.Console.{console_of}
-use Rattle.cli_trace.specs.Trace.{AllFollow, NamesFinding, last_record, parts_of, report_of, trace_of, trace_text, traced}
+use Rattle.cli_trace.specs.Trace.{AllFollow, NamesFinding, journal_file, last_record, parts_of, report_of, trace_of, trace_text, traced}
 
 -- the statuses that there are
 abbrev pub IsStatus : ℕ → Type 0
@@ -119,20 +119,21 @@ IsUnprinted before after = before.disk.writes < after.disk.writes → after.outp
 
 -- ---- What the owner of a guest may believe
 
--- The headline: where `trace` was carried out, its text is the console of the run that the run file defines, the report on the journal that this run made, and the line of its events; and each installed guest's recorded steps are those of its owner's program, run alone with the values that it received.
+-- The headline: where `trace` was carried out, its text is the console of the run that the run file defines, the report on the journal that this run made, and the line of its events, and its file, where one is named, has the text of this journal; and each installed guest's recorded steps are those of its owner's program, run alone with the values that it received.
 abbrev pub GuestsRunAlone : List (List ℕ) → Outside → Outside → ℕ → Type 0
-GuestsRunAlone words before after status = (held : Held) → before.disk.held ≡ Some held → (run : List ℕ) → row_of words ≡ Some (Trace run) → IsDone status
-    → (parts : Parts) × (parts_of held run ≡ Ok parts) × Appends before.output.written after.output.written (trace_text (report_of parts) (last_record parts)) × AllFollow (report_of parts)
+GuestsRunAlone words before after status = (held : Held) → before.disk.held ≡ Some held → (run : List ℕ) (journal : Option (List ℕ)) → row_of words ≡ Some (Trace run journal) → IsDone status
+    → (parts : Parts) × (parts_of held run ≡ Ok parts) × Appends before.output.written after.output.written (trace_text (report_of parts) (last_record parts))
+    × WritesFile before.disk after.disk (journal_file journal (last_record parts).core.entries) × AllFollow (report_of parts)
 
 -- Where `run` was carried out, its text is the console of the run that `trace` makes of the same run file, and its status is that of this trace; and each guest's steps are those of its owner's program too.
 abbrev pub PrintsConsole : List (List ℕ) → Outside → Outside → ℕ → Type 0
 PrintsConsole words before after status = (held : Held) → before.disk.held ≡ Some held → (run : List ℕ) → row_of words ≡ Some (Run run) → IsDone status
-    → (parts : Parts) × (parts_of held run ≡ Ok parts) × (trace_of held run ≡ Ok (traced parts)) × (status ≡ (traced parts).status)
+    → (parts : Parts) × (parts_of held run ≡ Ok parts) × (trace_of held run None ≡ Ok (traced None parts)) × (status ≡ (traced None parts).status)
     × Appends before.output.written after.output.written (console_of (last_record parts).core.entries) × AllFollow (report_of parts)
 
 -- the words ask for the run of this run file
 abbrev pub AsksForRun : List (List ℕ) → List ℕ → Type 0
-AsksForRun words run = (row_of words ≡ Some (Run run)) ⊎ (row_of words ≡ Some (Trace run))
+AsksForRun words run = (row_of words ≡ Some (Run run)) ⊎ ((journal : Option (List ℕ)) × (row_of words ≡ Some (Trace run journal)))
 
 -- Under `run` and `trace` 9 comes only where the report names a forged entry or a collision: no guest departs there, and each has an owner.
 abbrev pub FindingCause : List (List ℕ) → Outside → ℕ → Type 0

@@ -18,8 +18,8 @@ pub data Row : Type 0 where
   Seal : (image : List ℕ) → (key : Key256) → (id : ImageId) → (machine : Key256) → (sealed : List ℕ) → Row
   -- makes the run of a run file, and prints its console
   Run : (run : List ℕ) → Row
-  -- makes the run of a run file, and prints its console and the judgement of its journal
-  Trace : (run : List ℕ) → Row
+  -- makes the run of a run file, prints its console and the judgement of its journal, and writes the journal where a file is named
+  Trace : (run : List ℕ) → (journal : Option (List ℕ)) → Row
 
 -- at most so many steps are asked for
 abbrev pub most_steps : ℕ
@@ -42,12 +42,13 @@ abbrev pub row_of_one : List ℕ → List ℕ → Option Row
 row_of_one command a =
     if bytes_eq command (codes "disasm") then Some (Disasm a)
     else (if bytes_eq command (codes "run") then Some (Run a)
-    else (if bytes_eq command (codes "trace") then Some (Trace a) else None))
+    else (if bytes_eq command (codes "trace") then Some (Trace a None) else None))
 
 abbrev pub row_of_two : List ℕ → List ℕ → List ℕ → Option Row
 row_of_two command a b =
     if bytes_eq command (codes "asm") then Some (Asm a b)
-    else (if bytes_eq command (codes "plain") then plain_row a b None else None)
+    else (if bytes_eq command (codes "plain") then plain_row a b None
+    else (if bytes_eq command (codes "trace") then Some (Trace a (Some b)) else None))
 
 abbrev pub row_of_three : List ℕ → List ℕ → List ℕ → List ℕ → Option Row
 row_of_three command a b c = if bytes_eq command (codes "plain") then plain_row a b (Some c) else None
@@ -70,4 +71,4 @@ target_of (Disasm image) = None
 target_of (Plain image steps received) = None
 target_of (Seal image key id machine sealed) = Some sealed
 target_of (Run run) = None
-target_of (Trace run) = None
+target_of (Trace run journal) = journal

@@ -37,9 +37,10 @@ pub enum Row<'a> {
     Run {
         run: &'a String,
     },
-    /// `trace RUN`
+    /// `trace RUN` or `trace RUN JOURNAL`
     Trace {
         run: &'a String,
+        journal: Option<&'a String>,
     },
 }
 
@@ -63,7 +64,10 @@ fn row_of_one<'a>(command: &String, a: &'a String) -> Option<Row<'a>>
     match command.as_str() {
         "disasm" => Some(Row::Disasm { image: a }),
         "run" => Some(Row::Run { run: a }),
-        "trace" => Some(Row::Trace { run: a }),
+        "trace" => Some(Row::Trace {
+            run: a,
+            journal: None,
+        }),
         _ => None,
     }
 }
@@ -78,6 +82,10 @@ fn row_of_two<'a>(command: &String, a: &'a String, b: &'a String) -> Option<Row<
             image: b,
         }),
         "plain" => plain_row(a, b, None),
+        "trace" => Some(Row::Trace {
+            run: a,
+            journal: Some(b),
+        }),
         _ => None,
     }
 }

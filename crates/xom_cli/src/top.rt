@@ -30,8 +30,8 @@ use xom_io::{Files, Sink};
 ///   machine, and writes it as the file SEALED.
 /// - `run RUN` makes the run of a run file and prints its console: the bytes that its kernel wrote
 ///   there. Where there is none nothing is put.
-/// - `trace RUN` makes the same run, with the same status, and prints its console and the judgement of
-///   its journal.
+/// - `trace RUN` and `trace RUN JOURNAL` make the same run, with the same status, and print its console
+///   and the judgement of its journal; where a file is named, the journal's text is written there.
 ///
 /// 0: carried out; for a run, the kernel halted. 1: the words match no command. 2: a file can't be
 /// read. 3: the output can't be written. 4: a file is too long, or off its format. 5: no memory was
@@ -92,6 +92,6 @@ fn answer<F: Files>(alloc: Global, row: Row<'_>, files: &mut F) -> Result<Answer
             sealed,
         } => seal(alloc, files, image, key, id, &machine, sealed),
         Row::Run { run: name } => run(alloc, files, name),
-        Row::Trace { run } => trace(alloc, files, run),
+        Row::Trace { run: name, journal } => trace(alloc, files, name, journal),
     }
 }
