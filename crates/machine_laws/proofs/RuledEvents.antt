@@ -31,7 +31,7 @@ use Rattle.mips_effect.specs.declared.wish.Wish.TheVariants as wish
 use Rattle.mips_plain.specs.Instruction.{fetched, step_made, tried}
 use Rattle.mips_plain.specs.Memory.{blank, low_bytes, private_size, written_at}
 use Rattle.journal_text.specs.JournalLines.{last_behind}
-use Rattle.journal_round_trip.specs.KeepsRules.{IsShort, KeepsCause, KeepsEntry, KeepsReleased, KeepsRule, KeepsRulesBehind, KeepsStep, KeepsWrites}
+use Rattle.journal_round_trip.specs.KeepsRules.{Is32Bit, KeepsCause, KeepsEntry, KeepsReleased, KeepsRule, KeepsRulesBehind, KeepsStep, KeepsWrites}
 use Rattle.tag_regs.specs.declared.cell.Cell.{Cell}
 use Rattle.tag_regs.specs.TaggedCells.{all_empty, cell_at, empty, scrubbed, scrubbed_cell}
 use Rattle.session_table.specs.declared.session.Session.{Session}
@@ -86,7 +86,7 @@ module _ (core : CoreState) (holds : RulesHold core) where
   session_of-IsSoundSession slot =
       All-at (IsSoundSession core.installs) core.sessions slot free (free-IsSoundSession core.installs) holds.sessions
 
-  cell_at-short : (reg : ℕ) → IsShort (cell_at core.cells reg).value
+  cell_at-short : (reg : ℕ) → Is32Bit (cell_at core.cells reg).value
   cell_at-short reg = All-at IsShortCell core.cells reg empty (lit< tt) holds.cells
 
   memory_of-IsBytes : (slot : ℕ) → IsBytes (memory_of core slot)
@@ -224,13 +224,13 @@ after_step-holds core slot false step keeps live holds ended.Goes is = holds
 
 -- what comes from outside
 received_by-short : (core : CoreState) (wished : Wish) → RulesHold core
-    → IsShort (received_by core.cells wished)
+    → Is32Bit (received_by core.cells wished)
 received_by-short core wish.Nothing holds = lit< tt
 received_by-short core (wish.Load reg address how old) holds = lit< tt
 received_by-short core (wish.Store address count value) holds = lit< tt
 received_by-short core (wish.Release reg value) holds = lit< tt
 received_by-short core (wish.Receive reg from) holds =
-    cond_both ((cell_at core.cells from).tag == 0) (cell_at core.cells from).value 0 IsShort (λ _. cell_at-short core holds from) (λ _. lit< tt)
+    cond_both ((cell_at core.cells from).tag == 0) (cell_at core.cells from).value 0 Is32Bit (λ _. cell_at-short core holds from) (λ _. lit< tt)
 received_by-short core wish.Exit holds = lit< tt
 received_by-short core (wish.Call code) holds = lit< tt
 received_by-short core (wish.Do operation) holds = lit< tt
@@ -315,7 +315,7 @@ module _ (core : CoreState) (holds : RulesHold core) where
   resume-holds slot signal state.Ended is = holds
   resume-holds slot signal (state.Stopped why) is = holds
 
-  set_register-holds : (reg value : ℕ) → IsShort value → RulesHold (set_register core reg value).0
+  set_register-holds : (reg value : ℕ) → Is32Bit value → RulesHold (set_register core reg value).0
   set_register-holds reg value short =
       either-holds (is_cell reg) (with_cells core (set core.cells reg (record { value = value; tag = 0 })), 0) (core, 7)
       (λ _. with_cells-holds core holds (set core.cells reg (record { value = value; tag = 0 })) (All-set IsShortCell core.cells reg (record { value = value; tag = 0 }) short holds.cells)) holds
@@ -388,7 +388,7 @@ pub installs_keep_rules : InstallsKeepRules
 installs_keep_rules core id key image fits few holds =
     let begin : image.entry < 2 ^ 20 = fits.private in
     let lines : lines_of image < 2 ^ 32 = let bytes : length image.bytes ≤ 2 ^ 20 = fits.fits in omega arith in
-    let short_begin : IsShort image.entry = omega arith in
+    let short_begin : Is32Bit image.entry = omega arith in
     let e = entry.Install (core.installs + 1) 1 id 0 image.entry (lines_of image) in
     let keeps : KeepsEntry core.installs e = (refl, few, lit≤ tt, lit< tt, fits.id_bytes, fits.id_length, lit< tt, short_begin, lines) in
     record {

@@ -22,7 +22,7 @@ use Rattle.mips_effect.specs.declared.wish.Wish.{Wish}
 use Rattle.mips_effect.specs.declared.wish.Wish.TheVariants as wish
 use Rattle.mips_plain.specs.Instruction.{loaded, made, step_made, tried}
 use Rattle.mips_plain.specs.Memory.{low_bytes, word_at, written_at}
-use Rattle.journal_round_trip.specs.KeepsRules.{IsShort, KeepsStep, KeepsWrites}
+use Rattle.journal_round_trip.specs.KeepsRules.{Is32Bit, KeepsStep, KeepsWrites}
 use Rattle.journal_round_trip.proofs.PieceLaws.{number-bytes}
 use Rattle.machine_laws.proofs.ShortEffects.{AreShortWrites, IsShortEffect, IsShortSeen, IsShortWish, effect_of-IsShortEffect, reduced-short}
 
@@ -66,39 +66,39 @@ filled-IsBytes size bytes each =
     IsBytes-AllBytes (filled size bytes)
     (All-append (λ byte. byte < 256) bytes (replicate (size - length bytes) 0) (AllBytes-IsBytes bytes each) (All-replicate (λ byte. byte < 256) (size - length bytes) 0 (lit< tt)))
 
-from_be_bytes-short : (bytes : List ℕ) → IsBytes bytes → IsShort (from_be_bytes w32 bytes)
+from_be_bytes-short : (bytes : List ℕ) → IsBytes bytes → Is32Bit (from_be_bytes w32 bytes)
 from_be_bytes-short bytes each = omega (arith, each 0, each 1, each 2, each 3)
 
-word_at-short : (bytes : List ℕ) (address : ℕ) → IsBytes bytes → IsShort (word_at bytes address)
+word_at-short : (bytes : List ℕ) (address : ℕ) → IsBytes bytes → Is32Bit (word_at bytes address)
 word_at-short bytes address each =
     from_be_bytes-short (take 4 (drop address bytes)) (IsBytes-AllBytes _ (All-take (λ byte. byte < 256) 4 (drop address bytes) (All-drop (λ byte. byte < 256) address bytes (AllBytes-IsBytes bytes each))))
 
 -- ---- loads
 
-left_merged-short : (old place word : ℕ) → place < 4 → IsShort old → IsShort word
-    → IsShort (left_merged old place word)
+left_merged-short : (old place word : ℕ) → place < 4 → Is32Bit old → Is32Bit word
+    → Is32Bit (left_merged old place word)
 left_merged-short old zero word low short_old short = omega arith
 left_merged-short old (suc zero) word low short_old short = omega arith
 left_merged-short old (suc (suc zero)) word low short_old short = omega arith
 left_merged-short old (suc (suc (suc zero))) word low short_old short = omega arith
 left_merged-short old (suc (suc (suc (suc place)))) word low short_old short = absurd (omega arith)
 
-right_merged-short : (old place word : ℕ) → place < 4 → IsShort old → IsShort word
-    → IsShort (right_merged old place word)
+right_merged-short : (old place word : ℕ) → place < 4 → Is32Bit old → Is32Bit word
+    → Is32Bit (right_merged old place word)
 right_merged-short old zero word low short_old short = omega arith
 right_merged-short old (suc zero) word low short_old short = omega arith
 right_merged-short old (suc (suc zero)) word low short_old short = omega arith
 right_merged-short old (suc (suc (suc zero))) word low short_old short = omega arith
 right_merged-short old (suc (suc (suc (suc place)))) word low short_old short = absurd (omega arith)
 
-byte_of-short : (word place : ℕ) → IsShort (byte_of word place)
+byte_of-short : (word place : ℕ) → Is32Bit (byte_of word place)
 byte_of-short word place = omega arith
 
-half_of-short : (word place : ℕ) → IsShort (half_of word place)
+half_of-short : (word place : ℕ) → Is32Bit (half_of word place)
 half_of-short word place = omega arith
 
-merge_of-short : (how : LoadKind) (old address word : ℕ) → IsShort old → IsShort word
-    → IsShort (merge_of how old address word)
+merge_of-short : (how : LoadKind) (old address word : ℕ) → Is32Bit old → Is32Bit word
+    → Is32Bit (merge_of how old address word)
 unfolding merge_of
 merge_of-short kind.Byte old address word short_old short = reduced-short _
 merge_of-short kind.ByteU old address word short_old short = byte_of-short word (address % 4)
@@ -110,8 +110,8 @@ merge_of-short kind.Left old address word short_old short =
 merge_of-short kind.Right old address word short_old short =
     right_merged-short old (address % 4) word (omega arith) short_old short
 
-loaded-short : (bytes : List ℕ) (how : LoadKind) (old address : ℕ) → IsBytes bytes → IsShort old
-    → IsShort (loaded bytes how old address)
+loaded-short : (bytes : List ℕ) (how : LoadKind) (old address : ℕ) → IsBytes bytes → Is32Bit old
+    → Is32Bit (loaded bytes how old address)
 loaded-short bytes how old address each short =
     merge_of-short how old address _ short (word_at-short bytes (address - address % 4) each)
 
@@ -122,12 +122,12 @@ KeepsWrites-of writes.Nothing cells short = tt
 KeepsWrites-of (writes.One reg value) cells short = (cells.0, cells.1, short)
 KeepsWrites-of (writes.Pair hi lo) cells short = short
 
-KeepsWrites-set : (reg value : ℕ) → reg < 32 → IsShort value → KeepsWrites (set_register reg value)
+KeepsWrites-set : (reg value : ℕ) → reg < 32 → Is32Bit value → KeepsWrites (set_register reg value)
 KeepsWrites-set reg value known short =
     cond_both (reg == 0) _ _ KeepsWrites (λ _. tt) (λ some. let differs =
     eqb-false reg 0 some in (omega arith, omega arith, short))
 
-module _ (pc npc : ℕ) (bytes : List ℕ) (got : ℕ) (short_pc : IsShort pc) (short_npc : IsShort npc) (each : IsBytes bytes) (short_got : IsShort got) where
+module _ (pc npc : ℕ) (bytes : List ℕ) (got : ℕ) (short_pc : Is32Bit pc) (short_npc : Is32Bit npc) (each : IsBytes bytes) (short_got : Is32Bit got) where
   made-KeepsStep : (written : Writes) (wished : Wish) → KeepsWrites written → IsInRange wished
       → IsShortWish wished → KeepsStep (made pc npc written wished bytes got)
   made-KeepsStep written wish.Nothing keeps range short =
@@ -160,7 +160,7 @@ module _ (pc npc : ℕ) (bytes : List ℕ) (got : ℕ) (short_pc : IsShort pc) (
 
 -- an effect that is tried is short where what is seen is
 pub tried-IsShortEffect : (see : ℕ → Seen) (found : Result Ins OwnFault) (pc npc : ℕ) (effect : Effect)
-    → ((ins : Ins) → found ≡ Ok ins → Fits ins) → ((reg : ℕ) → IsShortSeen (see reg)) → IsShort npc
+    → ((ins : Ins) → found ≡ Ok ins → Fits ins) → ((reg : ℕ) → IsShortSeen (see reg)) → Is32Bit npc
     → tried see found pc npc ≡ Ok effect → IsShortEffect effect
 tried-IsShortEffect see (Err fault) pc npc effect fits short short_npc is = absurd (cc)
 tried-IsShortEffect see (Ok ins) pc npc effect fits short short_npc is =

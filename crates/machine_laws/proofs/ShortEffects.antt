@@ -24,20 +24,20 @@ use Rattle.mips_effect.specs.declared.wish.Wish.{Wish}
 use Rattle.mips_effect.specs.declared.wish.Wish.TheVariants as wish
 use Rattle.mips_effect.specs.Arithmetic.{bit_if, divided, divided_unsigned, halves, in_32}
 use Rattle.mips_effect.specs.Effects.{act, effect_of, goes_on, is_barred, is_open, is_reserved, judged, jumps, loads, number_of, seen_at, set, sets, sets_or_overflows, size_of, sources_of, stores, stores_left, stores_part, stores_right, way, wishes, writes_only}
-use Rattle.journal_round_trip.specs.KeepsRules.{IsShort}
+use Rattle.journal_round_trip.specs.KeepsRules.{Is32Bit}
 
 -- ---- what is said
 
 abbrev pub AreShortWrites : Writes → Type 0
 AreShortWrites writes.Nothing = Unit {0}
-AreShortWrites (writes.One reg value) = IsShort value
-AreShortWrites (writes.Pair hi lo) = IsShort hi × IsShort lo
+AreShortWrites (writes.One reg value) = Is32Bit value
+AreShortWrites (writes.Pair hi lo) = Is32Bit hi × Is32Bit lo
 
 abbrev pub IsShortWish : Wish → Type 0
 IsShortWish wish.Nothing = Unit {0}
-IsShortWish (wish.Load reg address how old) = IsShort old
+IsShortWish (wish.Load reg address how old) = Is32Bit old
 IsShortWish (wish.Store address count value) = value < 2 ^ (8 * count)
-IsShortWish (wish.Release reg value) = IsShort value
+IsShortWish (wish.Release reg value) = Is32Bit value
 IsShortWish (wish.Receive reg from) = Unit {0}
 IsShortWish wish.Exit = Unit {0}
 IsShortWish (wish.Call code) = Unit {0}
@@ -47,19 +47,19 @@ IsShortWish (wish.Ask reg what) = Unit {0}
 pub record IsShortEffect (e : Effect) : Type 0 where
   pub writes : AreShortWrites e.writes
   pub wish : IsShortWish e.wish
-  pub pc : IsShort e.pc
-  pub npc : IsShort e.npc
+  pub pc : Is32Bit e.pc
+  pub npc : Is32Bit e.npc
 
 abbrev pub IsShortSeen : Seen → Type 0
-IsShortSeen (Value v) = IsShort v
+IsShortSeen (Value v) = Is32Bit v
 IsShortSeen Foreign = Unit {0}
 
 -- ---- numbers
 
-mod-short : (n : ℕ) → IsShort (n % 2 ^ 32)
+mod-short : (n : ℕ) → Is32Bit (n % 2 ^ 32)
 mod-short n = omega arith
 
-pub reduced-short : (z : ℤ) → IsShort (reduced z)
+pub reduced-short : (z : ℤ) → Is32Bit (reduced z)
 reduced-short (pos n) = omega arith
 reduced-short (negsuc n) = omega arith
 
@@ -67,45 +67,45 @@ reduced_64-short : (z : ℤ) → reduced_64 z < 2 ^ 64
 reduced_64-short (pos n) = omega arith
 reduced_64-short (negsuc n) = omega arith
 
-div-short : (n k : ℕ) → IsShort n → IsShort (n / k)
+div-short : (n k : ℕ) → Is32Bit n → Is32Bit (n / k)
 div-short n k short = let low : n / k ≤ n = div-le_self n k in omega arith
 
-shifted-short : (n by : ℕ) → IsShort n → IsShort (n / 2 ^ by)
+shifted-short : (n by : ℕ) → Is32Bit n → Is32Bit (n / 2 ^ by)
 shifted-short n by short = div-short n (2 ^ by) short
 
-and-short : (a b : ℕ) → IsShort a → IsShort (bit_and a b)
+and-short : (a b : ℕ) → Is32Bit a → Is32Bit (bit_and a b)
 and-short a b short = let low : bit_and a b ≤ a = and_le_l a b in omega arith
 
-not-short : (n : ℕ) → IsShort (bit_not w32 n)
+not-short : (n : ℕ) → Is32Bit (bit_not w32 n)
 not-short n = omega arith
 
-imm-short : (imm : ℕ) → imm < 2 ^ 16 → IsShort imm
+imm-short : (imm : ℕ) → imm < 2 ^ 16 → Is32Bit imm
 imm-short imm low = omega arith
 
-bit_if-short : (b : Bool) → IsShort (bit_if b)
+bit_if-short : (b : Bool) → Is32Bit (bit_if b)
 bit_if-short true = lit< tt
 bit_if-short false = lit< tt
 
-jump_target-short : (following index : ℕ) → IsShort following → index < 2 ^ 26
-    → IsShort (jump_target following index)
+jump_target-short : (following index : ℕ) → Is32Bit following → index < 2 ^ 26
+    → Is32Bit (jump_target following index)
 jump_target-short following index short low = omega arith
 
 halves-short : (n : ℕ) → n < 2 ^ 64 → AreShortWrites (halves n)
 halves-short n low = (omega arith, omega arith)
 
-divided-short : (s t : ℕ) → IsShort s → AreShortWrites (divided s t)
+divided-short : (s t : ℕ) → Is32Bit s → AreShortWrites (divided s t)
 divided-short s t short =
     cond_both (t == 0) _ _ AreShortWrites (λ _. (short, lit< tt)) (λ _. (reduced-short _, reduced-short _))
 
-divided_unsigned-short : (s t : ℕ) → IsShort s → AreShortWrites (divided_unsigned s t)
+divided_unsigned-short : (s t : ℕ) → Is32Bit s → AreShortWrites (divided_unsigned s t)
 divided_unsigned-short s t short =
     cond_both (t == 0) _ _ AreShortWrites (λ _. (short, lit< tt)) (λ _. (let low : s % t ≤ s = mod-le s t in omega arith, div-short s t short))
 
-pub set-short : (reg value : ℕ) → IsShort value → AreShortWrites (set reg value)
+pub set-short : (reg value : ℕ) → Is32Bit value → AreShortWrites (set reg value)
 set-short reg value short = cond_both (reg == 0) _ _ AreShortWrites (λ _. tt) (λ _. short)
 
 -- the high bytes of a word, from a place to its end
-left-low : (place value : ℕ) → place < 4 → IsShort value
+left-low : (place value : ℕ) → place < 4 → Is32Bit value
     → value / 2 ^ (8 * place) < 2 ^ (8 * (4 - place))
 left-low zero value low short = omega arith
 left-low (suc zero) value low short = omega arith
@@ -115,7 +115,7 @@ left-low (suc (suc (suc (suc place)))) value low short = absurd (omega arith)
 
 -- ---- the instructions, of values that are short
 
-module _ (s t d following : ℕ) (short_s : IsShort s) (short_t : IsShort t) (short_following : IsShort following) where
+module _ (s t d following : ℕ) (short_s : Is32Bit s) (short_t : Is32Bit t) (short_following : Is32Bit following) where
   goes_on-short : (written : Writes) (wished : Wish) → AreShortWrites written → IsShortWish wished
       → IfOk (goes_on written wished following) IsShortEffect
   goes_on-short written wished short_writes short_wish =
@@ -128,7 +128,7 @@ module _ (s t d following : ℕ) (short_s : IsShort s) (short_t : IsShort t) (sh
   wishes-short : (wished : Wish) → IsShortWish wished → IfOk (wishes wished following) IsShortEffect
   wishes-short wished short = goes_on-short writes.Nothing wished tt short
 
-  sets-short : (reg value : ℕ) → IsShort value → IfOk (sets reg value following) IsShortEffect
+  sets-short : (reg value : ℕ) → Is32Bit value → IfOk (sets reg value following) IsShortEffect
   sets-short reg value short =
       goes_on-short (set reg value) wish.Nothing (set-short reg value short) tt
 
@@ -136,16 +136,16 @@ module _ (s t d following : ℕ) (short_s : IsShort s) (short_t : IsShort t) (sh
   in_32-short reg z =
       cond_both _ (Some (reduced z)) None (λ o. IfOk (sets_or_overflows reg o following) IsShortEffect) (λ _. sets-short reg _ (reduced-short z)) (λ _. tt)
 
-  jumps-short : (written : Writes) (to : ℕ) → AreShortWrites written → IsShort to
+  jumps-short : (written : Writes) (to : ℕ) → AreShortWrites written → Is32Bit to
       → IfOk (jumps written to following) IsShortEffect
   jumps-short written to short short_to =
       record { writes = short; wish = tt; pc = short_following; npc = short_to }
 
-  way-short : (taken : Bool) (imm : ℕ) → IsShort (way taken imm following)
+  way-short : (taken : Bool) (imm : ℕ) → Is32Bit (way taken imm following)
   way-short true imm = reduced-short _
   way-short false imm = mod-short _
 
-  loads-short : (how : LoadKind) (reg address old : ℕ) → IsShort old
+  loads-short : (how : LoadKind) (reg address old : ℕ) → Is32Bit old
       → IfOk (loads Guest how reg address old following) IsShortEffect
   loads-short how reg address old short =
       cond_both (is_open Guest (size_of how) address) _ _ (λ r. IfOk r IsShortEffect) (λ _. wishes-short (wish.Load reg address how old) short) (λ _. tt)
@@ -160,7 +160,7 @@ module _ (s t d following : ℕ) (short_s : IsShort s) (short_t : IsShort t) (sh
   part-short address first count value short =
       cond_both (is_open Guest 1 address) _ _ (λ r. IfOk r IsShortEffect) (λ _. wishes-short (wish.Store first count value) short) (λ _. tt)
 
-  stores_left-short : (address value : ℕ) → IsShort value
+  stores_left-short : (address value : ℕ) → Is32Bit value
       → IfOk (stores_left Guest address value following) IsShortEffect
   stores_left-short address value short =
       part-short address address (4 - address % 4) _ (left-low (address % 4) value (omega arith) short)
@@ -258,7 +258,7 @@ module _ (s t d following : ℕ) (short_s : IsShort s) (short_t : IsShort t) (sh
   act-short (Xarg rd) fits = wishes-short (wish.Ask rd asked.Arg) tt
   act-short (Xwho rd) fits = wishes-short (wish.Ask rd asked.Who) tt
 
-number_of-short : (v : Seen) → IsShortSeen v → IsShort (number_of v)
+number_of-short : (v : Seen) → IsShortSeen v → Is32Bit (number_of v)
 number_of-short (Value v) short = short
 number_of-short Foreign short = lit< tt
 
@@ -266,7 +266,7 @@ seen_at-short : (cell : ℕ) (v : Seen) → IsShortSeen v → IsShortSeen (seen_
 seen_at-short cell v short = cond_both (cell == 0) _ _ IsShortSeen (λ _. lit< tt) (λ _. short)
 
 judged-short : (i : Ins) (a b c : Seen) (following : ℕ) → Fits i → IsShortSeen a → IsShortSeen b
-    → IsShort following → IfOk (judged i Guest a b c following) IsShortEffect
+    → Is32Bit following → IfOk (judged i Guest a b c following) IsShortEffect
 judged-short i a b c following fits short_a short_b short =
     cond_both (is_reserved Guest i) (Err fault.Reserved) _ (λ r. IfOk r IsShortEffect) (λ _. tt)
     (λ _. cond_both (is_barred Guest i a b c) (Err fault.Foreign) _ (λ r. IfOk r IsShortEffect) (λ _. tt)
@@ -274,14 +274,14 @@ judged-short i a b c following fits short_a short_b short =
 
 -- a guest's effect is short where what it sees is
 effect_of-short : (i : Ins) (a b c : Seen) (pc npc : ℕ) → Fits i → IsShortSeen a → IsShortSeen b
-    → IsShort npc → IfOk (effect_of i Guest a b c pc npc) IsShortEffect
+    → Is32Bit npc → IfOk (effect_of i Guest a b c pc npc) IsShortEffect
 unfolding effect_of
 effect_of-short i a b c pc npc fits short_a short_b short =
     judged-short i (seen_at (sources_of i).0 a) (seen_at (sources_of i).1 b) (seen_at (sources_of i).2 c) npc fits (seen_at-short _ a short_a) (seen_at-short _ b short_b) short
 
 -- the same of an effect that is told
 pub effect_of-IsShortEffect : (i : Ins) (a b c : Seen) (pc npc : ℕ) (e : Effect) → Fits i
-    → IsShortSeen a → IsShortSeen b → IsShort npc → effect_of i Guest a b c pc npc ≡ Ok e
+    → IsShortSeen a → IsShortSeen b → Is32Bit npc → effect_of i Guest a b c pc npc ≡ Ok e
     → IsShortEffect e
 effect_of-IsShortEffect i a b c pc npc e fits short_a short_b short is =
     let all = effect_of-short i a b c pc npc fits short_a short_b short in rw is at all

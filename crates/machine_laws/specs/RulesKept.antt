@@ -12,7 +12,7 @@ use Rattle.xom_base.specs.declared.key.ImageId.{ImageId}
 use Rattle.xom_base.specs.declared.key.Key256.{Key256}
 use Rattle.journal_text.specs.JournalTexts.{journal_text}
 use Rattle.journal_text.specs.Readings.{IsJournal}
-use Rattle.journal_round_trip.specs.KeepsRules.{IsShort, KeepsRules}
+use Rattle.journal_round_trip.specs.KeepsRules.{Is32Bit, KeepsRules}
 use Rattle.xom_model.specs.State.{CoreState, Record, power_on}
 use Rattle.xom_model.specs.Event.{on}
 use Rattle.xom_model.specs.Install.{given, installed}
@@ -20,15 +20,15 @@ use Rattle.machine_laws.specs.RulesOfRecord.{RulesHold}
 
 -- the numbers of an operation have 32 bits, and a byte for the console is one
 abbrev pub IsShortOp : Op → Type 0
-IsShortOp (Install slot envelope area) = IsShort slot × IsShort envelope × IsShort area
-IsShortOp (Enter slot) = IsShort slot
-IsShortOp (Resume slot signal) = IsShort slot × IsShort signal
-IsShortOp (Save slot reg address) = IsShort slot × IsShort reg × IsShort address
-IsShortOp (Restore slot reg address) = IsShort slot × IsShort reg × IsShort address
-IsShortOp (Map slot page frame) = IsShort slot × IsShort page × IsShort frame
-IsShortOp (Unmap slot page) = IsShort slot × IsShort page
-IsShortOp (SetReg reg value) = IsShort reg × IsShort value
-IsShortOp (Kill slot) = IsShort slot
+IsShortOp (Install slot envelope area) = Is32Bit slot × Is32Bit envelope × Is32Bit area
+IsShortOp (Enter slot) = Is32Bit slot
+IsShortOp (Resume slot signal) = Is32Bit slot × Is32Bit signal
+IsShortOp (Save slot reg address) = Is32Bit slot × Is32Bit reg × Is32Bit address
+IsShortOp (Restore slot reg address) = Is32Bit slot × Is32Bit reg × Is32Bit address
+IsShortOp (Map slot page frame) = Is32Bit slot × Is32Bit page × Is32Bit frame
+IsShortOp (Unmap slot page) = Is32Bit slot × Is32Bit page
+IsShortOp (SetReg reg value) = Is32Bit reg × Is32Bit value
+IsShortOp (Kill slot) = Is32Bit slot
 IsShortOp (Out byte) = byte < 256
 IsShortOp Halt = Unit {0}
 
@@ -37,8 +37,8 @@ abbrev pub IsShortEvent : Event → Type 0
 IsShortEvent (event.Do op) = IsShortOp op
 IsShortEvent (event.Guest interrupt) = Unit {0}
 IsShortEvent event.Null = Unit {0}
-IsShortEvent (event.Write address length) = IsShort address × IsShort length
-IsShortEvent (event.Poke address length) = IsShort address × IsShort length
+IsShortEvent (event.Write address length) = Is32Bit address × Is32Bit length
+IsShortEvent (event.Poke address length) = Is32Bit address × Is32Bit length
 
 -- an image and its id, as a program's types have them: 16 bytes of an id, an entry in private
 -- memory, and no more bytes than private memory has

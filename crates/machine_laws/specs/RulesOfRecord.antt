@@ -4,7 +4,7 @@ use Rattle.std.specs.Prelude.{◌≡◌, ℕ, true, List, [], ◌∷◌, All}
 use Rattle.hex.specs.Hex.{IsBytes}
 use Rattle.xom_base.specs.declared.entry.Entry.{Entry}
 use Rattle.journal_text.specs.JournalLines.{last_behind}
-use Rattle.journal_round_trip.specs.KeepsRules.{IsMade, IsShort, KeepsRules}
+use Rattle.journal_round_trip.specs.KeepsRules.{CameBefore, Is32Bit, KeepsRules}
 use Rattle.tag_regs.specs.declared.cell.Cell.{Cell}
 use Rattle.session_table.specs.declared.session.Session.{Session}
 use Rattle.session_table.specs.Sessions.{is_live}
@@ -22,14 +22,14 @@ last_install entries = last_install_behind 0 entries
 -- a session's addresses have 32 bits, and the install of a live slot was made, where the last one
 -- has this number
 pub record IsSoundSession (last : ℕ) (s : Session) : Type 0 where
-  pub entry : IsShort s.entry
-  pub pc : IsShort s.pc
-  pub npc : IsShort s.npc
-  pub install : is_live s.state ≡ true → IsMade last s.install
+  pub entry : Is32Bit s.entry
+  pub pc : Is32Bit s.pc
+  pub npc : Is32Bit s.npc
+  pub install : is_live s.state ≡ true → CameBefore last s.install
 
 -- a cell's value has 32 bits
 abbrev pub IsShortCell : Cell → Type 0
-IsShortCell cell = IsShort cell.value
+IsShortCell cell = Is32Bit cell.value
 
 -- the journal keeps the rules of its text, and the processor is ready for the next entry
 pub record RulesHold (core : CoreState) : Type 0 where
