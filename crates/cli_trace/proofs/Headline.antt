@@ -13,12 +13,12 @@ use Rattle.xom_owners.specs.declared.owner.Owner.{Owner}
 use Rattle.xom_owners.specs.Owners.{owner_of}
 use Rattle.trace_judge.specs.Laws.{IsRun}
 use Rattle.trace_judge.proofs.Lines.{All-of_gets, Follows-lines}
-use Rattle.xom_model.specs.State.{Record}
-use Rattle.xom_model.specs.Event.{running}
-use Rattle.xom_model.specs.Run.{is_flagged, one_event, run_from}
-use Rattle.xom_model.specs.Holds.{Holds, Installs, IsAlone, IsInstalled}
-use Rattle.xom_model.proofs.StartKept.{installed_holds}
-use Rattle.xom_model.proofs.Turns.{events_keep}
+use Rattle.lone_model.specs.State.{Record}
+use Rattle.lone_model.specs.Event.{running}
+use Rattle.lone_model.specs.Run.{is_flagged, one_event, run_from}
+use Rattle.lone_model.specs.Holds.{Holds, Installs, IsAlone, IsInstalled}
+use Rattle.lone_model.proofs.StartKept.{installed_holds}
+use Rattle.lone_model.proofs.Turns.{events_keep}
 use Rattle.script_kernel.specs.Turns.{ops_of, script_told}
 use Rattle.cli_trace.specs.declared.trace.Parts.{Parts}
 use Rattle.cli_trace.specs.Trace.{AllFollow, first_of, last_of, last_record, owner_in, report_of}

@@ -11,7 +11,7 @@ use Rattle.xom_base.specs.declared.lines.TextFault.{TextFault}
 use Rattle.xom_base.specs.declared.lines.TextFault.TheVariants as text_fault
 use Rattle.xom_base.specs.declared.schedule.Interrupts.{Interrupts}
 use Rattle.xom_base.specs.declared.schedule.Interrupts.TheVariants.{Never, Every, At}
-use Rattle.xom_model.specs.Run.{IsSchedule}
+use Rattle.lone_model.specs.Run.{IsSchedule}
 use Rattle.xom_script.specs.RunLines.{Ascends}
 use Rattle.xom_script.specs.RunRules.{KeepsInterrupts, KeepsRules}
 use Rattle.xom_script.specs.declared.run_file.RunFile.{RunFile}

@@ -5,7 +5,7 @@ use Rattle.std.specs.List.{list_any}
 use Rattle.mips_plain.specs.declared.verdict.Verdict.TheVariants.{Follows}
 use Rattle.trace_judge.specs.declared.report.GuestLine.{GuestLine}
 use Rattle.trace_judge.specs.declared.report.Report.{Report}
-use Rattle.xom_model.specs.State.{Record}
+use Rattle.lone_model.specs.State.{Record}
 use Rattle.cli_trace.specs.declared.trace.Parts.{Parts}
 use Rattle.cli_base.specs.Commands.{IsDone}
 use Rattle.cli_trace.specs.Run.{console_run}

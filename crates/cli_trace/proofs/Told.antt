@@ -3,9 +3,9 @@ use Rattle.std.proofs.Common.{◌≡◌, ℕ, zero, suc, ◌+◌, List, [], ◌�
 use Rattle.std.specs.Prelude.{IfSome, IsSome, unwrap_or}
 use Rattle.xom_base.specs.declared.event.Op.{Op}
 use Rattle.xom_base.specs.declared.schedule.Interrupts.{Interrupts}
-use Rattle.xom_model.specs.State.{Record}
-use Rattle.xom_model.specs.Event.{running}
-use Rattle.xom_model.specs.Run.{one_event, run_from}
+use Rattle.lone_model.specs.State.{Record}
+use Rattle.lone_model.specs.Event.{running}
+use Rattle.lone_model.specs.Run.{one_event, run_from}
 use Rattle.script_kernel.specs.Turns.{script_told}
 
 one_event-some : (line : Interrupts) (next : ℕ → Record → List Op → Option Record) → ((g : ℕ) (r : Record) (ops : List Op) → IsSome (next g r ops))

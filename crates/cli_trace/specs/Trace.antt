@@ -13,9 +13,9 @@ use Rattle.trace_judge.specs.declared.report.GuestLine.{GuestLine}
 use Rattle.trace_judge.specs.declared.report.Report.{Report}
 use Rattle.trace_judge.specs.Judgement.{judgement}
 use Rattle.trace_judge.specs.ReportText.{report_text}
-use Rattle.xom_model.specs.State.{Record, power_on}
-use Rattle.xom_model.specs.Install.{given}
-use Rattle.xom_model.specs.Run.{IsSchedule, run_from}
+use Rattle.lone_model.specs.State.{Record, power_on}
+use Rattle.lone_model.specs.Install.{given}
+use Rattle.lone_model.specs.Run.{IsSchedule, run_from}
 use Rattle.script_kernel.specs.Turns.{is_built, ops_of, script_told}
 use Rattle.journal_text.specs.JournalTexts.{journal_text}
 use Rattle.cli_base.specs.declared.answer.Answer.{Answer}

@@ -4,7 +4,7 @@ ghost use Rattle.cli_base.specs.Commands.{IsDone};
 ghost use Rattle.cli_base.specs.Readings.{Gives};
 ghost use Rattle.cli_trace.specs.Trace.{CanRun, answer_of, ending_text, events_line, is_doubted as is_doubted_by, is_stop as is_stop_by, is_suspect as is_suspect_by, journal_file as journal_file_of, last_of, last_record, parts_of, report_of, trace_of, trace_status, traced as traced_of};
 ghost use Rattle.script_kernel.specs.Turns.{is_built, ops_of};
-ghost use Rattle.xom_model.specs.Run.{IsSchedule};
+ghost use Rattle.lone_model.specs.Run.{IsSchedule};
 
 use crate::console::{console, end_line};
 use crate::lone_run::LoneRun;
@@ -18,7 +18,7 @@ use trace_judge::{GuestLine, Report, judge, print_report};
 use xom_base::{ByteList, Entry, NoMemory, PlainImage, RunEnd, Schedule};
 use xom_io::{Files, Name};
 use xom_journal::Journal;
-use xom_machine::{Machine, run};
+use lone_machine::{Machine, run};
 use xom_owners::{Owner, OwnerList};
 use xom_script::Script;
 

@@ -38,14 +38,14 @@ use Rattle.session_table.specs.declared.session.Session.{Session}
 use Rattle.session_table.specs.declared.session.SlotState.{SlotState}
 use Rattle.session_table.specs.declared.session.SlotState.TheVariants as state
 use Rattle.session_table.specs.Sessions.{entered, free, fresh, is_live, left, none_held, paused, resumed}
-use Rattle.xom_model.specs.State.{CoreState, Record, all_blank, core_at_start, memory_of, noted, session_of, stored_at, with_cells, with_session, with_stored}
-use Rattle.xom_model.specs.Guest.{after_step, cells_after, guest, moved, ran, received_by, retired, seen_by, tagged, trapped, untagged}
-use Rattle.xom_model.specs.Operation.{enter, go_on, is_cell, is_missing, is_slot, missing, missing_from, operation, resume, set_register, stopped}
-use Rattle.xom_model.specs.Event.{guest_turn, on, running}
-use Rattle.xom_model.specs.Holds.{IsLive}
-use Rattle.xom_model.specs.Install.{lines_of}
-use Rattle.xom_model.proofs.SameSight.{fetched-Fits, tried-Ranged}
-use Rattle.xom_model.proofs.Turns.{ran_on-core, running-runs}
+use Rattle.lone_model.specs.State.{CoreState, Record, all_blank, core_at_start, memory_of, noted, session_of, stored_at, with_cells, with_session, with_stored}
+use Rattle.lone_model.specs.Guest.{after_step, cells_after, guest, moved, ran, received_by, retired, seen_by, tagged, trapped, untagged}
+use Rattle.lone_model.specs.Operation.{enter, go_on, is_cell, is_missing, is_slot, missing, missing_from, operation, resume, set_register, stopped}
+use Rattle.lone_model.specs.Event.{guest_turn, on, running}
+use Rattle.lone_model.specs.Holds.{IsLive}
+use Rattle.lone_model.specs.Install.{lines_of}
+use Rattle.lone_model.proofs.SameSight.{fetched-Fits, tried-Ranged}
+use Rattle.lone_model.proofs.Turns.{ran_on-core, running-runs}
 use Rattle.machine_laws.specs.RulesKept.{EventsKeepRules, InstallsKeepRules, IsShortOp}
 use Rattle.machine_laws.specs.RulesOfRecord.{IsShortCell, IsSoundSession, RulesHold, last_install_behind}
 use Rattle.machine_laws.proofs.RuledSteps.{IsBytes-none, filled-IsBytes, replicate-IsBytes, step_made-KeepsStep, tried-IsShortEffect, written_at-IsBytes}

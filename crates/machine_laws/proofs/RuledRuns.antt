@@ -3,8 +3,8 @@ use Rattle.std.proofs.Common.{List, [], ◌∷◌, All, lit<}
 use Rattle.std.proofs.lemmas.List.Elements.{All-head, All-tail}
 use Rattle.xom_base.specs.declared.event.Event.{Event}
 use Rattle.journal_round_trip.proofs.TextLaws.{printed_is_read}
-use Rattle.xom_model.specs.State.{Record, core_at_start}
-use Rattle.xom_model.specs.Event.{on}
+use Rattle.lone_model.specs.State.{Record, core_at_start}
+use Rattle.lone_model.specs.Event.{on}
 use Rattle.machine_laws.specs.RulesKept.{IsShortEvent, JournalsAreReadAgain, JournalsKeepRules, record_after, recorded_entries, record_with_guest}
 use Rattle.machine_laws.specs.RulesOfRecord.{RulesHold}
 use Rattle.machine_laws.proofs.RuledEvents.{events_keep_rules, installs_keep_rules, start-holds}

@@ -13,9 +13,9 @@ use Rattle.xom_base.specs.declared.key.Key256.{Key256}
 use Rattle.journal_text.specs.JournalTexts.{journal_text}
 use Rattle.journal_text.specs.Readings.{IsJournal}
 use Rattle.journal_round_trip.specs.KeepsRules.{Is32Bit, KeepsRules}
-use Rattle.xom_model.specs.State.{CoreState, Record, power_on}
-use Rattle.xom_model.specs.Event.{on}
-use Rattle.xom_model.specs.Install.{given, installed}
+use Rattle.lone_model.specs.State.{CoreState, Record, power_on}
+use Rattle.lone_model.specs.Event.{on}
+use Rattle.lone_model.specs.Install.{given, installed}
 use Rattle.machine_laws.specs.RulesOfRecord.{RulesHold}
 
 -- the numbers of an operation have 32 bits, and a byte for the console is one

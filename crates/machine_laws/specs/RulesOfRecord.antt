@@ -8,7 +8,7 @@ use Rattle.journal_round_trip.specs.KeepsRules.{CameBefore, Is32Bit, KeepsRules}
 use Rattle.tag_regs.specs.declared.cell.Cell.{Cell}
 use Rattle.session_table.specs.declared.session.Session.{Session}
 use Rattle.session_table.specs.Sessions.{is_live}
-use Rattle.xom_model.specs.State.{CoreState}
+use Rattle.lone_model.specs.State.{CoreState}
 
 -- the number of the last install behind these entries, where it was this before them
 abbrev pub last_install_behind : ℕ → List Entry → ℕ

@@ -1,4 +1,4 @@
-ghost use Rattle.xom_model.specs.State.{core_at_start};
+ghost use Rattle.lone_model.specs.State.{core_at_start};
 ghost use Rattle.machine_laws.specs.RulesOfRecord.{RulesHold};
 ghost use Rattle.machine_laws.specs.RulesKept.{EventsKeepRules, InstallsKeepRules, JournalsAreReadAgain, JournalsKeepRules};
 

@@ -5,7 +5,7 @@ use Rattle.xom_base.specs.declared.event.Op.{Op}
 use Rattle.xom_base.specs.declared.event.Op.TheVariants as op
 use Rattle.xom_base.specs.declared.event.Turn.{Turn}
 use Rattle.xom_base.specs.declared.event.Turn.TheVariants.{Do}
-use Rattle.xom_model.specs.Seen.{Seen}
+use Rattle.lone_model.specs.Seen.{Seen}
 use Rattle.xom_script.specs.declared.script.Script.{Script}
 use Rattle.xom_script.specs.declared.script_line.ScriptLine.{ScriptLine}
 use Rattle.xom_script.specs.declared.script_line.ScriptLine.TheVariants as line

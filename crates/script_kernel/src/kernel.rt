@@ -4,7 +4,7 @@ ghost use Rattle.xom_script.specs.declared.script_line.ScriptLine.TheVariants as
 
 use std::marker::Model;
 use xom_base::{Op, Turn};
-use xom_machine::{Kernel, View};
+use lone_machine::{Kernel, View};
 use xom_script::{Script, ScriptLine};
 
 /// A kernel that gives the operations of a script, one a turn, and then Halt. Contracts see the

@@ -11,10 +11,10 @@ use xom_base::{
     Cause, Event, ImageId, Interrupts, Key256, NoMemory, NumberList, Op, Outcome, OwnFault,
     PokeList, Rule, RunEnd, Schedule, Stored, Turn,
 };
-use xom_guest::guest_event;
-use xom_machine::{Kernel, Machine, View, next_event, run};
-use xom_ops::operate;
-use xom_private::{Core, EVENT_ROOM, Memories};
+use lone_guest::guest_event;
+use lone_machine::{Kernel, Machine, View, next_event, run};
+use lone_ops::operate;
+use lone_private::{Core, EVENT_ROOM, Memories};
 
 const ID: ImageId = ImageId([7; 16]);
 

@@ -1,6 +1,6 @@
 use Rattle.cli_trace.proofs.Told.{run_from-some, told-whole}
 use Rattle.cli_trace.specs.Trace.{first_of, last_of}
-use Rattle.xom_model.specs.Run.{run_from}
+use Rattle.lone_model.specs.Run.{run_from}
 use Rattle.script_kernel.specs.Turns.{ops_of, script_told}
 use Rattle.cli_trace.proofs.trace.ran.Goals as goal
 
