@@ -5,9 +5,8 @@ use Rattle.xom_base.specs.declared.event.OwnFault.{OwnFault}
 use Rattle.xom_base.specs.declared.step.StepEnd.{StepEnd}
 use Rattle.xom_base.specs.declared.step.StepEnd.TheVariants as ended
 use Rattle.mips_effect.specs.declared.effects.Effect.{Effect}
-use Rattle.mips_plain.specs.Instruction.{fetched, tried, step_made}
-use Rattle.lone_model.specs.State.{CoreState, session_of, memory_of}
-use Rattle.lone_model.specs.Guest.{after_step, guest, ran, received_by, retired, seen_by}
+use Rattle.lone_model.specs.State.{CoreState}
+use Rattle.lone_model.specs.Guest.{after_step, guest, guest_step, guest_tried, ran, retired}
 
 -- what follows a step is no fault
 after_step-no_fault : (core : CoreState) (slot : ℕ) (interrupt : Bool) (end : StepEnd) (why : OwnFault) → (after_step core slot interrupt end).1 ≡ Some (cause.Fault why) → ⊥
@@ -20,7 +19,7 @@ ran-fault : (core : CoreState) (slot : ℕ) (interrupt : Bool) (result : Result 
     → ((ran core slot interrupt result).0.cells ≡ core.cells) × ((ran core slot interrupt result).0.memories ≡ core.memories)
 ran-fault core slot interrupt (Err fault) why is = (refl, refl)
 ran-fault core slot interrupt (Ok effect) why is =
-    let step = step_made (session_of core slot).pc (session_of core slot).npc effect (memory_of core slot) (received_by core.cells effect.wish) in
+    let step = guest_step core slot effect in
     absurd (after_step-no_fault (retired core slot effect step) slot interrupt step.end why is)
 
 -- where the guest left by a fault, cells and memories are as before
@@ -28,5 +27,4 @@ pub guest-fault : (core : CoreState) (slot : ℕ) (interrupt : Bool) (why : OwnF
     → ((guest core slot interrupt).0.cells ≡ core.cells) × ((guest core slot interrupt).0.memories ≡ core.memories)
 unfolding guest
 guest-fault core slot interrupt why is =
-    ran-fault core slot interrupt
-    (tried (seen_by slot core.cells) (fetched (memory_of core slot) (session_of core slot).pc) (session_of core slot).pc (session_of core slot).npc) why is
+    ran-fault core slot interrupt (guest_tried core slot) why is

@@ -1,22 +1,23 @@
-ghost use Rattle.std.specs.Prelude.{◌≡◌, ◌≤◌, ◌<◌, ◌+◌, ◌^◌, List, ℕ, IfOk};
+ghost use Rattle.std.specs.Prelude.{◌≡◌, ◌≤◌, ◌<◌, ◌+◌, ◌^◌, List, ℕ, Ok, IfOk};
 ghost use Rattle.xom_base.specs.declared.event.OwnFault.{OwnFault};
 ghost use Rattle.xom_owners.specs.declared.owner.Owner.{Owner};
+ghost use Rattle.mips_instruction.specs.Words.{Fits};
 ghost use Rattle.mips_effect.specs.Effects.{Ranged};
 ghost use Rattle.mips_plain.specs.Inside.{IsInside};
-ghost use Rattle.mips_plain.specs.Instruction.{fetched, tried};
-ghost use Rattle.lone_model.specs.Guest.{after_step as after_step_of, finished, guest, moved as moved_of, ran, retired, seen_by, trapped};
+ghost use Rattle.lone_model.specs.Guest.{after_step as after_step_of, asks_outside as asks_outside_of, finished, guest, guest_tried, moved as moved_of, ran, retired, trapped, without_ram as without_ram_of};
 ghost use Rattle.lone_model.specs.Holds.{Holds, IsRunning};
-ghost use Rattle.lone_model.specs.State.{memory_of, session_of};
+ghost use Rattle.lone_model.specs.State.{session_of};
 ghost use Rattle.lone_private.specs.Cores.{core_of};
 
 use crate::cells;
 use crate::masks::mask_after;
+use lone_private::{Core, EVENT_ROOM};
 use mips_effect::effects::Effect;
 use mips_effect::{Mode, effect, sources};
-use mips_plain::{fetch, step_made};
+use mips_instruction::Ins;
+use mips_plain::{fetch, returned, step_made, word_for};
 use session_table::{Session, SlotState};
 use xom_base::{Cause, Entry, OwnFault, Step, StepEnd};
-use lone_private::{Core, EVENT_ROOM};
 
 /// Makes one event of the guest that runs in a slot, 1 to 16, with the interrupt line after it, and
 /// answers the cause where the guest left. Takes no memory, and of the journal's room at most that
@@ -55,13 +56,13 @@ fn make_event(core: &mut Core, slot: u8, interrupt: bool) -> Option<Cause>
 /// What the instruction at the guest's pair comes to, over what the guest sees of the cells.
 fn attempt(core: &Core, slot: u8) -> Result<Effect, OwnFault>
     requires { slot ≤ 16 }
-    ensures value { result ≡ tried (seen_by slot core.now.cells) (fetched (memory_of (core_of core.now) slot) (session_of (core_of core.now) slot).pc) (session_of (core_of core.now) slot).pc (session_of (core_of core.now) slot).npc }
+    ensures value { result ≡ guest_tried (core_of core.now) slot }
     ensures ranged { IfOk result Ranged }
 {
     let session = core.table.session(slot);
-    let ins = fetch(core.memories.at(slot), session.pc)?;
+    let ins = without_ram(fetch(core.memories.at(slot), session.pc)?)?;
     let (first, second, third) = sources(ins);
-    effect(
+    let effect = effect(
         ins,
         Mode::Guest,
         cells::seen_by(slot, &core.cells, first),
@@ -69,6 +70,30 @@ fn attempt(core: &Core, slot: u8) -> Result<Effect, OwnFault>
         cells::seen_by(slot, &core.cells, third),
         session.pc,
         session.npc,
+    )?;
+    returned(effect, None)
+}
+
+/// The instruction, where it is none of the four forms that ask for RAM or for a handler of
+/// signals: this machine has neither for a guest, to which those forms are Reserved.
+fn without_ram(ins: Ins) -> Result<Ins, OwnFault>
+    requires { Fits ins }
+    ensures value { result ≡ without_ram_of (Ok ins) }
+    ensures fits { IfOk result Fits }
+{
+    if asks_outside(ins) {
+        return Err(OwnFault::Reserved);
+    }
+    Ok(ins)
+}
+
+/// Whether the instruction is one of those four forms.
+fn asks_outside(ins: Ins) -> bool
+    ensures { result ≡ asks_outside_of ins }
+{
+    matches!(
+        ins,
+        Ins::Xlwn { .. } | Ins::Xswn { .. } | Ins::Xhand { .. } | Ins::Xsigret
     )
 }
 
@@ -88,13 +113,8 @@ fn run(core: &mut Core, slot: u8, interrupt: bool, tried: Result<Effect, OwnFaul
         Ok(effect) => {
             let session = *core.table.session(slot);
             let got = cells::received(&core.cells, effect.wish);
-            let step = step_made(
-                session.pc,
-                session.npc,
-                &effect,
-                core.memories.at(slot),
-                got,
-            );
+            let word = word_for(core.memories.at(slot), &effect);
+            let step = step_made(session.pc, session.npc, &effect, word, got);
             retire(core, slot, &effect, &step);
             after_step(core, slot, interrupt, step.end)
         }

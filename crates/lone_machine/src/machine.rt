@@ -11,13 +11,13 @@ ghost use Rattle.lone_model.specs.State.{power_on};
 pub mod view;
 
 use crate::machine::view::View;
+use lone_guest::guest_event;
+use lone_ops::operate;
+use lone_private::{Core, EVENT_ROOM};
 use std::alloc::Global;
 use std::marker::Model;
 use xom_base::{Cause, Event, ImageId, Key256, NoMemory, Op, Outcome, PlainImage};
-use lone_guest::guest_event;
 use xom_journal::Journal;
-use lone_ops::operate;
-use lone_private::{Core, EVENT_ROOM};
 
 /// The processor with all that it keeps, and the count of its events.
 #[derive(Drop)]

@@ -6,8 +6,8 @@ ghost use Rattle.lone_model.specs.Holds.{Holds};
 ghost use Rattle.lone_model.specs.Run.{IsSchedule, run_from};
 
 use crate::{Kernel, Machine, next_event};
-use xom_base::{Event, NoMemory, RunEnd, Schedule};
 use lone_private::EVENT_ROOM;
+use xom_base::{Event, NoMemory, RunEnd, Schedule};
 
 /// Runs a kernel over a machine from its first event on, up to the kernel's Halt or to so many
 /// events. Each event is made by `next_event`, `reserve_event` and `step`. Want of memory is

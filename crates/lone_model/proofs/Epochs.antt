@@ -13,13 +13,12 @@ use Rattle.xom_base.specs.declared.step.StepEnd.{StepEnd}
 use Rattle.xom_base.specs.declared.step.StepEnd.TheVariants as ended
 use Rattle.xom_base.specs.declared.step.Step.{Step}
 use Rattle.mips_effect.specs.declared.effects.Effect.{Effect}
-use Rattle.mips_plain.specs.Instruction.{step_made}
 use Rattle.session_table.specs.declared.session.Session.{Session}
 use Rattle.session_table.specs.declared.session.SlotState.{SlotState}
 use Rattle.session_table.specs.declared.session.SlotState.TheVariants as state
 use Rattle.session_table.specs.Sessions.{free, session_at, entered, paused, resumed}
-use Rattle.lone_model.specs.State.{CoreState, memory_of, session_of}
-use Rattle.lone_model.specs.Guest.{after_step, finished, guest, moved, ran, received_by, retired, trapped}
+use Rattle.lone_model.specs.State.{CoreState, session_of}
+use Rattle.lone_model.specs.Guest.{after_step, finished, guest, moved, ran, retired, trapped, guest_step}
 use Rattle.lone_model.specs.Operation.{enter, go_on, is_cell, is_slot, missing, operation, resume, resume_paused}
 use Rattle.lone_model.specs.Epochs.{AreBelow}
 
@@ -56,7 +55,7 @@ after_step_below core slot n false ended.Goes below = AreBelow-more core.session
 ran_below : (core : CoreState) (slot n : ℕ) (interrupt : Bool) (result : Result Effect OwnFault) → AreBelow core.sessions n → AreBelow (ran core slot interrupt result).0.sessions (n + 1)
 ran_below core slot n interrupt (Err fault) below = trapped_below core slot n below (cause.Fault fault)
 ran_below core slot n interrupt (Ok effect) below =
-    let step = step_made (session_of core slot).pc (session_of core slot).npc effect (memory_of core slot) (received_by core.cells effect.wish) in
+    let step = guest_step core slot effect in
     after_step_below (retired core slot effect step) slot n interrupt step.end (retired_below core slot n below effect step)
 
 -- an event of a guest

@@ -8,14 +8,16 @@ use Rattle.xom_base.specs.declared.step.StepEnd.{StepEnd}
 use Rattle.xom_base.specs.declared.step.StepEnd.TheVariants as ended
 use Rattle.mips_effect.specs.declared.effects.Effect.{Effect}
 use Rattle.mips_plain.specs.declared.given.Given.TheVariants as given
+use Rattle.mips_plain.specs.Instruction.{fetched}
 use Rattle.mips_plain.specs.Machine.{answered}
 use Rattle.session_table.specs.declared.session.SlotState.{SlotState}
 use Rattle.session_table.specs.declared.session.SlotState.TheVariants as state
-use Rattle.lone_model.specs.State.{CoreState, session_of}
-use Rattle.lone_model.specs.Guest.{after_step, guest, ran}
+use Rattle.lone_model.specs.State.{CoreState, memory_of, session_of}
+use Rattle.lone_model.specs.Guest.{after_step, guest, ran, seen_by}
 use Rattle.lone_model.specs.Operation.{enter, go_on, is_cell, is_slot, missing, operation, resume}
 use Rattle.lone_model.specs.Laws.{ChangesNothing, FaultsAreOwn, FaultsChangeNothing, RefusalsChangeNothing}
 use Rattle.lone_model.proofs.Retired.{plain-answered}
+use Rattle.lone_model.proofs.SameSight.{without_ram-Err}
 use Rattle.lone_model.proofs.Steps.{comes, comes_same, held}
 
 -- no step is followed by an own fault
@@ -34,13 +36,17 @@ pub faults_are_own : FaultsAreOwn
 unfolding guest
 faults_are_own owners core slot interrupt fault some known runs holds is =
     let h = held owners core slot some known runs holds in
-    let found = ran-fault core slot interrupt (comes owners core slot some known runs holds) fault is in (
-      h.0,
-      h.1,
-      h.2,
-      plain-answered h.1 given.Nothing h.3.over
-          ∙ ap (answered h.1 given.Nothing) (comes_same owners core slot some known runs holds ∙ found),
-    )
+    let found = ran-fault core slot interrupt (comes owners core slot some known runs holds) fault is in
+    elim (without_ram-Err (seen_by slot core.cells) (fetched (memory_of core slot) (session_of core slot).pc) (session_of core slot).pc (session_of core slot).npc fault found) [
+      | inl whole ↦ inl (
+        h.0,
+        h.1,
+        h.2,
+        plain-answered h.1 given.Nothing h.3.over
+            ∙ ap (answered h.1 given.Nothing) (comes_same owners core slot some known runs holds ∙ whole),
+      )
+      | inr asks ↦ inr asks
+    ]
 
 changes_nothing : (core : CoreState) (slot : ℕ) (interrupt : Bool) (result : Result Effect OwnFault) (fault : OwnFault) → result ≡ Err fault → ChangesNothing core (ran core slot interrupt result).0 slot fault
 changes_nothing core slot interrupt result fault is =

@@ -63,6 +63,7 @@ Agrees-same core new slot owner p session memory cell steps agrees = record {
   pc = λ entered. ap (λ s. s.pc) session ∙ agrees.pc (subst (λ s. was_entered s.state ≡ true) session entered);
   npc = λ entered. ap (λ s. s.npc) session ∙ agrees.npc (subst (λ s. was_entered s.state ≡ true) session entered);
   over = agrees.over;
+  kept = agrees.kept;
   mask = λ reg some known. ap (λ s. bit_at s.mask reg) session ∙ agrees.mask reg some known;
   cells = λ reg some known tag.
       let same = cell reg some known tag in

@@ -125,6 +125,7 @@ module _ (owners : List Owner) (core : CoreState) (slot : ℕ) (some : 1 ≤ slo
         pc = λ _. ap (λ t. t.pc) (here (entered s)) ∙ held.3.entry ∙ sym (ap (λ p. p.pc) began);
         npc = λ _. ap (λ t. t.npc) (here (entered s)) ∙ ap (λ n. (n + 4) % 2 ^ 32) held.3.entry ∙ omega (arith, sym (ap (λ p. p.npc) began));
         over = held.3.over;
+        kept = held.3.kept;
         mask = λ reg from to. ap (λ t. bit_at t.mask reg) (here (entered s)) ∙ held.3.mask reg from to;
         cells = held.3.cells;
         places = held.3.places;
@@ -144,6 +145,7 @@ module _ (owners : List Owner) (core : CoreState) (slot : ℕ) (some : 1 ≤ slo
         pc = λ _. ap (λ t. t.pc) (here (resumed s)) ∙ held.3.pc (rw paused refl);
         npc = λ _. ap (λ t. t.npc) (here (resumed s)) ∙ held.3.npc (rw paused refl);
         over = held.3.over;
+        kept = held.3.kept;
         mask = λ reg from to. ap (λ t. bit_at t.mask reg) (here (resumed s)) ∙ held.3.mask reg from to;
         cells = held.3.cells;
         places = held.3.places;

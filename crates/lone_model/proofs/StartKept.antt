@@ -124,6 +124,7 @@ module _ (owners : List Owner) (owner : Owner) (whose : owner_of owners owner.id
     pc = λ entered. absurd (let its = ap (λ s. was_entered s.state) its_session in cc);
     npc = λ entered. absurd (let its = ap (λ s. was_entered s.state) its_session in cc);
     over = refl;
+    kept = refl;
     mask = λ reg from to. ap (λ s. bit_at s.mask reg) its_session ∙ bit_at-zero reg ∙ sym (ap own_bit (get_or-replicate 34 reg Lent Lent to));
     cells = λ reg from to tag. absurd (let its = ap (λ c. c.tag) (empty_at reg to) in let none : 0 ≡ 1 = sym its ∙ tag in omega arith);
     places = refl;

@@ -1,5 +1,5 @@
 -- The step of a running guest, beside its program: the same step, and the same state after it.
-use Rattle.std.proofs.Common.{◌≡◌, ◌≢◌, inl, inr, ℕ, ◌<◌, ◌≤◌, List, [], ◌∷◌, ◌++◌, Result, Ok, length, set, refl, sym, ◌∙◌, ap, subst, arith, false, length-set}
+use Rattle.std.proofs.Common.{◌≡◌, ◌≢◌, inl, inr, ℕ, ◌<◌, ◌≤◌, List, [], ◌∷◌, ◌++◌, None, Result, Ok, length, set, refl, sym, ◌∙◌, ap, subst, arith, false, length-set}
 use Rattle.std.proofs.lemmas.List.{get_or-set_same, get_or-set_other}
 use Rattle.std.specs.Int.{bit_at}
 use Rattle.xom_base.specs.Entries.{steps_of}
@@ -15,7 +15,7 @@ use Rattle.mips_effect.specs.declared.effects.Effect.{Effect}
 use Rattle.mips_effect.specs.Effects.{Ranged}
 use Rattle.mips_plain.specs.declared.given.PlainStep.TheVariants.{Did}
 use Rattle.mips_plain.specs.Memory.{stored_in}
-use Rattle.mips_plain.specs.Instruction.{fetched, tried, step_made}
+use Rattle.mips_plain.specs.Instruction.{fetched, tried, step_made, word_for}
 use Rattle.mips_plain.specs.Machine.{State, start, plain, owned, stepped, seen, is_exit}
 use Rattle.mips_plain.specs.Follows.{given_of, Reaches}
 use Rattle.mips_plain.proofs.Runs.{Reaches-more}
@@ -24,13 +24,13 @@ use Rattle.session_table.specs.declared.session.Session.{Session}
 use Rattle.session_table.specs.declared.session.SlotState.TheVariants as state
 use Rattle.session_table.specs.Sessions.{free, is_live, left}
 use Rattle.lone_model.specs.State.{CoreState, session_of, memory_of}
-use Rattle.lone_model.specs.Guest.{seen_by, received_by, cells_after, mask_after, mask_written, moved, retired, finished, tagged}
+use Rattle.lone_model.specs.Guest.{guest_step, guest_tried, seen_by, received_by, cells_after, mask_after, mask_written, moved, retired, finished, tagged}
 use Rattle.lone_model.specs.Holds.{Agrees, FollowsAlone, Holds, Installs, IsAlone, IsHeld, IsInstalled, IsLive, IsRunning}
 use Rattle.lone_model.proofs.Places.{steps_of-other, steps_of-step, step_in-other, IsInstalled-more}
 use Rattle.lone_model.proofs.Frame.{Owes, changed_holds}
-use Rattle.lone_model.proofs.SameSight.{fetched-Fits, tried-same, tried-Ranged, sight-same}
+use Rattle.lone_model.proofs.SameSight.{fetched-Fits, tried-same, tried-Ranged, sight-same, without_ram-Ok}
 use Rattle.lone_model.proofs.Tied.{Tied, Tied-written, Tied-released, foreign-written, foreign-released, length-written}
-use Rattle.lone_model.proofs.Retired.{step_made-AreCells, step_made-IsKnown, plain-does, memory-stored, memory-other, length-stored}
+use Rattle.lone_model.proofs.Retired.{step_made-AreCells, step_made-IsKnown, own_step, plain-does, kept_after-none, memory-stored, memory-other, length-stored}
 use Rattle.lone_model.proofs.Left.{scrubbed-tag, scrubbed-tagged, length-scrubbed, RunningHolds-one}
 
 -- an entry that installs nothing
@@ -67,41 +67,49 @@ module _ (owners : List Owner) (core : CoreState) (slot : ℕ) (some : 1 ≤ slo
 
   -- what the instruction comes to
   abbrev pub comes : Result Effect OwnFault
-  comes = tried (seen_by slot core.cells) (fetched (memory_of core slot) (session_of core slot).pc) (session_of core slot).pc (session_of core slot).npc
+  comes = guest_tried core slot
+
+  -- what it comes to where nothing is kept from the guest
+  abbrev pub comes_whole : Result Effect OwnFault
+  comes_whole = tried (seen_by slot core.cells) None (fetched (memory_of core slot) (session_of core slot).pc) (session_of core slot).pc (session_of core slot).npc
 
   fits : (ins : Ins) → fetched (memory_of core slot) (session_of core slot).pc ≡ Ok ins → Fits ins
   fits = fetched-Fits (memory_of core slot) (session_of core slot).pc
 
-  -- it comes to the same for the program alone
-  pub comes_same : tried (seen held.1.cells) (fetched held.1.bytes held.1.pc) held.1.pc held.1.npc ≡ comes
+  -- that is what it comes to for the program alone
+  pub comes_same : tried (seen held.1.cells) held.1.kept (fetched held.1.bytes held.1.pc) held.1.pc held.1.npc ≡ comes_whole
   comes_same =
-      ap (λ bytes. tried (seen held.1.cells) (fetched bytes held.1.pc) held.1.pc held.1.npc) (sym held.3.memory)
-      ∙ ap (λ pc. tried (seen held.1.cells) (fetched (memory_of core slot) pc) pc held.1.npc) (sym pc_same)
-      ∙ ap (λ npc. tried (seen held.1.cells) (fetched (memory_of core slot) (session_of core slot).pc) (session_of core slot).pc npc) (sym npc_same)
+      ap (λ kept. tried (seen held.1.cells) kept (fetched held.1.bytes held.1.pc) held.1.pc held.1.npc) held.3.kept
+      ∙ ap (λ bytes. tried (seen held.1.cells) None (fetched bytes held.1.pc) held.1.pc held.1.npc) (sym held.3.memory)
+      ∙ ap (λ pc. tried (seen held.1.cells) None (fetched (memory_of core slot) pc) pc held.1.npc) (sym pc_same)
+      ∙ ap (λ npc. tried (seen held.1.cells) None (fetched (memory_of core slot) (session_of core slot).pc) (session_of core slot).pc npc) (sym npc_same)
       ∙ tried-same (seen held.1.cells) (seen_by slot core.cells) (fetched (memory_of core slot) (session_of core slot).pc) (session_of core slot).pc (session_of core slot).npc fits
       (sight-same slot core.cells held.1.cells (session_of core slot).mask tied.bits tied.values tied.tags)
 
   -- The step that retires, and the state of the program after it.
   module _ (effect : Effect) (is : comes ≡ Ok effect) where
     abbrev pub step : Step
-    step = step_made (session_of core slot).pc (session_of core slot).npc effect (memory_of core slot) (received_by core.cells effect.wish)
+    step = guest_step core slot effect
 
     abbrev pub next : State
     next = stepped held.1 effect step
 
+    whole : comes_whole ≡ Ok effect
+    whole = without_ram-Ok (seen_by slot core.cells) (fetched (memory_of core slot) (session_of core slot).pc) (session_of core slot).pc (session_of core slot).npc effect is
+
     ranged : Ranged effect
-    ranged = tried-Ranged (seen_by slot core.cells) (fetched (memory_of core slot) (session_of core slot).pc) (session_of core slot).pc (session_of core slot).npc effect fits is
+    ranged = tried-Ranged (seen_by slot core.cells) (fetched (memory_of core slot) (session_of core slot).pc) (session_of core slot).pc (session_of core slot).npc effect fits whole
 
     -- the program's step is the same
-    step_same : step_made held.1.pc held.1.npc effect held.1.bytes (received_by core.cells effect.wish) ≡ step
+    step_same : own_step held.1 core.cells effect ≡ step
     step_same =
-        ap (λ bytes. step_made held.1.pc held.1.npc effect bytes (received_by core.cells effect.wish)) (sym held.3.memory)
-        ∙ ap (λ pc. step_made pc held.1.npc effect (memory_of core slot) (received_by core.cells effect.wish)) (sym pc_same)
-        ∙ ap (λ npc. step_made (session_of core slot).pc npc effect (memory_of core slot) (received_by core.cells effect.wish)) (sym npc_same)
+        ap (λ bytes. step_made held.1.pc held.1.npc effect (word_for bytes effect.wish) (received_by core.cells effect.wish)) (sym held.3.memory)
+        ∙ ap (λ pc. step_made pc held.1.npc effect (word_for (memory_of core slot) effect.wish) (received_by core.cells effect.wish)) (sym pc_same)
+        ∙ ap (λ npc. step_made (session_of core slot).pc npc effect (word_for (memory_of core slot) effect.wish) (received_by core.cells effect.wish)) (sym npc_same)
 
     -- given what the step received, the program does it
     does : plain held.1 (given_of step.received) ≡ (Did step, next)
-    does = subst (λ s. plain held.1 (given_of s.received) ≡ (Did s, stepped held.1 effect s)) step_same (plain-does held.1 core.cells effect held.3.over (comes_same ∙ is))
+    does = subst (λ s. plain held.1 (given_of s.received) ≡ (Did s, stepped held.1 effect s)) step_same (plain-does held.1 core.cells effect held.3.over (comes_same ∙ whole))
 
     -- the journal with the step
     abbrev pub longer : List Entry
@@ -158,6 +166,7 @@ module _ (owners : List Owner) (core : CoreState) (slot : ℕ) (some : 1 ≤ slo
       pc = λ _. ap (λ s. s.pc) session_after;
       npc = λ _. ap (λ s. s.npc) session_after;
       over = goes;
+      kept = kept_after-none held.1.kept effect.wish held.3.kept;
       mask = λ reg from to. ap (λ s. bit_at s.mask reg) session_after ∙ tied_next.bits reg from to;
       cells = tied_next.values;
       places = tied_next.own_places;

@@ -17,13 +17,12 @@ use Rattle.xom_base.specs.declared.step.StepEnd.{StepEnd}
 use Rattle.xom_base.specs.declared.step.StepEnd.TheVariants as ended
 use Rattle.xom_base.specs.declared.step.Step.{Step}
 use Rattle.mips_effect.specs.declared.effects.Effect.{Effect}
-use Rattle.mips_plain.specs.Instruction.{step_made}
 use Rattle.session_table.specs.declared.session.Session.{Session}
 use Rattle.session_table.specs.declared.session.SlotState.{SlotState}
 use Rattle.session_table.specs.declared.session.SlotState.TheVariants as state
 use Rattle.session_table.specs.Sessions.{entered, free, is_live, left, paused, resumed}
-use Rattle.lone_model.specs.State.{CoreState, Record, memory_of, session_of}
-use Rattle.lone_model.specs.Guest.{after_step, finished, guest, moved, ran, received_by, retired, trapped}
+use Rattle.lone_model.specs.State.{CoreState, Record, session_of}
+use Rattle.lone_model.specs.Guest.{after_step, finished, guest, moved, ran, retired, trapped, guest_step}
 use Rattle.lone_model.specs.Operation.{enter, go_on, is_cell, is_slot, missing, operation, resume, set_register, stopped}
 use Rattle.lone_model.specs.Event.{guest_turn, on, running}
 use Rattle.lone_model.specs.Holds.{IsLive}
@@ -161,7 +160,7 @@ after_step_stops core slot false ended.Goes some known live holds = holds
 ran_stops : (core : CoreState) (slot : ℕ) (interrupt : Bool) (result : Result Effect OwnFault) → 1 ≤ slot → slot ≤ 16 → IsLive core slot → StopsHold core → StopsHold (ran core slot interrupt result).0
 ran_stops core slot interrupt (Err fault) some known live holds = trapped_stops core slot some known live holds (cause.Fault fault)
 ran_stops core slot interrupt (Ok effect) some known live holds =
-    let step = step_made (session_of core slot).pc (session_of core slot).npc effect (memory_of core slot) (received_by core.cells effect.wish) in
+    let step = guest_step core slot effect in
     let still : IsLive (retired core slot effect step) slot = ap (λ s. is_live s.state) (here core slot some known live holds (moved (session_of core slot) effect step)) ∙ live in
     after_step_stops (retired core slot effect step) slot interrupt step.end some known still (retired_stops core slot some known live holds effect step)
 

@@ -49,6 +49,7 @@ module _ (owners : List Owner) (core : CoreState) (slot : ℕ) (known : slot ≤
     pc = λ _. ap (λ s. s.pc) session_out ∙ held.3.pc (rw runs refl);
     npc = λ _. ap (λ s. s.npc) session_out ∙ held.3.npc (rw runs refl);
     over = held.3.over;
+    kept = held.3.kept;
     mask = λ reg from to. ap (λ s. bit_at s.mask reg) session_out ∙ held.3.mask reg from to;
     cells = held.3.cells;
     places = held.3.places;

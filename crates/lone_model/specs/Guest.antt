@@ -1,9 +1,10 @@
 -- One event of the running guest: an instruction that retires, or a fault before it, and the trap or the end that may follow.
-use Rattle.std.specs.Prelude.{ℕ, ◌==◌, Bool, List, Option, Some, None, Result, Ok, Err, slice_set, if◌then◌else◌}
+use Rattle.std.specs.Prelude.{ℕ, ◌==◌, Bool, true, false, List, Option, Some, None, Result, Ok, Err, slice_set, if◌then◌else◌}
 use Rattle.xom_base.specs.declared.entry.Entry.TheVariants as entry
 use Rattle.xom_base.specs.declared.event.Cause.{Cause}
 use Rattle.xom_base.specs.declared.event.Cause.TheVariants as cause
 use Rattle.xom_base.specs.declared.event.OwnFault.{OwnFault}
+use Rattle.xom_base.specs.declared.event.OwnFault.TheVariants as own
 use Rattle.xom_base.specs.declared.step.Writes.{Writes}
 use Rattle.xom_base.specs.declared.step.Writes.TheVariants as writes
 use Rattle.xom_base.specs.declared.step.Released.{Released}
@@ -11,12 +12,14 @@ use Rattle.xom_base.specs.declared.step.Released.TheVariants as released
 use Rattle.xom_base.specs.declared.step.StepEnd.{StepEnd}
 use Rattle.xom_base.specs.declared.step.StepEnd.TheVariants as ended
 use Rattle.xom_base.specs.declared.step.Step.{Step}
+use Rattle.mips_instruction.specs.declared.instruction.Ins.{Ins}
+use Rattle.mips_instruction.specs.declared.instruction.Ins.TheVariants.{Xlwn, Xswn, Xhand, Xsigret}
 use Rattle.mips_effect.specs.declared.effects.Effect.{Effect}
 use Rattle.mips_effect.specs.declared.seen.Seen.{Seen}
 use Rattle.mips_effect.specs.declared.seen.Seen.TheVariants.{Value, Foreign}
 use Rattle.mips_effect.specs.declared.wish.Wish.{Wish}
 use Rattle.mips_effect.specs.declared.wish.Wish.TheVariants as wish
-use Rattle.mips_plain.specs.Instruction.{fetched, tried, step_made}
+use Rattle.mips_plain.specs.Instruction.{fetched, tried, step_made, word_for}
 use Rattle.tag_regs.specs.declared.cell.Cell.{Cell}
 use Rattle.tag_regs.specs.TaggedCells.{cell_at, scrubbed}
 use Rattle.session_table.specs.declared.session.Session.{Session}
@@ -24,6 +27,23 @@ use Rattle.session_table.specs.declared.session.SlotState.TheVariants as state
 use Rattle.session_table.specs.Masks.{with_cell, without_cell}
 use Rattle.session_table.specs.Sessions.{paused, left}
 use Rattle.lone_model.specs.State.{CoreState, session_of, memory_of, with_cells, with_session, with_stored, noted}
+
+-- ---- What this machine doesn't give its guests
+
+-- the forms that ask for RAM or for a handler of signals
+abbrev pub asks_outside : Ins → Bool
+asks_outside (Xlwn rt imm rs) = true
+asks_outside (Xswn rt imm rs) = true
+asks_outside (Xhand rs) = true
+asks_outside Xsigret = true
+asks_outside other = false
+
+-- this machine has neither for a guest, to which those forms are Reserved
+abbrev pub without_ram : Result Ins OwnFault → Result Ins OwnFault
+without_ram (Err fault) = Err fault
+without_ram (Ok ins) = if asks_outside ins then Err own.Reserved else Ok ins
+
+-- ---- What a guest sees and changes
 
 -- what a slot's guest sees in a cell: the value where the cell has the slot's tag; $0 is zero
 abbrev pub seen_as : ℕ → Cell → Seen
@@ -96,15 +116,23 @@ after_step core slot interrupt (ended.Call code) = trapped core slot (cause.Call
 after_step core slot interrupt ended.Exit = finished core slot
 after_step core slot interrupt ended.Goes = if interrupt then trapped core slot cause.Interrupt else (core, None)
 
+-- the step of an effect of a slot's guest
+abbrev pub guest_step : CoreState → ℕ → Effect → Step
+guest_step core slot effect =
+    step_made (session_of core slot).pc (session_of core slot).npc effect (word_for (memory_of core slot) effect.wish) (received_by core.cells effect.wish)
+
+-- what the guest's instruction comes to: no signal kept a pair, since none is delivered
+abbrev pub guest_tried : CoreState → ℕ → Result Effect OwnFault
+guest_tried core slot =
+    tried (seen_by slot core.cells) None (without_ram (fetched (memory_of core slot) (session_of core slot).pc)) (session_of core slot).pc (session_of core slot).npc
+
 -- an own fault traps before anything changes, and an effect retires
 abbrev pub ran : CoreState → ℕ → Bool → Result Effect OwnFault → CoreState × Option Cause
 ran core slot interrupt (Err fault) = trapped core slot (cause.Fault fault)
 ran core slot interrupt (Ok effect) =
-    let step = step_made (session_of core slot).pc (session_of core slot).npc effect (memory_of core slot) (received_by core.cells effect.wish) in
+    let step = guest_step core slot effect in
     after_step (retired core slot effect step) slot interrupt step.end
 
 -- an event of the guest in a slot, with the interrupt line after it; the cause where the guest leaves
 unfoldable pub guest : CoreState → ℕ → Bool → CoreState × Option Cause
-guest core slot interrupt =
-    ran core slot interrupt
-    (tried (seen_by slot core.cells) (fetched (memory_of core slot) (session_of core slot).pc) (session_of core slot).pc (session_of core slot).npc)
+guest core slot interrupt = ran core slot interrupt (guest_tried core slot)

@@ -1,5 +1,5 @@
 -- What the machine keeps at every moment between events, for every list of owners with distinct ids: each installed guest's recorded steps are its program's run alone, and what the processor holds of a live guest is the state of that run.
-use Rattle.std.specs.Prelude.{◌≡◌, ◌≢◌, ℕ, ◌<◌, ◌≤◌, Bool, true, false, List, [], ◌∷◌, ◌⊎◌, Some, length}
+use Rattle.std.specs.Prelude.{◌≡◌, ◌≢◌, ℕ, ◌<◌, ◌≤◌, Bool, true, false, List, [], ◌∷◌, ◌⊎◌, Some, None, length}
 use Rattle.std.specs.Int.{bit_at}
 use Rattle.xom_base.specs.Entries.{steps_of}
 use Rattle.xom_base.specs.declared.entry.Entry.{Entry}
@@ -49,6 +49,8 @@ pub record Agrees (core : CoreState) (slot : ℕ) (owner : Owner) (p : State) : 
   pub pc : was_entered (session_of core slot).state ≡ true → (session_of core slot).pc ≡ p.pc
   pub npc : was_entered (session_of core slot).state ≡ true → (session_of core slot).npc ≡ p.npc
   pub over : p.over ≡ false
+  -- no signal is delivered on this machine
+  pub kept : p.kept ≡ None
   -- registers: the mask is what the program owns, and a cell with the slot's tag has the program's value
   pub mask : (reg : ℕ) → 1 ≤ reg → reg < 34 → bit_at (session_of core slot).mask reg ≡ own_bit (plain_cell p.cells reg)
   pub cells : (reg : ℕ) → 1 ≤ reg → reg < 34 → (cell_at core.cells reg).tag ≡ slot → plain_cell p.cells reg ≡ Own (cell_at core.cells reg).value

@@ -1,19 +1,22 @@
 -- What may be said of the machine's events in its own words.
-use Rattle.std.specs.Prelude.{◌≡◌, ◌⊎◌, ℕ, ◌≤◌, Bool, true, false, List, [], ◌∷◌, ◌++◌, Some, length}
+use Rattle.std.specs.Prelude.{◌≡◌, ◌⊎◌, ℕ, ◌≤◌, Bool, true, false, List, [], ◌∷◌, ◌++◌, Some, Ok, length}
 use Rattle.xom_base.specs.declared.entry.Entry.{Entry}
 use Rattle.xom_base.specs.declared.entry.Entry.TheVariants as entry
 use Rattle.xom_base.specs.declared.event.Cause.TheVariants as cause
 use Rattle.xom_base.specs.declared.event.Event.{Event}
 use Rattle.xom_base.specs.declared.event.Op.{Op}
 use Rattle.xom_base.specs.declared.event.OwnFault.{OwnFault}
+use Rattle.xom_base.specs.declared.event.OwnFault.TheVariants as own
 use Rattle.xom_owners.specs.declared.owner.Owner.{Owner}
 use Rattle.xom_owners.specs.Owners.{owner_of}
+use Rattle.mips_instruction.specs.declared.instruction.Ins.{Ins}
+use Rattle.mips_plain.specs.Instruction.{fetched}
 use Rattle.mips_plain.specs.Machine.{State, plain}
 use Rattle.mips_plain.specs.declared.given.Given.TheVariants as given
 use Rattle.mips_plain.specs.declared.given.PlainStep.TheVariants as plain_step
 use Rattle.session_table.specs.Sessions.{is_live}
-use Rattle.lone_model.specs.State.{CoreState, Record, core_at_start, session_of}
-use Rattle.lone_model.specs.Guest.{guest}
+use Rattle.lone_model.specs.State.{CoreState, Record, core_at_start, memory_of, session_of}
+use Rattle.lone_model.specs.Guest.{asks_outside, guest}
 use Rattle.lone_model.specs.Operation.{operation}
 use Rattle.lone_model.specs.Event.{fits, on}
 use Rattle.lone_model.specs.Install.{installed}
@@ -38,11 +41,17 @@ FaultsAlone owners core slot fault =
     × FollowsAlone owners core.entries (session_of core slot).install (session_of core slot).id owner p
     × (plain p given.Nothing ≡ (plain_step.Fault fault, p))
 
--- a guest leaves with an own fault only where its program gives that fault
+-- the guest's instruction is one of the four that ask for RAM or for a handler, which this machine doesn't give
+abbrev pub AsksOutside : CoreState → ℕ → OwnFault → Type 0
+AsksOutside core slot fault =
+    (fault ≡ own.Reserved)
+    × ((ins : Ins) × (fetched (memory_of core slot) (session_of core slot).pc ≡ Ok ins) × (asks_outside ins ≡ true))
+
+-- a guest leaves with an own fault only where its program gives that fault, but for those four forms
 abbrev pub FaultsAreOwn : Type 0
 FaultsAreOwn = (owners : List Owner) (core : CoreState) (slot : ℕ) (interrupt : Bool) (fault : OwnFault)
     → 1 ≤ slot → slot ≤ 16 → IsRunning core slot → Holds owners core
-    → (guest core slot interrupt).1 ≡ Some (cause.Fault fault) → FaultsAlone owners core slot fault
+    → (guest core slot interrupt).1 ≡ Some (cause.Fault fault) → FaultsAlone owners core slot fault ⊎ AsksOutside core slot fault
 
 -- a trap without retirement: no cell and no private byte changes, and no step is recorded
 pub record ChangesNothing (core new : CoreState) (slot : ℕ) (fault : OwnFault) : Type 0 where

@@ -10,7 +10,8 @@ pub fn guests_run_alone()
 {}
 
 /// A guest leaves with an own fault only where its program, run alone, gives that fault after the
-/// same steps; and such a trap changes no cell and no private byte.
+/// same steps, or where its instruction is one of the four that ask for RAM or for a handler of
+/// signals, which this machine doesn't have; and such a trap changes no cell and no private byte.
 pub fn faults_are_the_programs_own()
     ensures own { FaultsAreOwn }
     ensures quiet { FaultsChangeNothing }

@@ -7,9 +7,9 @@ ghost use Rattle.lone_ops.specs.Answers.{AddsStop};
 ghost use Rattle.lone_private.specs.Cores.{core_of};
 
 use crate::missing::missing;
+use lone_private::{Core, EVENT_ROOM};
 use session_table::SlotState;
 use xom_base::{Op, Rule};
-use lone_private::{Core, EVENT_ROOM};
 
 /// Carries an operation out, and answers its status: 0 where it was done, 1 to 7 where it was
 /// refused and nothing changed, 8 where it stopped the guest of its slot. Takes no memory, and of

@@ -28,7 +28,7 @@ use Rattle.xom_base.specs.declared.step.Writes.TheVariants as writes
 use Rattle.mips_effect.specs.declared.effects.Effect.{Effect}
 use Rattle.mips_effect.specs.declared.wish.Wish.{Wish}
 use Rattle.mips_effect.specs.declared.wish.Wish.TheVariants as wish
-use Rattle.mips_plain.specs.Instruction.{fetched, step_made, tried}
+use Rattle.mips_plain.specs.Instruction.{fetched, word_for}
 use Rattle.mips_plain.specs.Memory.{blank, low_bytes, private_size, written_at}
 use Rattle.journal_text.specs.JournalLines.{last_behind}
 use Rattle.journal_round_trip.specs.KeepsRules.{Is32Bit, KeepsCause, KeepsEntry, KeepsReleased, KeepsRule, KeepsRulesBehind, KeepsStep, KeepsWrites}
@@ -39,16 +39,16 @@ use Rattle.session_table.specs.declared.session.SlotState.{SlotState}
 use Rattle.session_table.specs.declared.session.SlotState.TheVariants as state
 use Rattle.session_table.specs.Sessions.{entered, free, fresh, is_live, left, none_held, paused, resumed}
 use Rattle.lone_model.specs.State.{CoreState, Record, all_blank, core_at_start, memory_of, noted, session_of, stored_at, with_cells, with_session, with_stored}
-use Rattle.lone_model.specs.Guest.{after_step, cells_after, guest, moved, ran, received_by, retired, seen_by, tagged, trapped, untagged}
+use Rattle.lone_model.specs.Guest.{guest_step, guest_tried, after_step, cells_after, guest, moved, ran, received_by, retired, seen_by, tagged, trapped, untagged}
 use Rattle.lone_model.specs.Operation.{enter, go_on, is_cell, is_missing, is_slot, missing, missing_from, operation, resume, set_register, stopped}
 use Rattle.lone_model.specs.Event.{guest_turn, on, running}
 use Rattle.lone_model.specs.Holds.{IsLive}
 use Rattle.lone_model.specs.Install.{lines_of}
-use Rattle.lone_model.proofs.SameSight.{fetched-Fits, tried-Ranged}
+use Rattle.lone_model.proofs.SameSight.{fetched-Fits, tried-Ranged, without_ram-Ok}
 use Rattle.lone_model.proofs.Turns.{ran_on-core, running-runs}
 use Rattle.machine_laws.specs.RulesKept.{EventsKeepRules, InstallsKeepRules, IsShortOp}
 use Rattle.machine_laws.specs.RulesOfRecord.{IsShortCell, IsSoundSession, RulesHold, last_install_behind}
-use Rattle.machine_laws.proofs.RuledSteps.{IsBytes-none, filled-IsBytes, replicate-IsBytes, step_made-KeepsStep, tried-IsShortEffect, written_at-IsBytes}
+use Rattle.machine_laws.proofs.RuledSteps.{IsBytes-none, filled-IsBytes, replicate-IsBytes, step_made-KeepsStep, tried-IsShortEffect, word_for-short, written_at-IsBytes}
 use Rattle.machine_laws.proofs.ShortEffects.{IsShortEffect, IsShortSeen}
 
 -- ---- one more entry
@@ -228,6 +228,10 @@ received_by-short : (core : CoreState) (wished : Wish) → RulesHold core
 received_by-short core wish.Nothing holds = lit< tt
 received_by-short core (wish.Load reg address how old) holds = lit< tt
 received_by-short core (wish.Store address count value) holds = lit< tt
+received_by-short core (wish.NullLoad reg address) holds = lit< tt
+received_by-short core (wish.NullStore address value) holds = lit< tt
+received_by-short core (wish.Hand address) holds = lit< tt
+received_by-short core wish.SigRet holds = lit< tt
 received_by-short core (wish.Release reg value) holds = lit< tt
 received_by-short core (wish.Receive reg from) holds =
     cond_both ((cell_at core.cells from).tag == 0) (cell_at core.cells from).value 0 Is32Bit (λ _. cell_at-short core holds from) (λ _. lit< tt)
@@ -246,17 +250,19 @@ module _ (core : CoreState) (slot : ℕ) (interrupt : Bool) (live : IsLive core 
   abbrev its : Session
   its = session_of core slot
 
-  ran-holds : (result : Result Effect OwnFault)
-      → tried (seen_by slot core.cells) (fetched (memory_of core slot) its.pc) its.pc its.npc ≡ result
+  ran-holds : (result : Result Effect OwnFault) → guest_tried core slot ≡ result
       → RulesHold (ran core slot interrupt result).0
   ran-holds (Err fault) is = trapped-holds core slot live holds (cause.Fault fault) tt
   ran-holds (Ok effect) is =
+      let found = fetched (memory_of core slot) its.pc in
+      let whole = without_ram-Ok (seen_by slot core.cells) found its.pc its.npc effect is in
       let fits = fetched-Fits (memory_of core slot) its.pc in
       let safe = session_of-IsSoundSession core holds slot in
-      let ranged = tried-Ranged (seen_by slot core.cells) (fetched (memory_of core slot) its.pc) its.pc its.npc effect fits is in
-      let short = tried-IsShortEffect (seen_by slot core.cells) (fetched (memory_of core slot) its.pc) its.pc its.npc effect fits (seen_by-short core slot holds) safe.npc is in
-      let step = step_made its.pc its.npc effect (memory_of core slot) (received_by core.cells effect.wish) in
-      let keeps = step_made-KeepsStep its.pc its.npc (memory_of core slot) (received_by core.cells effect.wish) safe.pc safe.npc (memory_of-IsBytes core holds slot) (received_by-short core effect.wish holds) effect ranged short in
+      let ranged = tried-Ranged (seen_by slot core.cells) found its.pc its.npc effect fits whole in
+      let short = tried-IsShortEffect (seen_by slot core.cells) found its.pc its.npc effect fits (seen_by-short core slot holds) safe.npc whole in
+      let step = guest_step core slot effect in
+      let word_short = word_for-short (memory_of core slot) effect.wish (memory_of-IsBytes core holds slot) in
+      let keeps = step_made-KeepsStep its.pc its.npc (word_for (memory_of core slot) effect.wish) (received_by core.cells effect.wish) safe.pc safe.npc word_short (received_by-short core effect.wish holds) effect ranged short in
       after_step-holds (retired core slot effect step) slot interrupt step keeps (retired-live core slot live holds effect step) (retired-holds core slot live holds effect step short keeps) step.end refl
 
   guest-holds : RulesHold (guest core slot interrupt).0

@@ -1,5 +1,5 @@
 -- The step of an effect keeps the rules where its values have 32 bits.
-use Rattle.std.proofs.Common.{◌≡◌, ℕ, zero, suc, ◌+◌, ◌-◌, ◌%◌, ◌^◌, ◌<◌, ◌≤◌, ◌==◌, List, [], ◌++◌, All, Result, Ok, Err, length, take, drop, replicate, lit<, arith, refl, sym, subst}
+use Rattle.std.proofs.Common.{◌≡◌, ℕ, zero, suc, ◌+◌, ◌-◌, ◌%◌, ◌^◌, ◌<◌, ◌≤◌, ◌==◌, List, [], ◌++◌, All, None, Result, Ok, Err, length, take, drop, replicate, lit<, arith, refl, sym, subst}
 use Rattle.std.proofs.Math.Decide.{dec_lt}
 use Rattle.std.proofs.lemmas.Bool.{cond_both, eqb-false}
 use Rattle.std.proofs.lemmas.List.{get_or_past}
@@ -20,10 +20,11 @@ use Rattle.mips_effect.specs.declared.wish.LoadKind.{LoadKind}
 use Rattle.mips_effect.specs.declared.wish.LoadKind.TheVariants as kind
 use Rattle.mips_effect.specs.declared.wish.Wish.{Wish}
 use Rattle.mips_effect.specs.declared.wish.Wish.TheVariants as wish
-use Rattle.mips_plain.specs.Instruction.{loaded, made, step_made, tried}
+use Rattle.mips_plain.specs.Instruction.{made, step_made, tried, word_for}
 use Rattle.mips_plain.specs.Memory.{low_bytes, word_at, written_at}
 use Rattle.journal_round_trip.specs.KeepsRules.{Is32Bit, KeepsStep, KeepsWrites}
 use Rattle.journal_round_trip.proofs.PieceLaws.{number-bytes}
+use Rattle.lone_model.proofs.SameSight.{returned-none}
 use Rattle.machine_laws.proofs.ShortEffects.{AreShortWrites, IsShortEffect, IsShortSeen, IsShortWish, effect_of-IsShortEffect, reduced-short}
 
 -- ---- bytes
@@ -110,10 +111,21 @@ merge_of-short kind.Left old address word short_old short =
 merge_of-short kind.Right old address word short_old short =
     right_merged-short old (address % 4) word (omega arith) short_old short
 
-loaded-short : (bytes : List ℕ) (how : LoadKind) (old address : ℕ) → IsBytes bytes → Is32Bit old
-    → Is32Bit (loaded bytes how old address)
-loaded-short bytes how old address each short =
-    merge_of-short how old address _ short (word_at-short bytes (address - address % 4) each)
+-- the word that an effect is made of
+pub word_for-short : (bytes : List ℕ) (wished : Wish) → IsBytes bytes → Is32Bit (word_for bytes wished)
+word_for-short bytes wish.Nothing each = lit< tt
+word_for-short bytes (wish.Load reg address how old) each = word_at-short bytes (address - address % 4) each
+word_for-short bytes (wish.Store address count value) each = lit< tt
+word_for-short bytes (wish.NullLoad reg address) each = lit< tt
+word_for-short bytes (wish.NullStore address value) each = lit< tt
+word_for-short bytes (wish.Hand address) each = lit< tt
+word_for-short bytes wish.SigRet each = lit< tt
+word_for-short bytes (wish.Release reg value) each = lit< tt
+word_for-short bytes (wish.Receive reg from) each = lit< tt
+word_for-short bytes wish.Exit each = lit< tt
+word_for-short bytes (wish.Call code) each = lit< tt
+word_for-short bytes (wish.Do operation) each = lit< tt
+word_for-short bytes (wish.Ask reg what) each = lit< tt
 
 -- ---- steps
 
@@ -127,18 +139,26 @@ KeepsWrites-set reg value known short =
     cond_both (reg == 0) _ _ KeepsWrites (λ _. tt) (λ some. let differs =
     eqb-false reg 0 some in (omega arith, omega arith, short))
 
-module _ (pc npc : ℕ) (bytes : List ℕ) (got : ℕ) (short_pc : Is32Bit pc) (short_npc : Is32Bit npc) (each : IsBytes bytes) (short_got : Is32Bit got) where
+module _ (pc npc word got : ℕ) (short_pc : Is32Bit pc) (short_npc : Is32Bit npc) (short_word : Is32Bit word) (short_got : Is32Bit got) where
   made-KeepsStep : (written : Writes) (wished : Wish) → KeepsWrites written → IsInRange wished
-      → IsShortWish wished → KeepsStep (made pc npc written wished bytes got)
+      → IsShortWish wished → KeepsStep (made pc npc written wished word got)
   made-KeepsStep written wish.Nothing keeps range short =
       (short_pc, short_npc, keeps, tt, tt, tt, tt)
   made-KeepsStep written (wish.Load reg address how old) keeps range short =
-      (short_pc, short_npc, KeepsWrites-set reg _ range.register (loaded-short bytes how old address each short), tt, tt, tt, tt)
+      (short_pc, short_npc, KeepsWrites-set reg _ range.register (merge_of-short how old address word short short_word), tt, tt, tt, tt)
   made-KeepsStep written (wish.Store address count value) keeps range short =
       let some : 1 ≤ count = range.some in
       let few : count ≤ 4 = range.few in
       let private : address + count ≤ 2 ^ 20 = range.private in
       (short_pc, short_npc, keeps, (omega arith, some, omega arith, short), tt, tt, tt)
+  made-KeepsStep written (wish.NullLoad reg address) keeps range short =
+      (short_pc, short_npc, KeepsWrites-set reg got range short_got, tt, (short, short_got), tt, tt)
+  made-KeepsStep written (wish.NullStore address value) keeps range short =
+      (short_pc, short_npc, keeps, tt, tt, short, tt)
+  made-KeepsStep written (wish.Hand address) keeps range short =
+      (short_pc, short_npc, keeps, tt, tt, tt, tt)
+  made-KeepsStep written wish.SigRet keeps range short =
+      (short_pc, short_npc, keeps, tt, tt, tt, tt)
   made-KeepsStep written (wish.Release reg value) keeps range short =
       (short_pc, short_npc, keeps, tt, tt, (range.0, let low : reg < 32 = range.1 in omega arith, short), tt)
   made-KeepsStep written (wish.Receive reg from) keeps range short =
@@ -153,7 +173,7 @@ module _ (pc npc : ℕ) (bytes : List ℕ) (got : ℕ) (short_pc : Is32Bit pc) (
 
   -- the step of an effect in range keeps the rules
   pub step_made-KeepsStep : (effect : Effect) → Ranged effect → IsShortEffect effect
-      → KeepsStep (step_made pc npc effect bytes got)
+      → KeepsStep (step_made pc npc effect word got)
   unfolding step_made
   step_made-KeepsStep effect ranged short =
       made-KeepsStep effect.writes effect.wish (KeepsWrites-of effect.writes ranged.writes short.writes) ranged.wish short.wish
@@ -161,7 +181,7 @@ module _ (pc npc : ℕ) (bytes : List ℕ) (got : ℕ) (short_pc : Is32Bit pc) (
 -- an effect that is tried is short where what is seen is
 pub tried-IsShortEffect : (see : ℕ → Seen) (found : Result Ins OwnFault) (pc npc : ℕ) (effect : Effect)
     → ((ins : Ins) → found ≡ Ok ins → Fits ins) → ((reg : ℕ) → IsShortSeen (see reg)) → Is32Bit npc
-    → tried see found pc npc ≡ Ok effect → IsShortEffect effect
+    → tried see None found pc npc ≡ Ok effect → IsShortEffect effect
 tried-IsShortEffect see (Err fault) pc npc effect fits short short_npc is = absurd (cc)
 tried-IsShortEffect see (Ok ins) pc npc effect fits short short_npc is =
-    effect_of-IsShortEffect ins (see (sources_of ins).0) (see (sources_of ins).1) (see (sources_of ins).2) pc npc effect (fits ins refl) (short _) (short _) short_npc is
+    effect_of-IsShortEffect ins (see (sources_of ins).0) (see (sources_of ins).1) (see (sources_of ins).2) pc npc effect (fits ins refl) (short _) (short _) short_npc (returned-none _ effect is)

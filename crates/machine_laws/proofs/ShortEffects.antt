@@ -23,7 +23,7 @@ use Rattle.mips_effect.specs.declared.wish.LoadKind.TheVariants as kind
 use Rattle.mips_effect.specs.declared.wish.Wish.{Wish}
 use Rattle.mips_effect.specs.declared.wish.Wish.TheVariants as wish
 use Rattle.mips_effect.specs.Arithmetic.{bit_if, divided, divided_unsigned, halves, in_32}
-use Rattle.mips_effect.specs.Effects.{act, effect_of, goes_on, is_barred, is_open, is_reserved, judged, jumps, loads, number_of, seen_at, set, sets, sets_or_overflows, size_of, sources_of, stores, stores_left, stores_part, stores_right, way, wishes, writes_only}
+use Rattle.mips_effect.specs.Effects.{act, at_word, effect_of, goes_on, is_barred, is_open, is_reserved, judged, jumps, loads, number_of, seen_at, set, sets, sets_or_overflows, size_of, sources_of, stores, stores_left, stores_part, stores_right, way, wishes, writes_only}
 use Rattle.journal_round_trip.specs.KeepsRules.{Is32Bit}
 
 -- ---- what is said
@@ -37,6 +37,10 @@ abbrev pub IsShortWish : Wish → Type 0
 IsShortWish wish.Nothing = Unit {0}
 IsShortWish (wish.Load reg address how old) = Is32Bit old
 IsShortWish (wish.Store address count value) = value < 2 ^ (8 * count)
+IsShortWish (wish.NullLoad reg address) = Is32Bit address
+IsShortWish (wish.NullStore address value) = Is32Bit address × Is32Bit value
+IsShortWish (wish.Hand address) = Unit {0}
+IsShortWish wish.SigRet = Unit {0}
 IsShortWish (wish.Release reg value) = Is32Bit value
 IsShortWish (wish.Receive reg from) = Unit {0}
 IsShortWish wish.Exit = Unit {0}
@@ -170,6 +174,11 @@ module _ (s t d following : ℕ) (short_s : Is32Bit s) (short_t : Is32Bit t) (sh
   stores_right-short address value =
       part-short address (address - address % 4) (address % 4 + 1) _ (mod_below value (2 ^ (8 * (address % 4 + 1))) (pow_pos (8 * (address % 4 + 1))))
 
+  at_word-short : (address : ℕ) (wished : Wish) → IsShortWish wished
+      → IfOk (at_word address wished following) IsShortEffect
+  at_word-short address wished short =
+      cond_both (address % 4 == 0) _ _ (λ r. IfOk r IsShortEffect) (λ _. wishes-short wished short) (λ _. tt)
+
   act-short : (i : Ins) → Fits i → IfOk (act i Guest s t d following) IsShortEffect
   unfolding act
   act-short (Sll rd rt sa) fits = sets-short rd _ (mod-short _)
@@ -236,13 +245,15 @@ module _ (s t d following : ℕ) (short_s : Is32Bit s) (short_t : Is32Bit t) (sh
   act-short (Swl rt imm rs) fits = stores_left-short (plus_signed s imm) t short_t
   act-short (Sw rt imm rs) fits = stores-short 4 (plus_signed s imm) t short_t
   act-short (Swr rt imm rs) fits = stores_right-short (plus_signed s imm) t
-  act-short (Xlwn rt imm rs) fits = tt
-  act-short (Xswn rt imm rs) fits = tt
+  act-short (Xlwn rt imm rs) fits =
+      at_word-short (plus_signed s imm) (wish.NullLoad rt (plus_signed s imm)) (reduced-short _)
+  act-short (Xswn rt imm rs) fits =
+      at_word-short (plus_signed s imm) (wish.NullStore (plus_signed s imm) t) (reduced-short _, short_t)
   act-short (Xmvtn rs) fits = wishes-short (wish.Release rs s) short_s
   act-short (Xmvfn rd rs) fits = wishes-short (wish.Receive rd rs) tt
   act-short Xexit fits = wishes-short wish.Exit tt
-  act-short (Xhand rs) fits = tt
-  act-short Xsigret fits = tt
+  act-short (Xhand rs) fits = wishes-short (wish.Hand s) tt
+  act-short Xsigret fits = wishes-short wish.SigRet tt
   act-short (Xinstall rs rt rd) fits = wishes-short (wish.Do (op.Install s t d)) tt
   act-short (Xenter rs) fits = wishes-short (wish.Do (op.Enter s)) tt
   act-short (Xresume rs rt) fits = wishes-short (wish.Do (op.Resume s t)) tt

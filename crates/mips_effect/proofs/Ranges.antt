@@ -1,19 +1,24 @@
--- The numbers of a guest's effect are in their ranges.
-use Rattle.std.proofs.Common.{◌≡◌, ℕ, ◌+◌, ◌-◌, ◌%◌, ◌^◌, ◌<◌, ◌≤◌, ◌==◌, nat_lt, true, false, Option, Some, None, Ok, Err, IfOk, lit<, lit≤, arith}
+-- The numbers of an effect are in their ranges, in both modes.
+use Rattle.std.proofs.Common.{◌≡◌, ◌≢◌, refl, sym, subst, ℕ, ◌+◌, ◌-◌, ◌*◌, ◌/◌, ◌%◌, ◌^◌, ◌<◌, ◌≤◌, ◌==◌, nat_lt, true, false, Option, Some, None, Result, Ok, Err, IfOk, if◌then◌else◌, lit<, lit≤, arith}
 use Rattle.std.proofs.lemmas.Bool.{cond_both, eqb-true, eqb-false, ltb-true, and_parts}
+use Rattle.std.proofs.lemmas.Nat.{shr_below, mod_below, pow_pos}
 use Rattle.mips_instruction.specs.declared.instruction.Ins.{Ins}
 use Rattle.mips_instruction.specs.declared.instruction.Ins.TheVariants.{Sll, Srl, Sra, Sllv, Srlv, Srav, Jr, Jalr, Syscall, Break, Mfhi, Mthi, Mflo, Mtlo, Mult, Multu, Div, Divu, Add, Addu, Sub, Subu, And, Or, Xor, Nor, Slt, Sltu, Bltz, Bgez, Bltzal, Bgezal, J, Jal, Beq, Bne, Blez, Bgtz, Addi, Addiu, Slti, Sltiu, Andi, Ori, Xori, Lui, Lb, Lh, Lwl, Lw, Lbu, Lhu, Lwr, Sb, Sh, Swl, Sw, Swr, Xlwn, Xswn, Xmvtn, Xmvfn, Xexit, Xhand, Xsigret, Xinstall, Xenter, Xresume, Xsave, Xrestore, Xmap, Xunmap, Xkill, Xout, Xhalt, Xstat, Xcause, Xarg, Xwho}
 use Rattle.mips_instruction.specs.Words.{Fits}
+use Rattle.xom_base.specs.declared.event.OwnFault.{OwnFault}
 use Rattle.xom_base.specs.declared.event.OwnFault.TheVariants as fault
+use Rattle.xom_base.specs.declared.step.Writes.{Writes}
 use Rattle.mips_effect.specs.declared.effects.Effect.{Effect}
-use Rattle.mips_effect.specs.declared.seen.Mode.TheVariants.{Guest}
+use Rattle.mips_effect.specs.declared.seen.Mode.{Mode}
+use Rattle.mips_effect.specs.declared.seen.Mode.TheVariants.{Guest, Null}
 use Rattle.mips_effect.specs.declared.seen.Seen.{Seen}
 use Rattle.mips_effect.specs.declared.wish.LoadKind.{LoadKind}
 use Rattle.mips_effect.specs.declared.wish.LoadKind.TheVariants as kind
+use Rattle.mips_effect.specs.declared.wish.Wish.{Wish}
 use Rattle.mips_effect.specs.declared.wish.Wish.TheVariants as wish
 use Rattle.mips_instruction.specs.Numbers.{plus_signed, after, extended}
 use Rattle.mips_effect.specs.Arithmetic.{sum, difference, divided, divided_unsigned}
-use Rattle.mips_effect.specs.Effects.{sources_of, AreCells, IsPrivateStore, set, sets, sets_or_overflows, writes_only, loads, stores, stores_part, stores_left, stores_right, is_open, size_of, act, judged, is_reserved, is_barred, effect_of, seen_at, number_of, private_bytes, Ranged}
+use Rattle.mips_effect.specs.Effects.{sources_of, AreCells, IsInRange, IsOpenWish, IsInOneWord, set, sets, sets_or_overflows, writes_only, wishes, loads, stores, stores_left, stores_right, is_open, size_of, at_word, act, judged, is_reserved, is_barred, effect_of, seen_at, number_of, private_bytes, Ranged, Opened}
 
 -- a register is a cell
 cell : (reg : ℕ) → reg < 32 → reg < 34
@@ -104,172 +109,302 @@ sources_of-below (Xwho rd) fits = (lit< tt, lit< tt, lit< tt)
 
 -- ---- The kinds of effect
 
+-- in its ranges, as the mode has them
+abbrev InMode : Mode → Effect → Type 0
+InMode Guest e = Ranged e
+InMode Null e = Opened e
+
+-- a wish that is in range in both modes
+abbrev InBoth : Wish → Type 0
+InBoth wished = IsInRange wished × IsOpenWish wished
+
+-- what a mode answers where rt has this value: an effect in its ranges, with its access in one word, or a fault; null code is never barred
+abbrev Sound : Mode → ℕ → Result Effect OwnFault → Type 0
+Sound mode t (Ok e) = InMode mode e × (t < 2 ^ 32 → IsInOneWord e.wish)
+Sound mode t (Err why) = mode ≡ Null → why ≢ fault.Foreign
+
+-- a fault of the instruction's own
+Overflow-sound : (mode : Mode) (t : ℕ) → Sound mode t (Err fault.Overflow)
+Overflow-sound mode t null same = cc
+
+Address-sound : (mode : Mode) (t : ℕ) → Sound mode t (Err fault.Address)
+Address-sound mode t null same = cc
+
+-- cells and a wish in their ranges, that asks for no access
+fine : (mode : Mode) (t : ℕ) (e : Effect) → AreCells e.writes → InBoth e.wish → IsInOneWord e.wish → Sound mode t (Ok e)
+fine Guest t e cells both word = (record { writes = cells; wish = both.0 }, λ _. word)
+fine Null t e cells both word = (record { writes = cells; wish = both.1 }, λ _. word)
+
+-- only cells are written
+calm : (mode : Mode) (t : ℕ) (written : Writes) (pc npc : ℕ) → AreCells written → Sound mode t (Ok (record { writes = written; wish = wish.Nothing; pc = pc; npc = npc }))
+calm mode t written pc npc cells = fine mode t (record { writes = written; wish = wish.Nothing; pc = pc; npc = npc }) cells (tt, tt) tt
+
 AreCells-set : (reg value : ℕ) → reg < 34 → AreCells (set reg value)
 AreCells-set reg value below = cond_both (reg == 0) _ _ AreCells (λ _. tt) (λ not_zero. let e = eqb-false reg 0 not_zero in (omega arith, below))
 
-sets-ranged : (reg value following : ℕ) → reg < 34 → IfOk (sets reg value following) Ranged
-sets-ranged reg value following below = record { writes = AreCells-set reg value below; wish = tt }
+sets-sound : (mode : Mode) (t reg value following : ℕ) → reg < 34 → Sound mode t (sets reg value following)
+sets-sound mode t reg value following below = calm mode t (set reg value) following (after following) (AreCells-set reg value below)
 
-sets_or_overflows-ranged : (reg : ℕ) (value : Option ℕ) (following : ℕ) → reg < 34 → IfOk (sets_or_overflows reg value following) Ranged
-sets_or_overflows-ranged reg None following below = tt
-sets_or_overflows-ranged reg (Some value) following below = sets-ranged reg value following below
+sets_or_overflows-sound : (mode : Mode) (t reg : ℕ) (value : Option ℕ) (following : ℕ) → reg < 34 → Sound mode t (sets_or_overflows reg value following)
+sets_or_overflows-sound mode t reg None following below = Overflow-sound mode t
+sets_or_overflows-sound mode t reg (Some value) following below = sets-sound mode t reg value following below
 
-divided-ranged : (s t following : ℕ) → IfOk (writes_only (divided s t) following) Ranged
-divided-ranged s t following = record { writes = cond_both (t == 0) _ _ AreCells (λ _. tt) (λ _. tt); wish = tt }
+divided-sound : (mode : Mode) (t s by following : ℕ) → Sound mode t (writes_only (divided s by) following)
+divided-sound mode t s by following = calm mode t _ following (after following) (cond_both (by == 0) _ _ AreCells (λ _. tt) (λ _. tt))
 
-divided_unsigned-ranged : (s t following : ℕ) → IfOk (writes_only (divided_unsigned s t) following) Ranged
-divided_unsigned-ranged s t following = record { writes = cond_both (t == 0) _ _ AreCells (λ _. tt) (λ _. tt); wish = tt }
+divided_unsigned-sound : (mode : Mode) (t s by following : ℕ) → Sound mode t (writes_only (divided_unsigned s by) following)
+divided_unsigned-sound mode t s by following = calm mode t _ following (after following) (cond_both (by == 0) _ _ AreCells (λ _. tt) (λ _. tt))
 
--- a guest's access that is open is aligned and private
+-- an open access is aligned and, of a guest, private
 open-parts : (size address : ℕ) → is_open Guest size address ≡ true → (address % size ≡ 0) × (address < private_bytes)
 open-parts size address open_there =
     let parts = and_parts (address % size == 0) (nat_lt address private_bytes) open_there in
     (eqb-true (address % size) 0 parts.0, ltb-true address private_bytes parts.1)
 
--- an access of so many bytes that lies in private memory where it is aligned and begins there
-loads-open : (how : LoadKind) (reg address old following : ℕ) → reg < 32 → ((address % size_of how ≡ 0) → address < private_bytes → address + size_of how ≤ private_bytes) → IfOk (loads Guest how reg address old following) Ranged
-loads-open how reg address old following below lies =
-    cond_both (is_open Guest (size_of how) address) _ _ (λ r. IfOk r Ranged)
+-- an aligned access of so many bytes that begins in private memory lies in it
+size-inside : (how : LoadKind) (address : ℕ) → address % size_of how ≡ 0 → address < private_bytes → address + size_of how ≤ private_bytes
+size-inside kind.Byte address aligned inside = omega arith
+size-inside kind.ByteU address aligned inside = omega arith
+size-inside kind.Half address aligned inside = omega arith
+size-inside kind.HalfU address aligned inside = omega arith
+size-inside kind.Word address aligned inside = omega arith
+size-inside kind.Left address aligned inside = omega arith
+size-inside kind.Right address aligned inside = omega arith
+
+loads-sound : (mode : Mode) (t : ℕ) (how : LoadKind) (reg address old following : ℕ) → reg < 32 → Sound mode t (loads mode how reg address old following)
+loads-sound Guest t how reg address old following below =
+    cond_both (is_open Guest (size_of how) address) _ _ (Sound Guest t)
     (λ open_there.
     let parts = open-parts (size_of how) address open_there in
     let word : address - address % 4 + 4 ≤ private_bytes = let inside : address < private_bytes = parts.1 in omega arith in
-    record { writes = tt; wish = record { register = below; aligned = parts.0; private = lies parts.0 parts.1; word = word } })
-    (λ _. tt)
+    (record { writes = tt; wish = record { register = below; aligned = parts.0; private = size-inside how address parts.0 parts.1; word = word } }, λ _. tt))
+    (λ _. Address-sound Guest t)
+loads-sound Null t how reg address old following below =
+    cond_both (is_open Null (size_of how) address) _ _ (Sound Null t)
+    (λ open_there. (record { writes = tt; wish = (below, eqb-true (address % size_of how) 0 open_there) }, λ _. tt))
+    (λ _. Address-sound Null t)
 
-loads-ranged : (how : LoadKind) (reg address old following : ℕ) → reg < 32 → IfOk (loads Guest how reg address old following) Ranged
-loads-ranged kind.Byte reg address old following below = loads-open kind.Byte reg address old following below (λ aligned inside. omega arith)
-loads-ranged kind.ByteU reg address old following below = loads-open kind.ByteU reg address old following below (λ aligned inside. omega arith)
-loads-ranged kind.Half reg address old following below = loads-open kind.Half reg address old following below (λ aligned inside. omega arith)
-loads-ranged kind.HalfU reg address old following below = loads-open kind.HalfU reg address old following below (λ aligned inside. omega arith)
-loads-ranged kind.Word reg address old following below = loads-open kind.Word reg address old following below (λ aligned inside. omega arith)
-loads-ranged kind.Left reg address old following below = loads-open kind.Left reg address old following below (λ aligned inside. omega arith)
-loads-ranged kind.Right reg address old following below = loads-open kind.Right reg address old following below (λ aligned inside. omega arith)
+-- so many bytes from here on lie in one word
+record InWord (address count : ℕ) : Type 0 where
+  some : 1 ≤ count
+  few : count ≤ 4
+  one_word : address % 4 + count ≤ 4
 
-stores-open : (count address value following : ℕ) → ((address % count ≡ 0) → address < private_bytes → IsPrivateStore address count) → IfOk (stores Guest count address value following) Ranged
-stores-open count address value following lies =
-    cond_both (is_open Guest count address) _ _ (λ r. IfOk r Ranged)
-    (λ open_there. let parts = open-parts count address open_there in record { writes = tt; wish = lies parts.0 parts.1 })
-    (λ _. tt)
+-- a store of bytes in one word, that a guest begins in private memory
+stored-sound : (mode : Mode) (t size at address count value following : ℕ) → (at % size ≡ 0 → InWord address count) → (at < private_bytes → InWord address count → address + count ≤ private_bytes) → (t < 2 ^ 32 → value < 2 ^ (8 * count))
+    → Sound mode t (if is_open mode size at then wishes (wish.Store address count value) following else Err fault.Address)
+stored-sound Guest t size at address count value following aligned inside small =
+    cond_both (is_open Guest size at) _ _ (Sound Guest t)
+    (λ open_there.
+    let parts = open-parts size at open_there in
+    let word = aligned parts.0 in (
+      record { writes = tt; wish = record { some = word.some; few = word.few; one_word = word.one_word; private = inside parts.1 word } },
+      λ below. record { some = word.some; few = word.few; one_word = word.one_word; small = small below },
+    ))
+    (λ _. Address-sound Guest t)
+stored-sound Null t size at address count value following aligned inside small =
+    cond_both (is_open Null size at) _ _ (Sound Null t)
+    (λ open_there.
+    let word = aligned (eqb-true (at % size) 0 open_there) in
+    (record { writes = tt; wish = (word.some, word.few) }, λ below. record { some = word.some; few = word.few; one_word = word.one_word; small = small below }))
+    (λ _. Address-sound Null t)
 
-stores-ranged_1 : (address value following : ℕ) → IfOk (stores Guest 1 address value following) Ranged
-stores-ranged_1 address value following = stores-open 1 address value following (λ aligned inside. record { some = omega arith; few = omega arith; one_word = omega arith; private = omega arith })
+sb-sound : (mode : Mode) (t address following : ℕ) → Sound mode t (stores mode 1 address (t % 2 ^ 8) following)
+sb-sound mode t address following =
+    stored-sound mode t 1 address address 1 (t % 2 ^ 8) following (λ aligned. record { some = omega arith; few = omega arith; one_word = omega arith }) (λ inside word. omega arith) (λ below. omega arith)
 
-stores-ranged_2 : (address value following : ℕ) → IfOk (stores Guest 2 address value following) Ranged
-stores-ranged_2 address value following = stores-open 2 address value following (λ aligned inside. record { some = omega arith; few = omega arith; one_word = omega arith; private = omega arith })
+sh-sound : (mode : Mode) (t address following : ℕ) → Sound mode t (stores mode 2 address (t % 2 ^ 16) following)
+sh-sound mode t address following =
+    stored-sound mode t 2 address address 2 (t % 2 ^ 16) following (λ aligned. record { some = omega arith; few = omega arith; one_word = omega arith }) (λ inside word. let one_word = word.one_word in omega arith) (λ below. omega arith)
 
-stores-ranged_4 : (address value following : ℕ) → IfOk (stores Guest 4 address value following) Ranged
-stores-ranged_4 address value following = stores-open 4 address value following (λ aligned inside. record { some = omega arith; few = omega arith; one_word = omega arith; private = omega arith })
+sw-sound : (mode : Mode) (t address following : ℕ) → Sound mode t (stores mode 4 address t following)
+sw-sound mode t address following =
+    stored-sound mode t 4 address address 4 t following (λ aligned. record { some = omega arith; few = omega arith; one_word = omega arith }) (λ inside word. let one_word = word.one_word in omega arith) (λ below. below)
 
-part-open : (address first count value following : ℕ) → (address < private_bytes → IsPrivateStore first count) → IfOk (stores_part Guest address (wish.Store first count value) following) Ranged
-part-open address first count value following lies =
-    cond_both (is_open Guest 1 address) _ _ (λ r. IfOk r Ranged)
-    (λ open_there. record { writes = tt; wish = lies (open-parts 1 address open_there).1 })
-    (λ _. tt)
+-- a register's high bytes, so many as there are from a place of a word on
+high-below : (t place : ℕ) → place < 4 → t < 2 ^ 32 → t / 2 ^ (8 * place) < 2 ^ (8 * (4 - place))
+high-below t place few below =
+    let bits : 8 * (4 - place) + 8 * place ≡ 32 = omega arith in
+    shr_below t (8 * (4 - place)) (8 * place) (subst (λ n. t < 2 ^ n) (sym bits) below)
 
-stores_left-ranged : (address value following : ℕ) → IfOk (stores_left Guest address value following) Ranged
-stores_left-ranged address value following =
-    part-open address address (4 - address % 4) _ following (λ inside. record { some = omega arith; few = omega arith; one_word = omega arith; private = omega arith })
+stores_left-sound : (mode : Mode) (t address following : ℕ) → Sound mode t (stores_left mode address t following)
+stores_left-sound mode t address following =
+    stored-sound mode t 1 address address (4 - address % 4) _ following
+    (λ aligned. record { some = omega arith; few = omega arith; one_word = omega arith })
+    (λ inside word. omega arith)
+    (λ below. high-below t (address % 4) (omega arith) below)
 
-stores_right-ranged : (address value following : ℕ) → IfOk (stores_right Guest address value following) Ranged
-stores_right-ranged address value following =
-    part-open address (address - address % 4) (address % 4 + 1) _ following (λ inside. record { some = omega arith; few = omega arith; one_word = omega arith; private = omega arith })
+stores_right-sound : (mode : Mode) (t address following : ℕ) → Sound mode t (stores_right mode address t following)
+stores_right-sound mode t address following =
+    stored-sound mode t 1 address (address - address % 4) (address % 4 + 1) _ following
+    (λ aligned. record { some = omega arith; few = omega arith; one_word = omega arith })
+    (λ inside word. omega arith)
+    (λ below. mod_below t (2 ^ (8 * (address % 4 + 1))) (pow_pos (8 * (address % 4 + 1))))
+
+-- a word of RAM, which a guest alone asks for
+at_word-sound : (t address : ℕ) (wished : Wish) (following : ℕ) → IsInRange wished → (address % 4 ≡ 0 → IsInOneWord wished) → Sound Guest t (at_word address wished following)
+at_word-sound t address wished following range word =
+    cond_both (address % 4 == 0) _ _ (Sound Guest t) (λ at_multiple. (record { writes = tt; wish = range }, λ _. word (eqb-true (address % 4) 0 at_multiple))) (λ _. Address-sound Guest t)
 
 -- ---- The instructions
 
-act-ranged : (i : Ins) (s t d following : ℕ) → Fits i → is_reserved Guest i ≡ false → IfOk (act i Guest s t d following) Ranged
+act-sound : (i : Ins) (mode : Mode) (s t d following : ℕ) → Fits i → is_reserved mode i ≡ false → Sound mode t (act i mode s t d following)
 unfolding act
-act-ranged (Sll rd rt sa) s t d following fits own = sets-ranged rd _ following (cell _ fits.0)
-act-ranged (Srl rd rt sa) s t d following fits own = sets-ranged rd _ following (cell _ fits.0)
-act-ranged (Sra rd rt sa) s t d following fits own = sets-ranged rd _ following (cell _ fits.0)
-act-ranged (Sllv rd rt rs) s t d following fits own = sets-ranged rd _ following (cell _ fits.0)
-act-ranged (Srlv rd rt rs) s t d following fits own = sets-ranged rd _ following (cell _ fits.0)
-act-ranged (Srav rd rt rs) s t d following fits own = sets-ranged rd _ following (cell _ fits.0)
-act-ranged (Jr rs) s t d following fits own = record { writes = tt; wish = tt }
-act-ranged (Jalr rd rs) s t d following fits own = record { writes = AreCells-set rd (after following) (cell _ fits.0); wish = tt }
-act-ranged (Syscall code) s t d following fits own = record { writes = tt; wish = fits }
-act-ranged (Break code) s t d following fits own = tt
-act-ranged (Mfhi rd) s t d following fits own = sets-ranged rd _ following (cell _ fits)
-act-ranged (Mthi rs) s t d following fits own = record { writes = (lit≤ tt, lit< tt); wish = tt }
-act-ranged (Mflo rd) s t d following fits own = sets-ranged rd _ following (cell _ fits)
-act-ranged (Mtlo rs) s t d following fits own = record { writes = (lit≤ tt, lit< tt); wish = tt }
-act-ranged (Mult rs rt) s t d following fits own = record { writes = tt; wish = tt }
-act-ranged (Multu rs rt) s t d following fits own = record { writes = tt; wish = tt }
-act-ranged (Div rs rt) s t d following fits own = divided-ranged s t following
-act-ranged (Divu rs rt) s t d following fits own = divided_unsigned-ranged s t following
-act-ranged (Add rd rs rt) s t d following fits own = sets_or_overflows-ranged rd (sum s t) following (cell _ fits.0)
-act-ranged (Addu rd rs rt) s t d following fits own = sets-ranged rd _ following (cell _ fits.0)
-act-ranged (Sub rd rs rt) s t d following fits own = sets_or_overflows-ranged rd (difference s t) following (cell _ fits.0)
-act-ranged (Subu rd rs rt) s t d following fits own = sets-ranged rd _ following (cell _ fits.0)
-act-ranged (And rd rs rt) s t d following fits own = sets-ranged rd _ following (cell _ fits.0)
-act-ranged (Or rd rs rt) s t d following fits own = sets-ranged rd _ following (cell _ fits.0)
-act-ranged (Xor rd rs rt) s t d following fits own = sets-ranged rd _ following (cell _ fits.0)
-act-ranged (Nor rd rs rt) s t d following fits own = sets-ranged rd _ following (cell _ fits.0)
-act-ranged (Slt rd rs rt) s t d following fits own = sets-ranged rd _ following (cell _ fits.0)
-act-ranged (Sltu rd rs rt) s t d following fits own = sets-ranged rd _ following (cell _ fits.0)
-act-ranged (Bltz rs imm) s t d following fits own = record { writes = tt; wish = tt }
-act-ranged (Bgez rs imm) s t d following fits own = record { writes = tt; wish = tt }
-act-ranged (Bltzal rs imm) s t d following fits own = record { writes = AreCells-set 31 (after following) (lit< tt); wish = tt }
-act-ranged (Bgezal rs imm) s t d following fits own = record { writes = AreCells-set 31 (after following) (lit< tt); wish = tt }
-act-ranged (J index) s t d following fits own = record { writes = tt; wish = tt }
-act-ranged (Jal index) s t d following fits own = record { writes = AreCells-set 31 (after following) (lit< tt); wish = tt }
-act-ranged (Beq rs rt imm) s t d following fits own = record { writes = tt; wish = tt }
-act-ranged (Bne rs rt imm) s t d following fits own = record { writes = tt; wish = tt }
-act-ranged (Blez rs imm) s t d following fits own = record { writes = tt; wish = tt }
-act-ranged (Bgtz rs imm) s t d following fits own = record { writes = tt; wish = tt }
-act-ranged (Addi rt rs imm) s t d following fits own = sets_or_overflows-ranged rt (sum s (extended imm)) following (cell _ fits.0)
-act-ranged (Addiu rt rs imm) s t d following fits own = sets-ranged rt _ following (cell _ fits.0)
-act-ranged (Slti rt rs imm) s t d following fits own = sets-ranged rt _ following (cell _ fits.0)
-act-ranged (Sltiu rt rs imm) s t d following fits own = sets-ranged rt _ following (cell _ fits.0)
-act-ranged (Andi rt rs imm) s t d following fits own = sets-ranged rt _ following (cell _ fits.0)
-act-ranged (Ori rt rs imm) s t d following fits own = sets-ranged rt _ following (cell _ fits.0)
-act-ranged (Xori rt rs imm) s t d following fits own = sets-ranged rt _ following (cell _ fits.0)
-act-ranged (Lui rt imm) s t d following fits own = sets-ranged rt _ following (cell _ fits.0)
-act-ranged (Lb rt imm rs) s t d following fits own = loads-ranged kind.Byte rt (plus_signed s imm) t following fits.0
-act-ranged (Lh rt imm rs) s t d following fits own = loads-ranged kind.Half rt (plus_signed s imm) t following fits.0
-act-ranged (Lwl rt imm rs) s t d following fits own = loads-ranged kind.Left rt (plus_signed s imm) t following fits.0
-act-ranged (Lw rt imm rs) s t d following fits own = loads-ranged kind.Word rt (plus_signed s imm) t following fits.0
-act-ranged (Lbu rt imm rs) s t d following fits own = loads-ranged kind.ByteU rt (plus_signed s imm) t following fits.0
-act-ranged (Lhu rt imm rs) s t d following fits own = loads-ranged kind.HalfU rt (plus_signed s imm) t following fits.0
-act-ranged (Lwr rt imm rs) s t d following fits own = loads-ranged kind.Right rt (plus_signed s imm) t following fits.0
-act-ranged (Sb rt imm rs) s t d following fits own = stores-ranged_1 (plus_signed s imm) (t % 2 ^ 8) following
-act-ranged (Sh rt imm rs) s t d following fits own = stores-ranged_2 (plus_signed s imm) (t % 2 ^ 16) following
-act-ranged (Swl rt imm rs) s t d following fits own = stores_left-ranged (plus_signed s imm) t following
-act-ranged (Sw rt imm rs) s t d following fits own = stores-ranged_4 (plus_signed s imm) t following
-act-ranged (Swr rt imm rs) s t d following fits own = stores_right-ranged (plus_signed s imm) t following
-act-ranged (Xlwn rt imm rs) s t d following fits own = cc
-act-ranged (Xswn rt imm rs) s t d following fits own = cc
-act-ranged (Xmvtn rs) s t d following fits own = record { writes = tt; wish = fits }
-act-ranged (Xmvfn rd rs) s t d following fits own = record { writes = tt; wish = fits }
-act-ranged Xexit s t d following fits own = record { writes = tt; wish = tt }
-act-ranged (Xhand rs) s t d following fits own = cc
-act-ranged Xsigret s t d following fits own = cc
-act-ranged (Xinstall rs rt rd) s t d following fits own = cc
-act-ranged (Xenter rs) s t d following fits own = cc
-act-ranged (Xresume rs rt) s t d following fits own = cc
-act-ranged (Xsave rs rt rd) s t d following fits own = cc
-act-ranged (Xrestore rs rt rd) s t d following fits own = cc
-act-ranged (Xmap rs rt rd) s t d following fits own = cc
-act-ranged (Xunmap rs rt) s t d following fits own = cc
-act-ranged (Xkill rs) s t d following fits own = cc
-act-ranged (Xout rs) s t d following fits own = cc
-act-ranged Xhalt s t d following fits own = cc
-act-ranged (Xstat rd) s t d following fits own = cc
-act-ranged (Xcause rd) s t d following fits own = cc
-act-ranged (Xarg rd) s t d following fits own = cc
-act-ranged (Xwho rd) s t d following fits own = cc
+act-sound (Sll rd rt sa) mode s t d following fits own = sets-sound mode t rd _ following (cell _ fits.0)
+act-sound (Srl rd rt sa) mode s t d following fits own = sets-sound mode t rd _ following (cell _ fits.0)
+act-sound (Sra rd rt sa) mode s t d following fits own = sets-sound mode t rd _ following (cell _ fits.0)
+act-sound (Sllv rd rt rs) mode s t d following fits own = sets-sound mode t rd _ following (cell _ fits.0)
+act-sound (Srlv rd rt rs) mode s t d following fits own = sets-sound mode t rd _ following (cell _ fits.0)
+act-sound (Srav rd rt rs) mode s t d following fits own = sets-sound mode t rd _ following (cell _ fits.0)
+act-sound (Jr rs) mode s t d following fits own = calm mode t _ _ _ tt
+act-sound (Jalr rd rs) mode s t d following fits own = calm mode t _ _ _ (AreCells-set rd (after following) (cell _ fits.0))
+act-sound (Syscall code) mode s t d following fits own = fine mode t _ tt (fits, tt) tt
+act-sound (Break code) mode s t d following fits own = λ null same. cc
+act-sound (Mfhi rd) mode s t d following fits own = sets-sound mode t rd _ following (cell _ fits)
+act-sound (Mthi rs) mode s t d following fits own = calm mode t _ _ _ (lit≤ tt, lit< tt)
+act-sound (Mflo rd) mode s t d following fits own = sets-sound mode t rd _ following (cell _ fits)
+act-sound (Mtlo rs) mode s t d following fits own = calm mode t _ _ _ (lit≤ tt, lit< tt)
+act-sound (Mult rs rt) mode s t d following fits own = calm mode t _ _ _ tt
+act-sound (Multu rs rt) mode s t d following fits own = calm mode t _ _ _ tt
+act-sound (Div rs rt) mode s t d following fits own = divided-sound mode t s t following
+act-sound (Divu rs rt) mode s t d following fits own = divided_unsigned-sound mode t s t following
+act-sound (Add rd rs rt) mode s t d following fits own = sets_or_overflows-sound mode t rd (sum s t) following (cell _ fits.0)
+act-sound (Addu rd rs rt) mode s t d following fits own = sets-sound mode t rd _ following (cell _ fits.0)
+act-sound (Sub rd rs rt) mode s t d following fits own = sets_or_overflows-sound mode t rd (difference s t) following (cell _ fits.0)
+act-sound (Subu rd rs rt) mode s t d following fits own = sets-sound mode t rd _ following (cell _ fits.0)
+act-sound (And rd rs rt) mode s t d following fits own = sets-sound mode t rd _ following (cell _ fits.0)
+act-sound (Or rd rs rt) mode s t d following fits own = sets-sound mode t rd _ following (cell _ fits.0)
+act-sound (Xor rd rs rt) mode s t d following fits own = sets-sound mode t rd _ following (cell _ fits.0)
+act-sound (Nor rd rs rt) mode s t d following fits own = sets-sound mode t rd _ following (cell _ fits.0)
+act-sound (Slt rd rs rt) mode s t d following fits own = sets-sound mode t rd _ following (cell _ fits.0)
+act-sound (Sltu rd rs rt) mode s t d following fits own = sets-sound mode t rd _ following (cell _ fits.0)
+act-sound (Bltz rs imm) mode s t d following fits own = calm mode t _ _ _ tt
+act-sound (Bgez rs imm) mode s t d following fits own = calm mode t _ _ _ tt
+act-sound (Bltzal rs imm) mode s t d following fits own = calm mode t _ _ _ (AreCells-set 31 (after following) (lit< tt))
+act-sound (Bgezal rs imm) mode s t d following fits own = calm mode t _ _ _ (AreCells-set 31 (after following) (lit< tt))
+act-sound (J index) mode s t d following fits own = calm mode t _ _ _ tt
+act-sound (Jal index) mode s t d following fits own = calm mode t _ _ _ (AreCells-set 31 (after following) (lit< tt))
+act-sound (Beq rs rt imm) mode s t d following fits own = calm mode t _ _ _ tt
+act-sound (Bne rs rt imm) mode s t d following fits own = calm mode t _ _ _ tt
+act-sound (Blez rs imm) mode s t d following fits own = calm mode t _ _ _ tt
+act-sound (Bgtz rs imm) mode s t d following fits own = calm mode t _ _ _ tt
+act-sound (Addi rt rs imm) mode s t d following fits own = sets_or_overflows-sound mode t rt (sum s (extended imm)) following (cell _ fits.0)
+act-sound (Addiu rt rs imm) mode s t d following fits own = sets-sound mode t rt _ following (cell _ fits.0)
+act-sound (Slti rt rs imm) mode s t d following fits own = sets-sound mode t rt _ following (cell _ fits.0)
+act-sound (Sltiu rt rs imm) mode s t d following fits own = sets-sound mode t rt _ following (cell _ fits.0)
+act-sound (Andi rt rs imm) mode s t d following fits own = sets-sound mode t rt _ following (cell _ fits.0)
+act-sound (Ori rt rs imm) mode s t d following fits own = sets-sound mode t rt _ following (cell _ fits.0)
+act-sound (Xori rt rs imm) mode s t d following fits own = sets-sound mode t rt _ following (cell _ fits.0)
+act-sound (Lui rt imm) mode s t d following fits own = sets-sound mode t rt _ following (cell _ fits.0)
+act-sound (Lb rt imm rs) mode s t d following fits own = loads-sound mode t kind.Byte rt (plus_signed s imm) t following fits.0
+act-sound (Lh rt imm rs) mode s t d following fits own = loads-sound mode t kind.Half rt (plus_signed s imm) t following fits.0
+act-sound (Lwl rt imm rs) mode s t d following fits own = loads-sound mode t kind.Left rt (plus_signed s imm) t following fits.0
+act-sound (Lw rt imm rs) mode s t d following fits own = loads-sound mode t kind.Word rt (plus_signed s imm) t following fits.0
+act-sound (Lbu rt imm rs) mode s t d following fits own = loads-sound mode t kind.ByteU rt (plus_signed s imm) t following fits.0
+act-sound (Lhu rt imm rs) mode s t d following fits own = loads-sound mode t kind.HalfU rt (plus_signed s imm) t following fits.0
+act-sound (Lwr rt imm rs) mode s t d following fits own = loads-sound mode t kind.Right rt (plus_signed s imm) t following fits.0
+act-sound (Sb rt imm rs) mode s t d following fits own = sb-sound mode t (plus_signed s imm) following
+act-sound (Sh rt imm rs) mode s t d following fits own = sh-sound mode t (plus_signed s imm) following
+act-sound (Swl rt imm rs) mode s t d following fits own = stores_left-sound mode t (plus_signed s imm) following
+act-sound (Sw rt imm rs) mode s t d following fits own = sw-sound mode t (plus_signed s imm) following
+act-sound (Swr rt imm rs) mode s t d following fits own = stores_right-sound mode t (plus_signed s imm) following
+act-sound (Xlwn rt imm rs) Guest s t d following fits own = at_word-sound t (plus_signed s imm) (wish.NullLoad rt (plus_signed s imm)) following fits.0 (λ aligned. aligned)
+act-sound (Xlwn rt imm rs) Null s t d following fits own = cc
+act-sound (Xswn rt imm rs) Guest s t d following fits own = at_word-sound t (plus_signed s imm) (wish.NullStore (plus_signed s imm) t) following tt (λ aligned. aligned)
+act-sound (Xswn rt imm rs) Null s t d following fits own = cc
+act-sound (Xmvtn rs) Guest s t d following fits own = (record { writes = tt; wish = fits }, λ _. tt)
+act-sound (Xmvtn rs) Null s t d following fits own = cc
+act-sound (Xmvfn rd rs) Guest s t d following fits own = (record { writes = tt; wish = fits }, λ _. tt)
+act-sound (Xmvfn rd rs) Null s t d following fits own = cc
+act-sound Xexit Guest s t d following fits own = (record { writes = tt; wish = tt }, λ _. tt)
+act-sound Xexit Null s t d following fits own = cc
+act-sound (Xhand rs) Guest s t d following fits own = (record { writes = tt; wish = tt }, λ _. tt)
+act-sound (Xhand rs) Null s t d following fits own = cc
+act-sound Xsigret Guest s t d following fits own = (record { writes = tt; wish = tt }, λ _. tt)
+act-sound Xsigret Null s t d following fits own = cc
+act-sound (Xinstall rs rt rd) Guest s t d following fits own = cc
+act-sound (Xinstall rs rt rd) Null s t d following fits own = (record { writes = tt; wish = tt }, λ _. tt)
+act-sound (Xenter rs) Guest s t d following fits own = cc
+act-sound (Xenter rs) Null s t d following fits own = (record { writes = tt; wish = tt }, λ _. tt)
+act-sound (Xresume rs rt) Guest s t d following fits own = cc
+act-sound (Xresume rs rt) Null s t d following fits own = (record { writes = tt; wish = tt }, λ _. tt)
+act-sound (Xsave rs rt rd) Guest s t d following fits own = cc
+act-sound (Xsave rs rt rd) Null s t d following fits own = (record { writes = tt; wish = tt }, λ _. tt)
+act-sound (Xrestore rs rt rd) Guest s t d following fits own = cc
+act-sound (Xrestore rs rt rd) Null s t d following fits own = (record { writes = tt; wish = tt }, λ _. tt)
+act-sound (Xmap rs rt rd) Guest s t d following fits own = cc
+act-sound (Xmap rs rt rd) Null s t d following fits own = (record { writes = tt; wish = tt }, λ _. tt)
+act-sound (Xunmap rs rt) Guest s t d following fits own = cc
+act-sound (Xunmap rs rt) Null s t d following fits own = (record { writes = tt; wish = tt }, λ _. tt)
+act-sound (Xkill rs) Guest s t d following fits own = cc
+act-sound (Xkill rs) Null s t d following fits own = (record { writes = tt; wish = tt }, λ _. tt)
+act-sound (Xout rs) Guest s t d following fits own = cc
+act-sound (Xout rs) Null s t d following fits own = (record { writes = tt; wish = tt }, λ _. tt)
+act-sound Xhalt Guest s t d following fits own = cc
+act-sound Xhalt Null s t d following fits own = (record { writes = tt; wish = tt }, λ _. tt)
+act-sound (Xstat rd) Guest s t d following fits own = cc
+act-sound (Xstat rd) Null s t d following fits own = (record { writes = tt; wish = fits }, λ _. tt)
+act-sound (Xcause rd) Guest s t d following fits own = cc
+act-sound (Xcause rd) Null s t d following fits own = (record { writes = tt; wish = fits }, λ _. tt)
+act-sound (Xarg rd) Guest s t d following fits own = cc
+act-sound (Xarg rd) Null s t d following fits own = (record { writes = tt; wish = fits }, λ _. tt)
+act-sound (Xwho rd) Guest s t d following fits own = cc
+act-sound (Xwho rd) Null s t d following fits own = (record { writes = tt; wish = fits }, λ _. tt)
 
-pub judged-ranged : (i : Ins) (first second third : Seen) (following : ℕ) → Fits i → IfOk (judged i Guest first second third following) Ranged
-judged-ranged i first second third following fits =
-    cond_both (is_reserved Guest i) (Err fault.Reserved) _ (λ r. IfOk r Ranged) (λ _. tt)
-    (λ own. cond_both (is_barred Guest i first second third) (Err fault.Foreign) _ (λ r. IfOk r Ranged) (λ _. tt)
-    (λ _. act-ranged i (number_of first) (number_of second) (number_of third) following fits own))
+-- Foreign comes of a barred cell alone, and null code has none
+barred-sound : (mode : Mode) (t : ℕ) (i : Ins) (first second third : Seen) → is_barred mode i first second third ≡ true → Sound mode t (Err fault.Foreign)
+barred-sound Guest t i first second third barred null same = cc
+barred-sound Null t i first second third barred null same = cc
+
+judged-sound : (i : Ins) (mode : Mode) (first second third : Seen) (following : ℕ) → Fits i → Sound mode (number_of second) (judged i mode first second third following)
+judged-sound i mode first second third following fits =
+    cond_both (is_reserved mode i) (Err fault.Reserved) _ (Sound mode (number_of second)) (λ _. λ null same. cc)
+    (λ own. cond_both (is_barred mode i first second third) (Err fault.Foreign) _ (Sound mode (number_of second)) (barred-sound mode (number_of second) i first second third)
+    (λ _. act-sound i mode (number_of first) (number_of second) (number_of third) following fits own))
+
+-- ---- What the parts say of an answer
 
 -- a guest's effect is ranged, whatever is seen
-pub effect_of-ranged : (i : Ins) (a b c : Seen) (pc npc : ℕ) → Fits i → IfOk (effect_of i Guest a b c pc npc) Ranged
-unfolding effect_of
-effect_of-ranged i a b c pc npc fits =
-    judged-ranged i (seen_at (sources_of i).0 a) (seen_at (sources_of i).1 b) (seen_at (sources_of i).2 c) npc fits
+ranged-of : (t : ℕ) (r : Result Effect OwnFault) → Sound Guest t r → IfOk r Ranged
+ranged-of t (Ok e) sound = sound.0
+ranged-of t (Err why) sound = tt
+
+-- and so is one of null code
+opened-of : (t : ℕ) (r : Result Effect OwnFault) → Sound Null t r → IfOk r Opened
+opened-of t (Ok e) sound = sound.0
+opened-of t (Err why) sound = tt
+
+-- an access lies in one word
+word-of : (mode : Mode) (t : ℕ) (r : Result Effect OwnFault) → Sound mode t r → t < 2 ^ 32 → IfOk r (λ e. IsInOneWord e.wish)
+word-of mode t (Ok e) sound below = sound.1 below
+word-of mode t (Err why) sound below = tt
+
+-- null code meets no Foreign
+foreign-of : (t : ℕ) (r : Result Effect OwnFault) → Sound Null t r → r ≢ Err fault.Foreign
+foreign-of t (Ok e) sound same = cc
+foreign-of t (Err why) sound same = sound refl (let equal : why ≡ fault.Foreign = cc in equal)
+
+pub judged-ranged : (i : Ins) (mode : Mode) (first second third : Seen) (following : ℕ) → Fits i → mode ≡ Guest → IfOk (judged i mode first second third following) Ranged
+judged-ranged i mode first second third following fits guest =
+    let P : Mode → Type 0 = λ m. IfOk (judged i m first second third following) Ranged in
+    subst P (sym guest) (ranged-of (number_of second) _ (judged-sound i Guest first second third following fits))
+
+pub judged-opened : (i : Ins) (mode : Mode) (first second third : Seen) (following : ℕ) → Fits i → mode ≡ Null → IfOk (judged i mode first second third following) Opened
+judged-opened i mode first second third following fits null =
+    let P : Mode → Type 0 = λ m. IfOk (judged i m first second third following) Opened in
+    subst P (sym null) (opened-of (number_of second) _ (judged-sound i Null first second third following fits))
+
+pub act-word : (i : Ins) (mode : Mode) (s t d following : ℕ) → Fits i → is_reserved mode i ≡ false → t < 2 ^ 32 → IfOk (act i mode s t d following) (λ e. IsInOneWord e.wish)
+act-word i mode s t d following fits own below = word-of mode t _ (act-sound i mode s t d following fits own) below
+
+pub judged-foreign : (i : Ins) (mode : Mode) (first second third : Seen) (following : ℕ) → Fits i → mode ≡ Null → judged i mode first second third following ≢ Err fault.Foreign
+judged-foreign i mode first second third following fits null =
+    let P : Mode → Type 0 = λ m. judged i m first second third following ≢ Err fault.Foreign in
+    subst P (sym null) (foreign-of (number_of second) _ (judged-sound i Null first second third following fits))
 
 -- the same of an effect that is told
 pub effect_of-Ranged : (i : Ins) (a b c : Seen) (pc npc : ℕ) (e : Effect) → Fits i → effect_of i Guest a b c pc npc ≡ Ok e → Ranged e
-effect_of-Ranged i a b c pc npc e fits is = let ranged = effect_of-ranged i a b c pc npc fits in rw is at ranged
+unfolding effect_of
+effect_of-Ranged i a b c pc npc e fits is =
+    let ranged = judged-ranged i Guest (seen_at (sources_of i).0 a) (seen_at (sources_of i).1 b) (seen_at (sources_of i).2 c) npc fits refl in
+    rw is at ranged

@@ -155,17 +155,9 @@ is_kernel_form (Xarg rd) = true
 is_kernel_form (Xwho rd) = true
 is_kernel_form i = false
 
--- forms of a guest that aren't built yet, those of null memory and of signals: a guest doesn't have them either
-abbrev pub is_not_built : Ins → Bool
-is_not_built (Xlwn rt imm rs) = true
-is_not_built (Xswn rt imm rs) = true
-is_not_built (Xhand rs) = true
-is_not_built Xsigret = true
-is_not_built i = false
-
 -- the compartment doesn't have the instruction
 abbrev pub is_reserved : Mode → Ins → Bool
-is_reserved Guest i = is_kernel_form i || is_not_built i
+is_reserved Guest i = is_kernel_form i
 is_reserved Null i = is_guest_form i
 
 -- Ownership: a guest reads no cell that it doesn't own, and xmvfn takes from none that it owns. Null code reads any.
@@ -257,9 +249,9 @@ abbrev pub stores_right : Mode → ℕ → ℕ → ℕ → Result Effect OwnFaul
 stores_right mode address value following =
     stores_part mode address (wish.Store (address - address % 4) (address % 4 + 1) (value % 2 ^ (8 * (address % 4 + 1)))) following
 
--- a form that isn't built yet
-abbrev pub not_built : Result Effect OwnFault
-not_built = Err fault.Reserved
+-- an access to a word of RAM, at a multiple of 4
+abbrev pub at_word : ℕ → Wish → ℕ → Result Effect OwnFault
+at_word address wished following = if address % 4 == 0 then wishes wished following else Err fault.Address
 
 -- ---- The instructions, of the values of rs, rt and rd and the address of the following instruction
 
@@ -322,13 +314,13 @@ act (Sh rt imm rs) mode s t d following = stores mode 2 (plus_signed s imm) (t %
 act (Swl rt imm rs) mode s t d following = stores_left mode (plus_signed s imm) t following
 act (Sw rt imm rs) mode s t d following = stores mode 4 (plus_signed s imm) t following
 act (Swr rt imm rs) mode s t d following = stores_right mode (plus_signed s imm) t following
-act (Xlwn rt imm rs) mode s t d following = not_built
-act (Xswn rt imm rs) mode s t d following = not_built
+act (Xlwn rt imm rs) mode s t d following = at_word (plus_signed s imm) (wish.NullLoad rt (plus_signed s imm)) following
+act (Xswn rt imm rs) mode s t d following = at_word (plus_signed s imm) (wish.NullStore (plus_signed s imm) t) following
 act (Xmvtn rs) mode s t d following = wishes (wish.Release rs s) following
 act (Xmvfn rd rs) mode s t d following = wishes (wish.Receive rd rs) following
 act Xexit mode s t d following = wishes wish.Exit following
-act (Xhand rs) mode s t d following = not_built
-act Xsigret mode s t d following = not_built
+act (Xhand rs) mode s t d following = wishes (wish.Hand s) following
+act Xsigret mode s t d following = wishes wish.SigRet following
 act (Xinstall rs rt rd) mode s t d following = wishes (wish.Do (op.Install s t d)) following
 act (Xenter rs) mode s t d following = wishes (wish.Do (op.Enter s)) following
 act (Xresume rs rt) mode s t d following = wishes (wish.Do (op.Resume s t)) following
@@ -372,6 +364,22 @@ merge_of kind.Word old address word = word
 merge_of kind.Left old address word = left_merged old (address % 4) word
 merge_of kind.Right old address word = right_merged old (address % 4) word
 
+-- ---- Where an access lies, in both modes
+
+-- a store is of 1 to 4 bytes within one aligned word, and its value has no more bits than they
+pub record IsStore (address count value : ℕ) : Type 0 where
+  pub some : 1 ≤ count
+  pub few : count ≤ 4
+  pub one_word : address % 4 + count ≤ 4
+  pub small : value < 2 ^ (8 * count)
+
+-- what is stored lies in one word, and a word of RAM is at a multiple of 4
+abbrev pub IsInOneWord : Wish → Type 0
+IsInOneWord (wish.Store address count value) = IsStore address count value
+IsInOneWord (wish.NullLoad reg address) = address % 4 ≡ 0
+IsInOneWord (wish.NullStore address value) = address % 4 ≡ 0
+IsInOneWord other = Unit {0}
+
 -- ---- Ranges of a guest's effect
 
 -- a load is aligned and private, and so is the whole word around its address
@@ -399,6 +407,10 @@ abbrev pub IsInRange : Wish → Type 0
 IsInRange wish.Nothing = Unit {0}
 IsInRange (wish.Load reg address how old) = IsPrivateLoad reg address how
 IsInRange (wish.Store address count value) = IsPrivateStore address count
+IsInRange (wish.NullLoad reg address) = reg < 32
+IsInRange (wish.NullStore address value) = Unit {0}
+IsInRange (wish.Hand address) = Unit {0}
+IsInRange wish.SigRet = Unit {0}
 IsInRange (wish.Release reg value) = IsMoved reg
 IsInRange (wish.Receive reg from) = IsMoved reg × IsMoved from
 IsInRange wish.Exit = Unit {0}
@@ -410,3 +422,26 @@ IsInRange (wish.Ask reg what) = ⊥
 pub record Ranged (e : Effect) : Type 0 where
   pub writes : AreCells e.writes
   pub wish : IsInRange e.wish
+
+-- ---- Ranges of an effect of null code
+
+-- what null code wishes: its loads are aligned, its stores have 1 to 4 bytes, and it never wishes what a guest alone can
+abbrev pub IsOpenWish : Wish → Type 0
+IsOpenWish wish.Nothing = Unit {0}
+IsOpenWish (wish.Load reg address how old) = (reg < 32) × (address % size_of how ≡ 0)
+IsOpenWish (wish.Store address count value) = (1 ≤ count) × (count ≤ 4)
+IsOpenWish (wish.NullLoad reg address) = ⊥
+IsOpenWish (wish.NullStore address value) = ⊥
+IsOpenWish (wish.Hand address) = ⊥
+IsOpenWish wish.SigRet = ⊥
+IsOpenWish (wish.Release reg value) = ⊥
+IsOpenWish (wish.Receive reg from) = ⊥
+IsOpenWish wish.Exit = ⊥
+IsOpenWish (wish.Call code) = Unit {0}
+IsOpenWish (wish.Do operation) = Unit {0}
+IsOpenWish (wish.Ask reg what) = reg < 32
+
+-- each number of the effect is in its range
+pub record Opened (e : Effect) : Type 0 where
+  pub writes : AreCells e.writes
+  pub wish : IsOpenWish e.wish

@@ -1,5 +1,5 @@
 ghost use Rattle.std.specs.Prelude.{◌≡◌, ◌<◌, ◌≤◌, ◌*◌, ◌%◌, ◌^◌};
-ghost use Rattle.mips_effect.specs.Effects.{is_open, size_of, loads, stores, stores_part, stores_left, stores_right};
+ghost use Rattle.mips_effect.specs.Effects.{at_word, is_open, size_of, loads, stores, stores_part, stores_left, stores_right};
 
 use crate::effects::Effect;
 use crate::kinds::wishes;
@@ -108,6 +108,26 @@ fn stores_part(mode: Mode, address: u32, store: Wish, following: u32) -> Result<
     } else {
         Err(OwnFault::Address)
     }
+}
+
+/// A load of a word of RAM.
+pub fn null_loads(reg: u8, address: u32, following: u32) -> Result<Effect, OwnFault>
+    ensures { result ≡ at_word address (Wish.NullLoad reg address) following }
+{
+    if address % 4 != 0 {
+        return Err(OwnFault::Address);
+    }
+    wishes(Wish::NullLoad { reg, address }, following)
+}
+
+/// A store of a word of RAM.
+pub fn null_stores(address: u32, value: u32, following: u32) -> Result<Effect, OwnFault>
+    ensures { result ≡ at_word address (Wish.NullStore address value) following }
+{
+    if address % 4 != 0 {
+        return Err(OwnFault::Address);
+    }
+    wishes(Wish::NullStore { address, value }, following)
 }
 
 /// Whether an access is aligned to so many bytes and, for a guest, private.

@@ -1,8 +1,10 @@
-ghost use Rattle.std.specs.Prelude.{◌≡◌, IfOk};
+ghost use Rattle.std.specs.Prelude.{◌≡◌, ◌≢◌, IfOk, Err};
 ghost use Rattle.mips_instruction.specs.Words.{Fits};
-ghost use Rattle.mips_effect.specs.Effects.{effect_of, Ranged, act, judged, seen_at, number_of, is_foreign, is_guest_form, is_kernel_form, is_not_built, is_reserved, is_barred};
+ghost use Rattle.mips_effect.specs.Effects.{effect_of, IsInOneWord, Opened, Ranged, act, judged, seen_at, number_of, is_foreign, is_guest_form, is_kernel_form, is_reserved, is_barred};
 
-use crate::accesses::{loads, low_bytes, stores, stores_left, stores_right};
+use crate::accesses::{
+    loads, low_bytes, null_loads, null_stores, stores, stores_left, stores_right,
+};
 use crate::cells::sources;
 use crate::effects::Effect;
 use crate::kinds::{
@@ -37,6 +39,11 @@ pub fn effect(
     requires { Fits ins }
     ensures value { result ≡ effect_of ins mode first second third pc npc }
     ensures ranged { mode ≡ Mode.Guest → IfOk result Ranged }
+    ensures opened { mode ≡ Mode.Null → IfOk result Opened }
+
+    // A stored value has no more than its 1 to 4 bytes, which lie in one aligned word.
+    ensures word { IfOk result (λ e. IsInOneWord e.wish) }
+    ensures foreign { mode ≡ Mode.Null → result ≢ Err OwnFault.Foreign }
 {
     let (a, b, c) = sources(ins);
     judged(
@@ -66,7 +73,8 @@ fn judged(
     following: u32,
 ) -> Result<Effect, OwnFault>
     requires { Fits ins }
-    ensures { result ≡ judged ins mode first second third following }
+    ensures value { result ≡ judged ins mode first second third following }
+    ensures word { IfOk result (λ e. IsInOneWord e.wish) }
 {
     if is_reserved(mode, ins) {
         return Err(OwnFault::Reserved);
@@ -89,7 +97,7 @@ fn is_reserved(mode: Mode, ins: Ins) -> bool
     ensures { result ≡ is_reserved mode ins }
 {
     match mode {
-        Mode::Guest => is_kernel_form(ins) || is_not_built(ins),
+        Mode::Guest => is_kernel_form(ins),
         Mode::Null => is_guest_form(ins),
     }
 }
@@ -130,16 +138,6 @@ fn is_kernel_form(ins: Ins) -> bool
             | Ins::Xcause { .. }
             | Ins::Xarg { .. }
             | Ins::Xwho { .. }
-    )
-}
-
-/// The forms of null memory and of signals, which aren't built yet.
-fn is_not_built(ins: Ins) -> bool
-    ensures { result ≡ is_not_built ins }
-{
-    matches!(
-        ins,
-        Ins::Xlwn { .. } | Ins::Xswn { .. } | Ins::Xhand { .. } | Ins::Xsigret
     )
 }
 
@@ -288,9 +286,10 @@ fn act(ins: Ins, mode: Mode, s: u32, t: u32, d: u32, following: u32) -> Result<E
         Ins::Swl { imm, .. } => stores_left(mode, plus_signed(s, imm), t, following),
         Ins::Sw { imm, .. } => stores(mode, 4, plus_signed(s, imm), t, following),
         Ins::Swr { imm, .. } => stores_right(mode, plus_signed(s, imm), t, following),
-        Ins::Xlwn { .. } | Ins::Xswn { .. } | Ins::Xhand { .. } | Ins::Xsigret => {
-            Err(OwnFault::Reserved)
-        }
+        Ins::Xlwn { rt, imm, .. } => null_loads(rt, plus_signed(s, imm), following),
+        Ins::Xswn { imm, .. } => null_stores(plus_signed(s, imm), t, following),
+        Ins::Xhand { .. } => wishes(Wish::Hand(s), following),
+        Ins::Xsigret => wishes(Wish::SigRet, following),
         Ins::Xmvtn { rs } => wishes(Wish::Release { reg: rs, value: s }, following),
         Ins::Xmvfn { rd, rs } => wishes(Wish::Receive { reg: rd, from: rs }, following),
         Ins::Xexit => wishes(Wish::Exit, following),

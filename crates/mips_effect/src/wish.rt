@@ -51,6 +51,20 @@ pub enum Wish {
         count: u8,
         value: u32,
     },
+    /// `xlwn`: register `reg`, 0 to 31, gets the word of RAM at the address, a multiple of 4.
+    NullLoad {
+        reg: u8,
+        address: u32,
+    },
+    /// `xswn`: the word goes to RAM at the address, a multiple of 4.
+    NullStore {
+        address: u32,
+        value: u32,
+    },
+    /// `xhand`: where signals are handled from now on, 0 for nowhere.
+    Hand(u32),
+    /// `xsigret`: the pair that a signal kept comes back.
+    SigRet,
     /// `xmvtn`: the value of register `reg`, 1 to 31, goes out of the compartment.
     Release {
         reg: u8,

@@ -1,17 +1,17 @@
 -- What the instruction at a place of private memory comes to, for whoever tells what is seen in the cells.
-use Rattle.std.specs.Prelude.{ℕ, ◌-◌, ◌%◌, ◌==◌, ◌&&◌, nat_lt, Bool, true, false, List, Option, Some, None, Result, Ok, Err, if◌then◌else◌}
+use Rattle.std.specs.Prelude.{ℕ, ◌-◌, ◌%◌, ◌==◌, ◌&&◌, nat_lt, nat_le, not, is_none, Bool, true, false, List, Option, Some, None, Result, Ok, Err, if◌then◌else◌}
 use Rattle.mips_instruction.specs.declared.instruction.Ins.{Ins}
 use Rattle.mips_instruction.specs.Words.{read}
 use Rattle.mips_effect.specs.declared.effects.Effect.{Effect}
 use Rattle.mips_effect.specs.declared.seen.Mode.TheVariants.{Guest}
 use Rattle.mips_effect.specs.declared.seen.Seen.{Seen}
-use Rattle.mips_effect.specs.declared.wish.LoadKind.{LoadKind}
 use Rattle.mips_effect.specs.declared.wish.Wish.{Wish}
 use Rattle.mips_effect.specs.declared.wish.Wish.TheVariants as wish
 use Rattle.mips_effect.specs.Effects.{sources_of, effect_of, merge_of, set}
 use Rattle.xom_base.specs.declared.event.OwnFault.{OwnFault}
 use Rattle.xom_base.specs.declared.event.OwnFault.TheVariants as fault
 use Rattle.xom_base.specs.declared.step.Writes.{Writes}
+use Rattle.xom_base.specs.declared.step.Writes.TheVariants as writes
 use Rattle.xom_base.specs.declared.step.Stored.TheVariants as stored
 use Rattle.xom_base.specs.declared.step.Received.TheVariants as received
 use Rattle.xom_base.specs.declared.step.Released.TheVariants as released
@@ -32,32 +32,72 @@ known (Some ins) = Ok ins
 unfoldable pub fetched : List ℕ → ℕ → Result Ins OwnFault
 fetched bytes pc = if is_code pc then known (read (word_at bytes pc)) else Err fault.Address
 
--- what a fetched instruction comes to at a pair: its effect, or an own fault
-abbrev pub tried : (ℕ → Seen) → Result Ins OwnFault → ℕ → ℕ → Result Effect OwnFault
-tried see (Err fault) pc npc = Err fault
-tried see (Ok ins) pc npc = effect_of ins Guest (see (sources_of ins).0) (see (sources_of ins).1) (see (sources_of ins).2) pc npc
+-- the return from a signal goes to the pair that was kept, and is Reserved where none was; every other effect is as it is
+abbrev pub returns_to : Option (ℕ × ℕ) → Effect → Result Effect OwnFault
+returns_to None effect = Err fault.Reserved
+returns_to (Some pair) effect = Ok (record effect { pc = pair.0; npc = pair.1 })
+
+abbrev pub with_return : Option (ℕ × ℕ) → Effect → Wish → Result Effect OwnFault
+with_return kept effect wish.SigRet = returns_to kept effect
+with_return kept effect other = Ok effect
+
+abbrev pub returned : Option (ℕ × ℕ) → Result Effect OwnFault → Result Effect OwnFault
+returned kept (Err fault) = Err fault
+returned kept (Ok effect) = with_return kept effect effect.wish
+
+-- what a fetched instruction comes to at a pair, where a signal kept a pair or none: its effect, or an own fault
+abbrev pub tried : (ℕ → Seen) → Option (ℕ × ℕ) → Result Ins OwnFault → ℕ → ℕ → Result Effect OwnFault
+tried see kept (Err fault) pc npc = Err fault
+tried see kept (Ok ins) pc npc = returned kept (effect_of ins Guest (see (sources_of ins).0) (see (sources_of ins).1) (see (sources_of ins).2) pc npc)
+
+-- the handler, and the kept pair, after a wish
+abbrev pub handler_after : ℕ → Wish → ℕ
+handler_after handler (wish.Hand address) = address
+handler_after handler other = handler
+
+abbrev pub kept_after : Option (ℕ × ℕ) → Wish → Option (ℕ × ℕ)
+kept_after kept wish.SigRet = None
+kept_after kept other = kept
+
+-- a signal can be delivered: there is a handler, and no pair is kept
+abbrev pub is_signal_ready : ℕ → Option (ℕ × ℕ) → Bool
+is_signal_ready handler kept = not (handler == 0) && is_none kept
+
+-- signals are 1 to 63
+abbrev pub is_signal : ℕ → Bool
+is_signal n = nat_le 1 n && nat_le n 63
+
+-- the step of a signal that is delivered at a pair
+abbrev pub signal_step : ℕ → ℕ → ℕ → Step
+signal_step pc npc n = record { pc = pc; npc = npc; writes = writes.One 26 n; stored = stored.Nothing; received = received.Signal n; released = released.Nothing; end = ended.Goes }
 
 -- it takes a value from outside
 abbrev pub receives : Wish → Bool
 receives (wish.Receive reg from) = true
+receives (wish.NullLoad reg address) = true
 receives other = false
 
--- what a load gives, of the word that holds its address
-abbrev pub loaded : List ℕ → LoadKind → ℕ → ℕ → ℕ
-loaded bytes kind old address = merge_of kind old address (word_at bytes (address - address % 4))
+-- the word that a load is made of, the one that holds its address; 0 where nothing is loaded
+abbrev pub word_for : List ℕ → Wish → ℕ
+word_for bytes (wish.Load reg address kind old) = word_at bytes (address - address % 4)
+word_for bytes other = 0
 
--- the step of a wish at a pair, over private memory, where a value was received; a wish that never comes to a guest makes the step of none
-abbrev pub made : ℕ → ℕ → Writes → Wish → List ℕ → ℕ → Step
-made pc npc written wish.Nothing bytes got = record { pc = pc; npc = npc; writes = written; stored = stored.Nothing; received = received.Nothing; released = released.Nothing; end = ended.Goes }
-made pc npc written (wish.Load reg address kind old) bytes got = record { pc = pc; npc = npc; writes = set reg (loaded bytes kind old address); stored = stored.Nothing; received = received.Nothing; released = released.Nothing; end = ended.Goes }
-made pc npc written (wish.Store address count value) bytes got = record { pc = pc; npc = npc; writes = written; stored = stored.Bytes address count value; received = received.Nothing; released = released.Nothing; end = ended.Goes }
-made pc npc written (wish.Release reg value) bytes got = record { pc = pc; npc = npc; writes = written; stored = stored.Nothing; received = received.Nothing; released = released.Cell reg value; end = ended.Goes }
-made pc npc written (wish.Receive reg from) bytes got = record { pc = pc; npc = npc; writes = set reg got; stored = stored.Nothing; received = received.Cell got; released = released.Nothing; end = ended.Goes }
-made pc npc written wish.Exit bytes got = record { pc = pc; npc = npc; writes = written; stored = stored.Nothing; received = received.Nothing; released = released.Nothing; end = ended.Exit }
-made pc npc written (wish.Call code) bytes got = record { pc = pc; npc = npc; writes = written; stored = stored.Nothing; received = received.Nothing; released = released.Nothing; end = ended.Call code }
-made pc npc written (wish.Do operation) bytes got = record { pc = pc; npc = npc; writes = written; stored = stored.Nothing; received = received.Nothing; released = released.Nothing; end = ended.Goes }
-made pc npc written (wish.Ask reg what) bytes got = record { pc = pc; npc = npc; writes = written; stored = stored.Nothing; received = received.Nothing; released = released.Nothing; end = ended.Goes }
+-- the step of a wish at a pair, of the word that it loads, where a value was received; a wish that never comes to a guest makes the step of none
+abbrev pub made : ℕ → ℕ → Writes → Wish → ℕ → ℕ → Step
+made pc npc written wish.Nothing word got = record { pc = pc; npc = npc; writes = written; stored = stored.Nothing; received = received.Nothing; released = released.Nothing; end = ended.Goes }
+made pc npc written (wish.Load reg address kind old) word got = record { pc = pc; npc = npc; writes = set reg (merge_of kind old address word); stored = stored.Nothing; received = received.Nothing; released = released.Nothing; end = ended.Goes }
+made pc npc written (wish.Store address count value) word got = record { pc = pc; npc = npc; writes = written; stored = stored.Bytes address count value; received = received.Nothing; released = released.Nothing; end = ended.Goes }
+made pc npc written (wish.Release reg value) word got = record { pc = pc; npc = npc; writes = written; stored = stored.Nothing; received = received.Nothing; released = released.Cell reg value; end = ended.Goes }
+made pc npc written (wish.Receive reg from) word got = record { pc = pc; npc = npc; writes = set reg got; stored = stored.Nothing; received = received.Cell got; released = released.Nothing; end = ended.Goes }
+made pc npc written (wish.NullLoad reg address) word got = record { pc = pc; npc = npc; writes = set reg got; stored = stored.Nothing; received = received.Null address got; released = released.Nothing; end = ended.Goes }
+made pc npc written (wish.NullStore address value) word got = record { pc = pc; npc = npc; writes = written; stored = stored.Nothing; received = received.Nothing; released = released.Null address value; end = ended.Goes }
+made pc npc written (wish.Hand address) word got = record { pc = pc; npc = npc; writes = written; stored = stored.Nothing; received = received.Nothing; released = released.Nothing; end = ended.Goes }
+made pc npc written wish.SigRet word got = record { pc = pc; npc = npc; writes = written; stored = stored.Nothing; received = received.Nothing; released = released.Nothing; end = ended.Goes }
+made pc npc written wish.Exit word got = record { pc = pc; npc = npc; writes = written; stored = stored.Nothing; received = received.Nothing; released = released.Nothing; end = ended.Exit }
+made pc npc written (wish.Call code) word got = record { pc = pc; npc = npc; writes = written; stored = stored.Nothing; received = received.Nothing; released = released.Nothing; end = ended.Call code }
+made pc npc written (wish.Do operation) word got = record { pc = pc; npc = npc; writes = written; stored = stored.Nothing; received = received.Nothing; released = released.Nothing; end = ended.Goes }
+made pc npc written (wish.Ask reg what) word got = record { pc = pc; npc = npc; writes = written; stored = stored.Nothing; received = received.Nothing; released = released.Nothing; end = ended.Goes }
 
 -- the step that an effect makes
-unfoldable pub step_made : ℕ → ℕ → Effect → List ℕ → ℕ → Step
-step_made pc npc effect bytes got = made pc npc effect.writes effect.wish bytes got
+unfoldable pub step_made : ℕ → ℕ → Effect → ℕ → ℕ → Step
+step_made pc npc effect word got = made pc npc effect.writes effect.wish word got

@@ -1,5 +1,5 @@
 -- The plain machine: a program run alone, with nothing around it. There are no tags, keys, lines, pages or kernel in it.
-use Rattle.std.specs.Prelude.{ℕ, ◌+◌, ◌==◌, Bool, true, false, List, Result, Ok, Err, replicate, slice_set, slice_index_or, if◌then◌else◌}
+use Rattle.std.specs.Prelude.{ℕ, ◌+◌, ◌%◌, ◌^◌, ◌==◌, ◌&&◌, Bool, true, false, List, Option, Some, None, Result, Ok, Err, replicate, slice_set, slice_index_or, if◌then◌else◌}
 use Rattle.xom_base.specs.Padded.{filled}
 use Rattle.xom_base.specs.declared.event.OwnFault.{OwnFault}
 use Rattle.xom_base.specs.declared.image.PlainImage.{PlainImage}
@@ -20,7 +20,7 @@ use Rattle.mips_plain.specs.declared.given.Given.TheVariants as given
 use Rattle.mips_plain.specs.declared.given.PlainStep.{PlainStep}
 use Rattle.mips_plain.specs.declared.given.PlainStep.TheVariants.{Did, Fault, Unfit, Over}
 use Rattle.mips_plain.specs.Memory.{private_size, stored_in}
-use Rattle.mips_plain.specs.Instruction.{fetched, tried, receives, step_made}
+use Rattle.mips_plain.specs.Instruction.{fetched, tried, receives, step_made, word_for, handler_after, kept_after, is_signal, is_signal_ready, signal_step}
 
 -- the whole state. Cells have 34 places: $1 to $31, HI at 32 and LO at 33; place 0 isn't used
 pub record State : Type 0 where
@@ -28,11 +28,14 @@ pub record State : Type 0 where
   pub pc : ℕ
   pub npc : ℕ
   pub bytes : List ℕ
+  -- where signals are handled, 0 for nowhere, and the pair that a signal kept
+  pub handler : ℕ
+  pub kept : Option (ℕ × ℕ)
   pub over : Bool
 
 -- an image's program before its first step
 unfoldable pub start : PlainImage → State
-start image = record { cells = replicate 34 Lent; pc = image.entry; npc = image.entry + 4; bytes = filled private_size image.bytes; over = false }
+start image = record { cells = replicate 34 Lent; pc = image.entry; npc = image.entry + 4; bytes = filled private_size image.bytes; handler = 0; kept = None; over = false }
 
 -- the cell of a register
 abbrev pub cell_at : List PlainCell → ℕ → PlainCell
@@ -69,23 +72,33 @@ stepped s effect step = record {
   pc = effect.pc;
   npc = effect.npc;
   bytes = stored_in s.bytes step.stored;
+  handler = handler_after s.handler effect.wish;
+  kept = kept_after s.kept effect.wish;
   over = is_exit step.end;
 }
 
 -- the step of an effect is done, where a value was received
 abbrev pub did : State → Effect → ℕ → PlainStep × State
-did s effect got = (Did (step_made s.pc s.npc effect s.bytes got), stepped s effect (step_made s.pc s.npc effect s.bytes got))
+did s effect got =
+    (Did (step_made s.pc s.npc effect (word_for s.bytes effect.wish) got), stepped s effect (step_made s.pc s.npc effect (word_for s.bytes effect.wish) got))
+
+-- the state after a signal: the pair is kept, and the program goes on at its handler
+abbrev pub signalled : State → ℕ → State
+signalled s n = record s { cells = owned s.cells (writes.One 26 n); pc = s.handler; npc = (s.handler + 4) % 2 ^ 32; kept = Some (s.pc, s.npc) }
+
+abbrev pub signal_answered : State → ℕ → PlainStep × State
+signal_answered s n = if is_signal n && is_signal_ready s.handler s.kept then (Did (signal_step s.pc s.npc n), signalled s n) else (Unfit, s)
 
 -- an own fault comes before what is given is looked at, but for a signal; what is given has to fit
 abbrev pub answered : State → Given → Result Effect OwnFault → PlainStep × State
-answered s (given.Signal n) result = (Unfit, s)
+answered s (given.Signal n) result = signal_answered s n
 answered s given.Nothing (Err fault) = (Fault fault, s)
 answered s given.Nothing (Ok effect) = if receives effect.wish then (Unfit, s) else did s effect 0
 answered s (given.Value value) (Err fault) = (Fault fault, s)
 answered s (given.Value value) (Ok effect) = if receives effect.wish then did s effect value else (Unfit, s)
 
--- one step of the plain machine, given a value, a signal or nothing. No handler can be set yet, so no signal fits
+-- one step of the plain machine, given a value, a signal or nothing
 unfoldable pub plain : State → Given → PlainStep × State
 plain s given =
     if s.over then (Over, s)
-    else answered s given (tried (seen s.cells) (fetched s.bytes s.pc) s.pc s.npc)
+    else answered s given (tried (seen s.cells) s.kept (fetched s.bytes s.pc) s.pc s.npc)

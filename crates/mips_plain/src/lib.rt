@@ -14,7 +14,9 @@ mod verdict;
 
 pub use cell::PlainCell;
 pub use given::{Given, PlainStep};
-pub use instruction::{fetch, step_made};
+pub use instruction::{
+    fetch, handler_after, kept_after, returned, signal_step, step_made, takes_signal, word_for,
+};
 pub use law::verdict_is_a_run;
 pub use machine::Plain;
 pub use memory::Memory;

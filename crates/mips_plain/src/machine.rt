@@ -2,10 +2,13 @@ ghost use Rattle.std.specs.Prelude.{◌≡◌, ◌≤◌, ◌<◌, IfOk, length,
 ghost use Rattle.mips_effect.specs.Effects.{AreCells, Ranged};
 ghost use Rattle.mips_plain.specs.Instruction.{fetched, tried};
 ghost use Rattle.mips_plain.specs.Inside.{IsLent};
-ghost use Rattle.mips_plain.specs.Machine.{answered, cell_at, did, lent, owned, plain, seen as seen_at, start};
+ghost use Rattle.mips_plain.specs.Machine.{answered, cell_at, did, lent, owned, plain, seen as seen_at, signal_answered, start};
 ghost use Rattle.mips_plain.specs.Memory.{private_size};
 
-use crate::{Given, Memory, PlainCell, PlainStep, fetch, step_made};
+use crate::{
+    Given, Memory, PlainCell, PlainStep, fetch, handler_after, kept_after, returned, signal_step,
+    step_made, takes_signal, word_for,
+};
 use mips_effect::effects::Effect;
 use mips_effect::{Mode, Seen, Wish, effect, sources};
 use std::alloc::Global;
@@ -19,6 +22,8 @@ pub struct Plain {
     pc: u32,
     npc: u32,
     memory: Memory,
+    handler: u32,
+    kept: Option<(u32, u32)>,
     over: bool,
 }
 
@@ -27,7 +32,7 @@ impl Model for Plain {
 
     ghost Value = { State };
 
-    ghost view = { λ p. record { cells = p.cells; pc = p.pc; npc = p.npc; bytes = p.memory; over = p.over } };
+    ghost view = { λ p. record { cells = p.cells; pc = p.pc; npc = p.npc; bytes = p.memory; handler = p.handler; kept = p.kept; over = p.over } };
 }
 
 impl Plain {
@@ -44,6 +49,8 @@ impl Plain {
             pc: image.entry,
             npc: image.entry + 4,
             memory,
+            handler: 0,
+            kept: None,
             over: false,
         })
     }
@@ -57,8 +64,8 @@ impl Plain {
         if self.over {
             return PlainStep::Over;
         }
-        if let Given::Signal(_) = given {
-            return PlainStep::Unfit;
+        if let Given::Signal(signal) = given {
+            return self.take_signal(signal);
         }
         match self.effect() {
             Err(fault) => PlainStep::Fault(fault),
@@ -97,14 +104,30 @@ impl Plain {
         self.over
     }
 
+    /// Goes on at the handler, where the signal can be delivered.
+    fn take_signal(&mut self, signal: u32) -> PlainStep
+        ensures answer { result ≡ (signal_answered self.old signal).0 }
+        ensures state { self.new ≡ (signal_answered self.old signal).1 }
+    {
+        if !takes_signal(signal, self.handler, self.kept) {
+            return PlainStep::Unfit;
+        }
+        let step = signal_step(self.pc, self.npc, signal);
+        own(&mut self.cells, step.writes);
+        self.kept = Some((self.pc, self.npc));
+        self.pc = self.handler;
+        self.npc = self.handler.wrapping_add(4);
+        PlainStep::Did(step)
+    }
+
     /// What the instruction at the pair comes to.
     fn effect(&self) -> Result<Effect, OwnFault>
-        ensures value { result ≡ tried (seen_at self.now.cells) (fetched self.now.bytes self.now.pc) self.now.pc self.now.npc }
+        ensures value { result ≡ tried (seen_at self.now.cells) self.now.kept (fetched self.now.bytes self.now.pc) self.now.pc self.now.npc }
         ensures ranged { IfOk result Ranged }
     {
         let ins = fetch(&self.memory, self.pc)?;
         let (first, second, third) = sources(ins);
-        effect(
+        let effect = effect(
             ins,
             Mode::Guest,
             seen(&self.cells, first),
@@ -112,7 +135,8 @@ impl Plain {
             seen(&self.cells, third),
             self.pc,
             self.npc,
-        )
+        )?;
+        returned(effect, self.kept)
     }
 
     /// Does an effect, where what is given fits it.
@@ -121,11 +145,12 @@ impl Plain {
         ensures answer { result ≡ (answered self.old given (Ok effect.now)).0 }
         ensures state { self.new ≡ (answered self.old given (Ok effect.now)).1 }
     {
-        let receives = matches!(effect.wish, Wish::Receive { .. });
+        let receives = matches!(effect.wish, Wish::Receive { .. } | Wish::NullLoad { .. });
         match given {
             Given::Nothing if !receives => self.perform(effect, 0),
             Given::Value(value) if receives => self.perform(effect, value),
-            _ => PlainStep::Unfit,
+            Given::Signal(signal) => self.take_signal(signal),
+            Given::Nothing | Given::Value(_) => PlainStep::Unfit,
         }
     }
 
@@ -135,7 +160,8 @@ impl Plain {
         ensures answer { result ≡ (did self.old effect.now got).0 }
         ensures state { self.new ≡ (did self.old effect.now got).1 }
     {
-        let step = step_made(self.pc, self.npc, effect, &self.memory, got);
+        let word = word_for(&self.memory, effect);
+        let step = step_made(self.pc, self.npc, effect, word, got);
         own(&mut self.cells, step.writes);
         lend(&mut self.cells, step.released);
         if let Stored::Bytes {
@@ -148,6 +174,8 @@ impl Plain {
         }
         self.pc = effect.pc;
         self.npc = effect.npc;
+        self.handler = handler_after(self.handler, effect.wish);
+        self.kept = kept_after(self.kept, effect.wish);
         self.over = matches!(step.end, StepEnd::Exit);
         PlainStep::Did(step)
     }

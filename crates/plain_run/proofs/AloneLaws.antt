@@ -16,10 +16,10 @@ use Rattle.mips_plain.specs.Machine.{State, is_exit, plain, start}
 use Rattle.mips_plain.proofs.Runs.{runs_follow}
 use Rattle.plain_run.specs.declared.ending.PlainEnd.{PlainEnd}
 use Rattle.plain_run.specs.declared.ending.PlainEnd.TheVariants as ending
-use Rattle.plain_run.specs.Laws.{EndsByExit, OneRun, Receives, RunsAlone, Stops, value_in, values_in}
+use Rattle.plain_run.specs.Laws.{EndsByExit, NoSignals, OneRun, Receives, RunsAlone, Stops, is_signalled, value_in, values_in}
 use Rattle.plain_run.specs.Runs.{Run, after, goes_on, next, run_from, run_of, stops, with_value}
 use Rattle.plain_run.proofs.RunLaws.{none_more}
-use Rattle.plain_run.proofs.Steps.{exit_is, is_over, nothing_received, over_answers, over_of_exit, signal_unfit, unfit_receives, value_needed, value_received}
+use Rattle.plain_run.proofs.Steps.{exit_is, is_over, nothing_received, over_answers, over_of_exit, unfit_receives, value_needed}
 
 -- ---- what is next
 
@@ -85,6 +85,7 @@ record From (p : State) (count : ℕ) (values : List ℕ) (run : Run) : Type 0 w
   reaches : Reaches p run.steps state
   few : length run.steps ≤ count
   taken : values ≡ values_in run.steps ++ left
+  unsignalled : NoSignals run.steps
   stops_at : StopsAt run.end count run.steps state left
 
 -- a reason behind one more step
@@ -96,29 +97,37 @@ stops_later ending.Waiting count step steps p left h = (omega (arith, h.0), h.1,
 
 -- no step
 from_stops : (p : State) (count : ℕ) (values : List ℕ) (end : PlainEnd) → StopsAt end count [] p values → From p count values (stops end)
-from_stops p count values end why = record { state = p; left = values; reaches = refl; few = omega arith; taken = refl; stops_at = why }
+from_stops p count values end why = record { state = p; left = values; reaches = refl; few = omega arith; taken = refl; unsignalled = tt; stops_at = why }
 
 -- a value in front of two lists
 joined : (value : Option ℕ) (front behind : List ℕ) → cons_option value (front ++ behind) ≡ cons_option value front ++ behind
 joined None front behind = refl
 joined (Some value) front behind = refl
 
+-- a step that was given a value received it, and no signal
+given_value : (r : Received) (value : ℕ) → given_of r ≡ given.Value value → (value_in r ≡ Some value) × (is_signalled r ≡ false)
+given_value received.Nothing value is = absurd (cc)
+given_value (received.Cell v) value is = (cc, refl)
+given_value (received.Null address v) value is = (cc, refl)
+given_value (received.Signal n) value is = absurd (cc)
+
 -- one more step in front
 from_step : (p : State) (count : ℕ) (values others : List ℕ) (step : Step) (run : Run) → (plain p (given_of step.received)).0 ≡ Did step
-    → values ≡ cons_option (value_in step.received) others → From (plain p (given_of step.received)).1 count others run → From p (suc count) values (goes_on (Did step) run)
-from_step p count values others step run did is behind = record {
+    → values ≡ cons_option (value_in step.received) others → is_signalled step.received ≡ false → From (plain p (given_of step.received)).1 count others run → From p (suc count) values (goes_on (Did step) run)
+from_step p count values others step run did is no_signal behind = record {
   state = behind.state;
   left = behind.left;
   reaches = (did, behind.reaches);
   few = omega (arith, behind.few);
   taken = is ∙ (ap (cons_option (value_in step.received)) behind.taken ∙ joined (value_in step.received) (values_in run.steps) behind.left);
+  unsignalled = (no_signal, behind.unsignalled);
   stops_at = stops_later run.end count step run.steps behind.state behind.left behind.stops_at;
 }
 
 from_given : (p : State) (count : ℕ) (values others : List ℕ) (g : Given) (step : Step) (run : Run) → given_of step.received ≡ g → (plain p g).0 ≡ Did step
-    → values ≡ cons_option (value_in step.received) others → From (plain p g).1 count others run → From p (suc count) values (goes_on (Did step) run)
-from_given p count values others g step run is did taken behind =
-    from_step p count values others step run (ap (λ (g : Given). (plain p g).0) is ∙ did) taken
+    → values ≡ cons_option (value_in step.received) others → is_signalled step.received ≡ false → From (plain p g).1 count others run → From p (suc count) values (goes_on (Did step) run)
+from_given p count values others g step run is did taken no_signal behind =
+    from_step p count values others step run (ap (λ (g : Given). (plain p g).0) is ∙ did) taken no_signal
     (subst (λ (g : Given). From (plain p g).1 count others run) (sym is) behind)
 
 -- no further step may be made
@@ -133,16 +142,17 @@ from_next count p values (Did step) is behind =
     let nothing = nothing_received p step is in
     rw (run_did count p values step is)
     (from_given p count values values given.Nothing step (run_from count (plain p given.Nothing).1 values) (ap given_of nothing) is
-    (sym (ap (λ (r : Received). cons_option (value_in r) values) nothing)) (behind (plain p given.Nothing).1 values))
+    (sym (ap (λ (r : Received). cons_option (value_in r) values) nothing)) (ap is_signalled nothing) (behind (plain p given.Nothing).1 values))
 from_next count p values (Fault fault) is behind =
     rw (run_fault count p values fault is) (from_stops p (suc count) values (ending.Fault fault) (omega arith, is))
 from_next count p [] Unfit is behind =
     rw (run_waits count p is) (from_stops p (suc count) [] ending.Waiting (omega arith, refl, λ value. unfit_receives p value is))
 from_next count p (value ∷ values) Unfit is behind =
     let taken = unfit_receives p value is in
+    let came = given_value taken.0.received value taken.2 in
     rw (run_given count p value values taken.0 taken.1)
-    (from_given p count (value ∷ values) values (given.Value value) taken.0 (run_from count (plain p (given.Value value)).1 values) (ap given_of taken.2) taken.1
-    (sym (ap (λ (r : Received). cons_option (value_in r) values) taken.2)) (behind (plain p (given.Value value)).1 values))
+    (from_given p count (value ∷ values) values (given.Value value) taken.0 (run_from count (plain p (given.Value value)).1 values) taken.2 taken.1
+    (sym (ap (λ (o : Option ℕ). cons_option o values) came.0)) came.1 (behind (plain p (given.Value value)).1 values))
 from_next count p values Over is behind =
     rw (run_over count p values is) (from_stops p (suc count) values ending.Ended (is_over p is))
 
@@ -204,6 +214,7 @@ runs_alone image count values =
       follows = runs_follow (start image) (run_of image count values).steps from.state from.reaches;
       few = from.few;
       taken = from.taken;
+      unsignalled = from.unsignalled;
       stops = stops_so image (run_of image count values).end count (run_of image count values).steps from.state from.left from.reaches from.stops_at;
     }
 
@@ -231,24 +242,24 @@ stops_sooner (ending.Fault fault) count step steps p left h = (omega (arith, h.0
 stops_sooner ending.Waiting count step steps p left h = (omega (arith, h.0), h.1, h.2)
 
 -- one step of the run, by what it received
-one_step : (count : ℕ) (p : State) (values others : List ℕ) (step : Step) (got : Received) → step.received ≡ got → (plain p (given_of got)).0 ≡ Did step
+one_step : (count : ℕ) (p : State) (values others : List ℕ) (step : Step) (got : Received) → step.received ≡ got → is_signalled got ≡ false → (plain p (given_of got)).0 ≡ Did step
     → values ≡ cons_option (value_in got) others → run_from (suc count) p values ≡ goes_on (Did step) (run_from count (plain p (given_of got)).1 others)
-one_step count p values others step received.Nothing is did taken = rw taken (run_did count p others step did)
-one_step count p values others step (received.Cell value) is did taken = rw taken (run_given count p value others step did)
-one_step count p values others step (received.Null address value) is did taken = let cell = value_received p value step did in cc
-one_step count p values others step (received.Signal n) is did taken = absurd (signal_unfit p n step did)
+one_step count p values others step received.Nothing is no_signal did taken = rw taken (run_did count p others step did)
+one_step count p values others step (received.Cell value) is no_signal did taken = rw taken (run_given count p value others step did)
+one_step count p values others step (received.Null address value) is no_signal did taken = rw taken (run_given count p value others step did)
+one_step count p values others step (received.Signal n) is no_signal did taken = cc
 
-one_from : (steps : List Step) (end : PlainEnd) (count : ℕ) (p q : State) (values left : List ℕ) → Reaches p steps q → length steps ≤ count → values ≡ values_in steps ++ left
+one_from : (steps : List Step) (end : PlainEnd) (count : ℕ) (p q : State) (values left : List ℕ) → Reaches p steps q → length steps ≤ count → values ≡ values_in steps ++ left → NoSignals steps
     → StopsAt end count steps q left → record { steps = steps; end = end } ≡ run_from count p values
-one_from [] end count p q values left reaches few taken why =
+one_from [] end count p q values left reaches few taken no_signals why =
     one_stops p q count values end reaches (subst (λ (values : List ℕ). StopsAt end count [] q values) (sym taken) why)
-one_from (step ∷ steps) end zero p q values left reaches few taken why = absurd (omega arith)
-one_from (step ∷ steps) end (suc count) p q values left reaches few taken why =
-    let behind = one_from steps end count (plain p (given_of step.received)).1 q (values_in steps ++ left) left reaches.1 (omega arith) refl (stops_sooner end count step steps q left why) in
-    sym (one_step count p values (values_in steps ++ left) step step.received refl reaches.0 (taken ∙ sym (joined (value_in step.received) (values_in steps) left))
+one_from (step ∷ steps) end zero p q values left reaches few taken no_signals why = absurd (omega arith)
+one_from (step ∷ steps) end (suc count) p q values left reaches few taken no_signals why =
+    let behind = one_from steps end count (plain p (given_of step.received)).1 q (values_in steps ++ left) left reaches.1 (omega arith) refl no_signals.1 (stops_sooner end count step steps q left why) in
+    sym (one_step count p values (values_in steps ++ left) step step.received refl no_signals.0 reaches.0 (taken ∙ sym (joined (value_in step.received) (values_in steps) left))
     ∙ ap (goes_on (Did step)) (sym behind))
 
 pub one_run : OneRun
 one_run image count values run alone =
-    one_from run.steps run.end count (start image) alone.state values alone.left alone.reaches alone.few alone.taken
+    one_from run.steps run.end count (start image) alone.state values alone.left alone.reaches alone.few alone.taken alone.unsignalled
     (so_stops image run.end count run.steps alone.state alone.left alone.reaches alone.stops)

@@ -1,5 +1,5 @@
 -- What the plain machine answers where nothing, or a value, is given.
-use Rattle.std.proofs.Common.{◌≡◌, ℕ, Bool, true, false, if◌then◌else◌, List, Result, Ok, Err, refl, sym, ap, ◌∙◌}
+use Rattle.std.proofs.Common.{◌≡◌, ℕ, Bool, true, false, ◌&&◌, if◌then◌else◌, Result, Ok, Err, refl, sym, ap, ◌∙◌}
 use Rattle.xom_base.specs.declared.event.OwnFault.{OwnFault}
 use Rattle.xom_base.specs.declared.step.Writes.{Writes}
 use Rattle.xom_base.specs.declared.step.Received.TheVariants as received
@@ -13,8 +13,9 @@ use Rattle.mips_plain.specs.declared.given.Given.{Given}
 use Rattle.mips_plain.specs.declared.given.Given.TheVariants as given
 use Rattle.mips_plain.specs.declared.given.PlainStep.{PlainStep}
 use Rattle.mips_plain.specs.declared.given.PlainStep.TheVariants.{Did, Unfit, Over}
-use Rattle.mips_plain.specs.Instruction.{fetched, made, receives, step_made, tried}
-use Rattle.mips_plain.specs.Machine.{State, answered, did, is_exit, plain, seen}
+use Rattle.mips_plain.specs.Instruction.{fetched, is_signal, is_signal_ready, made, receives, signal_step, step_made, tried, word_for}
+use Rattle.mips_plain.specs.Follows.{given_of}
+use Rattle.mips_plain.specs.Machine.{State, answered, did, is_exit, plain, seen, signalled}
 
 -- of two answers, where the one that is no step changes nothing
 chosen_stays : (b : Bool) (s : State) (x y : PlainStep × State) → (x.0 ≡ Unfit → x.1 ≡ s) → (y.0 ≡ Unfit → y.1 ≡ s) → (if b then x else y).0 ≡ Unfit → (if b then x else y).1 ≡ s
@@ -25,7 +26,8 @@ did_stays : (s : State) (effect : Effect) (got : ℕ) → (did s effect got).0 �
 did_stays s effect got unfit = cc
 
 answered_stays : (s : State) (g : Given) (r : Result Effect OwnFault) → (answered s g r).0 ≡ Unfit → (answered s g r).1 ≡ s
-answered_stays s (given.Signal n) r unfit = refl
+answered_stays s (given.Signal n) r unfit =
+    chosen_stays (is_signal n && is_signal_ready s.handler s.kept) s (Did (signal_step s.pc s.npc n), signalled s n) (Unfit, s) (λ h. cc) (λ h. refl) unfit
 answered_stays s given.Nothing (Err fault) unfit = refl
 answered_stays s given.Nothing (Ok effect) unfit = chosen_stays (receives effect.wish) s (Unfit, s) (did s effect 0) (λ h. refl) (did_stays s effect 0) unfit
 answered_stays s (given.Value value) (Err fault) unfit = refl
@@ -35,45 +37,57 @@ answered_stays s (given.Value value) (Ok effect) unfit = chosen_stays (receives 
 pub unfit_stays : (s : State) (g : Given) → (plain s g).0 ≡ Unfit → (plain s g).1 ≡ s
 unfolding plain
 unfit_stays s g unfit =
-    chosen_stays s.over s (Over, s) (answered s g (tried (seen s.cells) (fetched s.bytes s.pc) s.pc s.npc)) (λ h. refl)
-    (answered_stays s g (tried (seen s.cells) (fetched s.bytes s.pc) s.pc s.npc)) unfit
+    chosen_stays s.over s (Over, s) (answered s g (tried (seen s.cells) s.kept (fetched s.bytes s.pc) s.pc s.npc)) (λ h. refl)
+    (answered_stays s g (tried (seen s.cells) s.kept (fetched s.bytes s.pc) s.pc s.npc)) unfit
 
 -- ---- what a step received
 
-made_nothing : (pc npc : ℕ) (written : Writes) (w : Wish) (bytes : List ℕ) (got : ℕ) → receives w ≡ false → (made pc npc written w bytes got).received ≡ received.Nothing
-made_nothing pc npc written wish.Nothing bytes got h = refl
-made_nothing pc npc written (wish.Load reg address kind old) bytes got h = refl
-made_nothing pc npc written (wish.Store address count value) bytes got h = refl
-made_nothing pc npc written (wish.Release reg value) bytes got h = refl
-made_nothing pc npc written (wish.Receive reg from) bytes got h = cc
-made_nothing pc npc written wish.Exit bytes got h = refl
-made_nothing pc npc written (wish.Call code) bytes got h = refl
-made_nothing pc npc written (wish.Do operation) bytes got h = refl
-made_nothing pc npc written (wish.Ask reg what) bytes got h = refl
+made_nothing : (pc npc : ℕ) (written : Writes) (w : Wish) (word got : ℕ) → receives w ≡ false → (made pc npc written w word got).received ≡ received.Nothing
+made_nothing pc npc written wish.Nothing word got h = refl
+made_nothing pc npc written (wish.Load reg address kind old) word got h = refl
+made_nothing pc npc written (wish.Store address count value) word got h = refl
+made_nothing pc npc written (wish.Release reg value) word got h = refl
+made_nothing pc npc written (wish.Receive reg from) word got h = cc
+made_nothing pc npc written (wish.NullLoad reg address) word got h = cc
+made_nothing pc npc written (wish.NullStore address value) word got h = refl
+made_nothing pc npc written (wish.Hand address) word got h = refl
+made_nothing pc npc written wish.SigRet word got h = refl
+made_nothing pc npc written wish.Exit word got h = refl
+made_nothing pc npc written (wish.Call code) word got h = refl
+made_nothing pc npc written (wish.Do operation) word got h = refl
+made_nothing pc npc written (wish.Ask reg what) word got h = refl
 
-made_cell : (pc npc : ℕ) (written : Writes) (w : Wish) (bytes : List ℕ) (got : ℕ) → receives w ≡ true → (made pc npc written w bytes got).received ≡ received.Cell got
-made_cell pc npc written wish.Nothing bytes got h = cc
-made_cell pc npc written (wish.Load reg address kind old) bytes got h = cc
-made_cell pc npc written (wish.Store address count value) bytes got h = cc
-made_cell pc npc written (wish.Release reg value) bytes got h = cc
-made_cell pc npc written (wish.Receive reg from) bytes got h = refl
-made_cell pc npc written wish.Exit bytes got h = cc
-made_cell pc npc written (wish.Call code) bytes got h = cc
-made_cell pc npc written (wish.Do operation) bytes got h = cc
-made_cell pc npc written (wish.Ask reg what) bytes got h = cc
+made_given : (pc npc : ℕ) (written : Writes) (w : Wish) (word got : ℕ) → receives w ≡ true → given_of (made pc npc written w word got).received ≡ given.Value got
+made_given pc npc written wish.Nothing word got h = cc
+made_given pc npc written (wish.Load reg address kind old) word got h = cc
+made_given pc npc written (wish.Store address count value) word got h = cc
+made_given pc npc written (wish.Release reg value) word got h = cc
+made_given pc npc written (wish.Receive reg from) word got h = refl
+made_given pc npc written (wish.NullLoad reg address) word got h = refl
+made_given pc npc written (wish.NullStore address value) word got h = cc
+made_given pc npc written (wish.Hand address) word got h = cc
+made_given pc npc written wish.SigRet word got h = cc
+made_given pc npc written wish.Exit word got h = cc
+made_given pc npc written (wish.Call code) word got h = cc
+made_given pc npc written (wish.Do operation) word got h = cc
+made_given pc npc written (wish.Ask reg what) word got h = cc
+
+-- the step that an effect does, where a value was received
+abbrev done : State → Effect → ℕ → Step
+done s effect got = step_made s.pc s.npc effect (word_for s.bytes effect.wish) got
 
 -- the step of an effect that doesn't receive
-step_nothing : (s : State) (effect : Effect) (got : ℕ) → receives effect.wish ≡ false → (step_made s.pc s.npc effect s.bytes got).received ≡ received.Nothing
+step_nothing : (s : State) (effect : Effect) (got : ℕ) → receives effect.wish ≡ false → (done s effect got).received ≡ received.Nothing
 unfolding step_made
-step_nothing s effect got h = made_nothing s.pc s.npc effect.writes effect.wish s.bytes got h
+step_nothing s effect got h = made_nothing s.pc s.npc effect.writes effect.wish (word_for s.bytes effect.wish) got h
 
 -- the step of an effect that receives
-step_cell : (s : State) (effect : Effect) (got : ℕ) → receives effect.wish ≡ true → (step_made s.pc s.npc effect s.bytes got).received ≡ received.Cell got
+step_given : (s : State) (effect : Effect) (got : ℕ) → receives effect.wish ≡ true → given_of (done s effect got).received ≡ given.Value got
 unfolding step_made
-step_cell s effect got h = made_cell s.pc s.npc effect.writes effect.wish s.bytes got h
+step_given s effect got h = made_given s.pc s.npc effect.writes effect.wish (word_for s.bytes effect.wish) got h
 
 -- the step that an effect does is the one that is answered
-same_did : (s : State) (effect : Effect) (got : ℕ) (step : Step) → (did s effect got).0 ≡ Did step → step_made s.pc s.npc effect s.bytes got ≡ step
+same_did : (s : State) (effect : Effect) (got : ℕ) (step : Step) → (did s effect got).0 ≡ Did step → done s effect got ≡ step
 same_did s effect got step h = cc
 
 -- ---- answers by whether the effect receives
@@ -88,13 +102,13 @@ nothing_to-did : (s : State) (effect : Effect) (step : Step) (b : Bool) → rece
 nothing_to-did s effect step true is h = cc
 nothing_to-did s effect step false is h = ap (λ (step : Step). step.received) (sym (same_did s effect 0 step h)) ∙ step_nothing s effect 0 is
 
-value_to-did : (s : State) (effect : Effect) (value : ℕ) (step : Step) (b : Bool) → receives effect.wish ≡ b → (value_to s effect value b).0 ≡ Did step → step.received ≡ received.Cell value
-value_to-did s effect value step true is h = ap (λ (step : Step). step.received) (sym (same_did s effect value step h)) ∙ step_cell s effect value is
+value_to-did : (s : State) (effect : Effect) (value : ℕ) (step : Step) (b : Bool) → receives effect.wish ≡ b → (value_to s effect value b).0 ≡ Did step → given_of step.received ≡ given.Value value
+value_to-did s effect value step true is h = ap (λ (step : Step). given_of step.received) (sym (same_did s effect value step h)) ∙ step_given s effect value is
 value_to-did s effect value step false is h = cc
 
 nothing_to-unfit : (s : State) (effect : Effect) (value : ℕ) (b : Bool) → receives effect.wish ≡ b → (nothing_to s effect b).0 ≡ Unfit
-    → (step : Step) × ((value_to s effect value b).0 ≡ Did step) × (step.received ≡ received.Cell value)
-nothing_to-unfit s effect value true is h = (step_made s.pc s.npc effect s.bytes value, refl, step_cell s effect value is)
+    → (step : Step) × ((value_to s effect value b).0 ≡ Did step) × (given_of step.received ≡ given.Value value)
+nothing_to-unfit s effect value true is h = (done s effect value, refl, step_given s effect value is)
 nothing_to-unfit s effect value false is h = cc
 
 value_to-needed : (s : State) (effect : Effect) (value : ℕ) (step : Step) (b : Bool) → (value_to s effect value b).0 ≡ Did step → (nothing_to s effect b).0 ≡ Unfit
@@ -111,13 +125,13 @@ told-nothing s true r step h = cc
 told-nothing s false (Err fault) step h = cc
 told-nothing s false (Ok effect) step h = nothing_to-did s effect step (receives effect.wish) refl h
 
-told-value : (s : State) (over : Bool) (r : Result Effect OwnFault) (value : ℕ) (step : Step) → (told s over r (given.Value value)).0 ≡ Did step → step.received ≡ received.Cell value
+told-value : (s : State) (over : Bool) (r : Result Effect OwnFault) (value : ℕ) (step : Step) → (told s over r (given.Value value)).0 ≡ Did step → given_of step.received ≡ given.Value value
 told-value s true r value step h = cc
 told-value s false (Err fault) value step h = cc
 told-value s false (Ok effect) value step h = value_to-did s effect value step (receives effect.wish) refl h
 
 told-receives : (s : State) (over : Bool) (r : Result Effect OwnFault) (value : ℕ) → (told s over r given.Nothing).0 ≡ Unfit
-    → (step : Step) × ((told s over r (given.Value value)).0 ≡ Did step) × (step.received ≡ received.Cell value)
+    → (step : Step) × ((told s over r (given.Value value)).0 ≡ Did step) × (given_of step.received ≡ given.Value value)
 told-receives s true r value h = cc
 told-receives s false (Err fault) value h = cc
 told-receives s false (Ok effect) value h = nothing_to-unfit s effect value (receives effect.wish) refl h
@@ -126,10 +140,6 @@ told-needed : (s : State) (over : Bool) (r : Result Effect OwnFault) (value : �
 told-needed s true r value step h = cc
 told-needed s false (Err fault) value step h = cc
 told-needed s false (Ok effect) value step h = value_to-needed s effect value step (receives effect.wish) h
-
-told-signal : (s : State) (over : Bool) (r : Result Effect OwnFault) (n : ℕ) (step : Step) → (told s over r (given.Signal n)).0 ≡ Did step → ⊥
-told-signal s true r n step h = cc
-told-signal s false r n step h = cc
 
 -- the state behind a step is over where the step is an exit
 over_behind : (s : State) (effect : Effect) (got : ℕ) (step : Step) → (did s effect got).0 ≡ Did step → (did s effect got).1.over ≡ is_exit step.end
@@ -143,13 +153,21 @@ value_to-over : (s : State) (effect : Effect) (value : ℕ) (step : Step) (b : B
 value_to-over s effect value step true h = over_behind s effect value step h
 value_to-over s effect value step false h = cc
 
-told-over : (s : State) (over : Bool) (r : Result Effect OwnFault) (g : Given) (step : Step) → (told s over r g).0 ≡ Did step → (told s over r g).1.over ≡ is_exit step.end
-told-over s true r g step h = cc
-told-over s false r (given.Signal n) step h = cc
-told-over s false (Err fault) given.Nothing step h = cc
-told-over s false (Ok effect) given.Nothing step h = nothing_to-over s effect step (receives effect.wish) h
-told-over s false (Err fault) (given.Value value) step h = cc
-told-over s false (Ok effect) (given.Value value) step h = value_to-over s effect value step (receives effect.wish) h
+-- a signal is no exit
+abbrev signal_to : State → ℕ → Bool → PlainStep × State
+signal_to s n ready = if ready then (Did (signal_step s.pc s.npc n), signalled s n) else (Unfit, s)
+
+signal-over : (s : State) (n : ℕ) (ready : Bool) (step : Step) → s.over ≡ false → (signal_to s n ready).0 ≡ Did step → (signal_to s n ready).1.over ≡ is_exit step.end
+signal-over s n true step going h = let same : signal_step s.pc s.npc n ≡ step = cc in going ∙ ap (λ (step : Step). is_exit step.end) same
+signal-over s n false step going h = cc
+
+told-over : (s : State) (over : Bool) (r : Result Effect OwnFault) (g : Given) (step : Step) → s.over ≡ over → (told s over r g).0 ≡ Did step → (told s over r g).1.over ≡ is_exit step.end
+told-over s true r g step is h = cc
+told-over s false r (given.Signal n) step is h = signal-over s n (is_signal n && is_signal_ready s.handler s.kept) step is h
+told-over s false (Err fault) given.Nothing step is h = cc
+told-over s false (Ok effect) given.Nothing step is h = nothing_to-over s effect step (receives effect.wish) h
+told-over s false (Err fault) (given.Value value) step is h = cc
+told-over s false (Ok effect) (given.Value value) step is h = value_to-over s effect value step (receives effect.wish) h
 
 nothing_to-not_over : (s : State) (effect : Effect) (b : Bool) → (nothing_to s effect b).0 ≡ Over → ⊥
 nothing_to-not_over s effect true h = cc
@@ -168,20 +186,20 @@ over-told s false r g h = cc
 
 -- what the instruction at the pair comes to
 abbrev at_pair : State → Result Effect OwnFault
-at_pair s = tried (seen s.cells) (fetched s.bytes s.pc) s.pc s.npc
+at_pair s = tried (seen s.cells) s.kept (fetched s.bytes s.pc) s.pc s.npc
 
 -- a step to which nothing was given received nothing
 pub nothing_received : (s : State) (step : Step) → (plain s given.Nothing).0 ≡ Did step → step.received ≡ received.Nothing
 unfolding plain
 nothing_received s step h = told-nothing s s.over (at_pair s) step h
 
--- a step to which a value was given received it
-pub value_received : (s : State) (value : ℕ) (step : Step) → (plain s (given.Value value)).0 ≡ Did step → step.received ≡ received.Cell value
+-- a step to which a value was given was given that one
+pub value_received : (s : State) (value : ℕ) (step : Step) → (plain s (given.Value value)).0 ≡ Did step → given_of step.received ≡ given.Value value
 unfolding plain
 value_received s value step h = told-value s s.over (at_pair s) value step h
 
 -- where nothing doesn't fit, each value does
-pub unfit_receives : (s : State) (value : ℕ) → (plain s given.Nothing).0 ≡ Unfit → (step : Step) × ((plain s (given.Value value)).0 ≡ Did step) × (step.received ≡ received.Cell value)
+pub unfit_receives : (s : State) (value : ℕ) → (plain s given.Nothing).0 ≡ Unfit → (step : Step) × ((plain s (given.Value value)).0 ≡ Did step) × (given_of step.received ≡ given.Value value)
 unfolding plain
 unfit_receives s value h = told-receives s s.over (at_pair s) value h
 
@@ -190,15 +208,10 @@ pub value_needed : (s : State) (value : ℕ) (step : Step) → (plain s (given.V
 unfolding plain
 value_needed s value step h = told-needed s s.over (at_pair s) value step h
 
--- no step is given a signal
-pub signal_unfit : (s : State) (n : ℕ) (step : Step) → (plain s (given.Signal n)).0 ≡ Did step → ⊥
-unfolding plain
-signal_unfit s n step h = told-signal s s.over (at_pair s) n step h
-
 -- behind a step the machine is over where the step is an exit
 pub over_of_exit : (s : State) (g : Given) (step : Step) → (plain s g).0 ≡ Did step → (plain s g).1.over ≡ is_exit step.end
 unfolding plain
-over_of_exit s g step h = told-over s s.over (at_pair s) g step h
+over_of_exit s g step h = told-over s s.over (at_pair s) g step refl h
 
 -- a machine that says that it is over is
 pub is_over : (s : State) → (plain s given.Nothing).0 ≡ Over → s.over ≡ true

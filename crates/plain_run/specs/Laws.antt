@@ -1,5 +1,5 @@
 -- What a run alone is: the steps of the plain machine, as far as they may go.
-use Rattle.std.specs.Prelude.{◌≡◌, ℕ, ◌≤◌, ◌<◌, false, List, [], ◌∷◌, ◌++◌, length, Option, Some, None}
+use Rattle.std.specs.Prelude.{◌≡◌, ℕ, ◌≤◌, ◌<◌, Bool, true, false, List, [], ◌∷◌, ◌++◌, length, Option, Some, None}
 use Rattle.std.specs.List.{filter_map}
 use Rattle.xom_base.specs.declared.image.PlainImage.{PlainImage}
 use Rattle.xom_base.specs.declared.step.Received.{Received}
@@ -9,7 +9,7 @@ use Rattle.xom_base.specs.declared.step.Step.{Step}
 use Rattle.mips_plain.specs.declared.given.Given.TheVariants as given
 use Rattle.mips_plain.specs.declared.given.PlainStep.TheVariants.{Did, Fault}
 use Rattle.mips_plain.specs.declared.verdict.Verdict.TheVariants.{Follows}
-use Rattle.mips_plain.specs.Follows.{Reaches, verdict_from}
+use Rattle.mips_plain.specs.Follows.{given_of, Reaches, verdict_from}
 use Rattle.mips_plain.specs.Machine.{State, plain, start}
 use Rattle.plain_run.specs.declared.ending.PlainEnd.{PlainEnd}
 use Rattle.plain_run.specs.declared.ending.PlainEnd.TheVariants as ending
@@ -22,6 +22,18 @@ value_in (received.Cell value) = Some value
 value_in (received.Null address value) = Some value
 value_in (received.Signal n) = None
 
+-- a signal came
+abbrev pub is_signalled : Received → Bool
+is_signalled received.Nothing = false
+is_signalled (received.Cell value) = false
+is_signalled (received.Null address value) = false
+is_signalled (received.Signal n) = true
+
+-- no signal came for any of the steps
+abbrev pub NoSignals : List Step → Type 0
+NoSignals [] = Unit {0}
+NoSignals (step ∷ steps) = (is_signalled step.received ≡ false) × NoSignals steps
+
 -- the values that steps received, in their order
 abbrev pub values_in : List Step → List ℕ
 values_in steps = filter_map (λ step. value_in step.received) steps
@@ -30,9 +42,9 @@ values_in steps = filter_map (λ step. value_in step.received) steps
 abbrev pub EndsByExit : List Step → Type 0
 EndsByExit steps = (before : List Step) × (last : Step) × (steps ≡ before ++ last ∷ []) × (last.end ≡ ended.Exit)
 
--- the next instruction receives: whatever value it is given, it does a step that received it
+-- the next instruction receives: whatever value it is given, it does a step that was given that value
 abbrev pub Receives : State → Type 0
-Receives p = (value : ℕ) → (step : Step) × ((plain p (given.Value value)).0 ≡ Did step) × (step.received ≡ received.Cell value)
+Receives p = (value : ℕ) → (step : Step) × ((plain p (given.Value value)).0 ≡ Did step) × (given_of step.received ≡ given.Value value)
 
 -- Why a run of at most so many steps stopped, which made these steps to state p, with these values left.
 abbrev pub Stops : PlainEnd → ℕ → List Step → State → List ℕ → Type 0
@@ -42,7 +54,8 @@ Stops (ending.Fault fault) count steps p left = (length steps < count) × ((plai
 Stops ending.Waiting count steps p left = (length steps < count) × (left ≡ []) × Receives p
 
 -- A run is the image's program alone: its steps are those of the plain machine and so follow, all of them; they are
--- at most so many; what they received are the given values from the first on; and it stopped for the reason that it says.
+-- at most so many; what they received are the given values from the first on, and no signal; and it stopped for the
+-- reason that it says.
 pub record IsAlone (image : PlainImage) (count : ℕ) (values : List ℕ) (run : Run) : Type 0 where
   pub state : State
   pub left : List ℕ
@@ -50,6 +63,7 @@ pub record IsAlone (image : PlainImage) (count : ℕ) (values : List ℕ) (run :
   pub follows : verdict_from (start image) run.steps 0 ≡ Follows (length run.steps)
   pub few : length run.steps ≤ count
   pub taken : values ≡ values_in run.steps ++ left
+  pub unsignalled : NoSignals run.steps
   pub stops : Stops run.end count run.steps state left
 
 -- what is printed is the run of a program alone

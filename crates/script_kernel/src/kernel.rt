@@ -2,9 +2,9 @@ ghost use Rattle.std.specs.Prelude.{◌≡◌, true};
 ghost use Rattle.script_kernel.specs.Turns.{is_built, is_built_line, is_built_op, ops_of};
 ghost use Rattle.xom_script.specs.declared.script_line.ScriptLine.TheVariants as script_line;
 
+use lone_machine::{Kernel, View};
 use std::marker::Model;
 use xom_base::{Op, Turn};
-use lone_machine::{Kernel, View};
 use xom_script::{Script, ScriptLine};
 
 /// A kernel that gives the operations of a script, one a turn, and then Halt. Contracts see the

@@ -3,7 +3,9 @@
 //! - `load r10 word 000ffffc 00000000`: the register, the kind of load, the address, and what the
 //!   register had where the load keeps a part of it, else 0.
 //! - `store 000fffff 1 00000044`: the address, the number of bytes, and the bytes as one value.
+//! - `load_null r9 00100104`, `store_null 00100104 aabbccdd`: a word of RAM at an address.
 //! - `release r8 00000007`, `receive r6 r7`, `exit`, `call 3`, `ask r10 who`
+//! - `hand 00000040`: the handler of signals. `sigret`: the return from one.
 //! - `do install 00000131 00000002 00000003`: an operation and its values.
 
 use crate::line::Line;
@@ -49,6 +51,13 @@ fn push_register(line: &mut Line, name: &str, reg: u8) {
 fn push_request(line: &mut Line, wish: Wish) {
     match wish {
         Wish::Nothing | Wish::Load { .. } | Wish::Store { .. } => {}
+        Wish::NullLoad { reg, address } => {
+            push_register(line, "load_null", reg);
+            line.value(address);
+        }
+        Wish::NullStore { address, value } => push_values(line, "store_null", &[address, value]),
+        Wish::Hand(address) => push_values(line, "hand", &[address]),
+        Wish::SigRet => line.word("sigret"),
         Wish::Release { reg, value } => {
             push_register(line, "release", reg);
             line.value(value);
