@@ -1,0 +1,14 @@
+pub mod Whole
+pub mod Dividing
+pub mod OneQuotient
+pub mod Multiplying
+pub mod Adding
+pub mod Comparing
+pub mod Shifting
+pub mod Bytes
+pub mod Steps
+pub mod Halves
+pub mod Storing
+pub mod ReadingBack
+pub mod Owning
+pub mod Branching

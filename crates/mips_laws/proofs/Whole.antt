@@ -1,0 +1,78 @@
+-- Numbers of 32 and 64 bits as whole numbers, and back.
+use Rattle.std.proofs.Common.{◌≡◌, ℕ, suc, ◌-◌, ◌^◌, ◌<◌, ◌≤◌, nat_lt, ℤ, pos, negsuc, ◌-ℤ◌, sym, subst, arith, FitsSigned}
+use Rattle.std.proofs.lemmas.Bool.{cond_both, ltb-true, ltb-false}
+use Rattle.std.proofs.lemmas.Int.{ints}
+use Rattle.std.specs.Prelude.{unsigned_abs}
+use Rattle.std.specs.Int.{w32, w64}
+use Rattle.mips_instruction.specs.Numbers.{signed, signed_8, signed_16, reduced, reduced_64, extended}
+use Rattle.mips_laws.specs.Products.{signed_64}
+
+-- a number of 32 bits is held by 32 signed bits
+pub signed-fits : (n : ℕ) → n < 2 ^ 32 → FitsSigned w32 (signed n)
+signed-fits n below =
+    cond_both (nat_lt n (2 ^ 31)) _ _ (FitsSigned w32)
+    (λ low. record { sfits = ltb-true n (2 ^ 31) low })
+    (λ high.
+    let large : 2 ^ 31 ≤ n = ltb-false n (2 ^ 31) high in
+    let is : pos n -ℤ pos (2 ^ 32) ≡ negsuc (2 ^ 32 - suc n) = omega (arith, ints) in
+    subst (FitsSigned w32) (sym is) (record { sfits = omega arith }))
+
+-- a whole number in 32 bits
+pub reduced-below : (z : ℤ) → reduced z < 2 ^ 32
+reduced-below (pos n) = omega arith
+reduced-below (negsuc n) = omega arith
+
+-- where 32 signed bits hold it, the bits stand for it
+pub signed-reduced : (z : ℤ) → FitsSigned w32 z → signed (reduced z) ≡ z
+signed-reduced (pos n) fits = let small : n < 2 ^ 31 = fits.sfits in grind (arith, ints)
+signed-reduced (negsuc n) fits = let small : n < 2 ^ 31 = fits.sfits in grind (arith, ints)
+
+-- the same of 64 bits
+pub reduced_64-below : (z : ℤ) → reduced_64 z < 2 ^ 64
+reduced_64-below (pos n) = omega arith
+reduced_64-below (negsuc n) = omega arith
+
+pub signed_64-reduced : (z : ℤ) → FitsSigned w64 z → signed_64 (reduced_64 z) ≡ z
+signed_64-reduced (pos n) fits = let small : n < 2 ^ 63 = fits.sfits in grind (arith, ints)
+signed_64-reduced (negsuc n) fits = let small : n < 2 ^ 63 = fits.sfits in grind (arith, ints)
+
+-- how large a number of 32 signed bits is
+pub unsigned_abs-fits : (z : ℤ) → FitsSigned w32 z → unsigned_abs z ≤ 2 ^ 31
+unsigned_abs-fits (pos n) fits = omega (arith, fits.sfits)
+unsigned_abs-fits (negsuc n) fits = omega (arith, fits.sfits)
+
+-- a number that isn't 0 stands for none that is 0
+pub signed-size : (n : ℕ) → n < 2 ^ 32 → (n ≡ 0 → ⊥) → 0 < unsigned_abs (signed n)
+signed-size n below not_zero =
+    cond_both (nat_lt n (2 ^ 31)) _ _ (λ z. 0 < unsigned_abs z)
+    (λ low. omega (arith, not_zero))
+    (λ high.
+    let large : 2 ^ 31 ≤ n = ltb-false n (2 ^ 31) high in
+    let is : pos n -ℤ pos (2 ^ 32) ≡ negsuc (2 ^ 32 - suc n) = omega (arith, ints) in
+    subst (λ z. 0 < unsigned_abs z) (sym is) (omega arith))
+
+-- an immediate extended by its sign stands for the same number
+signed_16-fits : (n : ℕ) → n < 2 ^ 16 → FitsSigned w32 (signed_16 n)
+signed_16-fits n below =
+    cond_both (nat_lt n (2 ^ 15)) _ _ (FitsSigned w32)
+    (λ low. record { sfits = omega (arith, ltb-true n (2 ^ 15) low) })
+    (λ high.
+    let large : 2 ^ 15 ≤ n = ltb-false n (2 ^ 15) high in
+    let is : pos n -ℤ pos (2 ^ 16) ≡ negsuc (2 ^ 16 - suc n) = omega (arith, ints) in
+    subst (FitsSigned w32) (sym is) (record { sfits = omega arith }))
+
+pub signed-extended : (imm : ℕ) → imm < 2 ^ 16 → signed (extended imm) ≡ signed_16 imm
+signed-extended imm below = signed-reduced (signed_16 imm) (signed_16-fits imm below)
+
+-- and so does a byte
+signed_8-fits : (n : ℕ) → n < 2 ^ 8 → FitsSigned w32 (signed_8 n)
+signed_8-fits n below =
+    cond_both (nat_lt n (2 ^ 7)) _ _ (FitsSigned w32)
+    (λ low. record { sfits = omega (arith, ltb-true n (2 ^ 7) low) })
+    (λ high.
+    let large : 2 ^ 7 ≤ n = ltb-false n (2 ^ 7) high in
+    let is : pos n -ℤ pos (2 ^ 8) ≡ negsuc (2 ^ 8 - suc n) = omega (arith, ints) in
+    subst (FitsSigned w32) (sym is) (record { sfits = omega arith }))
+
+pub signed-byte : (n : ℕ) → n < 2 ^ 8 → signed (reduced (signed_8 n)) ≡ signed_8 n
+signed-byte n below = signed-reduced (signed_8 n) (signed_8-fits n below)

@@ -1,0 +1,11 @@
+pub mod Acts
+pub mod Owned
+pub mod Accesses
+pub mod Division
+pub mod Products
+pub mod Unaligned
+pub mod ReadBack
+pub mod Sums
+pub mod Shifts
+pub mod Comparisons
+pub mod Branches
