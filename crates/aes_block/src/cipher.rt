@@ -1,10 +1,10 @@
 //! The rounds, FIPS 197, 5.1, on a state of four words: its columns, the first byte of each the highest.
 
-ghost use Rattle.std.specs.Prelude.{◌≡◌, ◌<◌};
+ghost use Rattle.std.specs.Prelude.{◌≡◌, ◌<◌, [], ◌∷◌};
 ghost use Rattle.std.specs.Int.{w32, to_be_bytes};
 ghost use Rattle.aes_block.specs.Cipher.{cipher, round_of, rounds_of};
-ghost use Rattle.aes_block.specs.Columns.{bytes_of, mixed_column as mixed_column_of, shifted_column as shifted_column_of, words_in};
-ghost use Rattle.aes_block.specs.Keys.{add_words};
+ghost use Rattle.aes_block.specs.Columns.{bytes_of, mixed_column as mixed_column_of, row, shifted_column as shifted_column_of, words_in};
+ghost use Rattle.aes_block.specs.Keys.{add_words, key_word};
 ghost use Rattle.aes_block.specs.State.{add_round_key, shift_rows, sub_bytes};
 
 use crate::columns::{from_row_0, from_row_1, from_row_2, from_row_3};
@@ -76,10 +76,7 @@ fn last_round(words: &[u32; 44], state: [u32; 4]) -> [u32; 4]
 fn mixed_column(key: u32, a: u32, b: u32, c: u32, d: u32) -> u32
     ensures { to_be_bytes w32 result ≡ add_words (mixed_column_of a b c d) (to_be_bytes w32 key) }
 {
-    let [row_0, _, _, _] = a.to_be_bytes();
-    let [_, row_1, _, _] = b.to_be_bytes();
-    let [_, _, row_2, _] = c.to_be_bytes();
-    let [_, _, _, row_3] = d.to_be_bytes();
+    let [row_0, row_1, row_2, row_3] = rows(a, b, c, d);
     key ^ from_row_0(row_0) ^ from_row_1(row_1) ^ from_row_2(row_2) ^ from_row_3(row_3)
 }
 
@@ -88,24 +85,49 @@ fn mixed_column(key: u32, a: u32, b: u32, c: u32, d: u32) -> u32
 fn shifted_column(key: u32, a: u32, b: u32, c: u32, d: u32) -> u32
     ensures { to_be_bytes w32 result ≡ add_words (shifted_column_of a b c d) (to_be_bytes w32 key) }
 {
+    let [row_0, row_1, row_2, row_3] = rows(a, b, c, d);
+    word_of([s_box(row_0), s_box(row_1), s_box(row_2), s_box(row_3)]) ^ key
+}
+
+/// SHIFTROWS for one column: its byte of each row comes from a column of its own.
+#[inline(always)]
+fn rows(a: u32, b: u32, c: u32, d: u32) -> [u8; 4]
+    ensures { result ≡ row 0 a ∷ row 1 b ∷ row 2 c ∷ row 3 d ∷ [] }
+{
     let [row_0, _, _, _] = a.to_be_bytes();
     let [_, row_1, _, _] = b.to_be_bytes();
     let [_, _, row_2, _] = c.to_be_bytes();
     let [_, _, _, row_3] = d.to_be_bytes();
-    word_of([s_box(row_0), s_box(row_1), s_box(row_2), s_box(row_3)]) ^ key
+    [row_0, row_1, row_2, row_3]
 }
 
 /// The columns of a block.
+#[tactic(auto, unfolding(crate::specs::Keys::key_word))]
 #[inline(always)]
 pub fn columns_of(block: &[u8; 16]) -> [u32; 4]
     ensures { bytes_of result ≡ block.now }
 {
     [
-        word_of([block[0], block[1], block[2], block[3]]),
-        word_of([block[4], block[5], block[6], block[7]]),
-        word_of([block[8], block[9], block[10], block[11]]),
-        word_of([block[12], block[13], block[14], block[15]]),
+        column(block, 0),
+        column(block, 1),
+        column(block, 2),
+        column(block, 3),
     ]
+}
+
+/// One column of a block, 0 to 3, or one word of a key.
+#[tactic(auto, unfolding(crate::specs::Keys::key_word))]
+#[inline(always)]
+pub fn column(block: &[u8; 16], i: usize) -> u32
+    requires { i < 4 }
+    ensures { to_be_bytes w32 result ≡ key_word block.now i }
+{
+    word_of([
+        block[4 * i],
+        block[4 * i + 1],
+        block[4 * i + 2],
+        block[4 * i + 3],
+    ])
 }
 
 /// The bytes of four columns.

@@ -5,6 +5,7 @@ ghost use Rattle.std.specs.Int.{w32, to_be_bytes};
 ghost use Rattle.aes_block.specs.Columns.{words_in};
 ghost use Rattle.aes_block.specs.Keys.{addend, key_expansion, key_of, next_word, rot_word, round_constant, sub_word, words_of};
 
+use crate::cipher::column;
 use crate::table::s_box;
 use crate::word::word_of;
 
@@ -24,15 +25,15 @@ pub fn expanded(key: &[u8; 16]) -> [u32; 44]
     words
 }
 
-#[tactic(auto, unfolding(crate::specs::Keys::words_of, crate::specs::Keys::key_word))]
+#[tactic(auto, unfolding(crate::specs::Keys::words_of))]
 fn first_words(key: &[u8; 16]) -> [u32; 44]
     ensures { take 4 (words_in result) ≡ words_of key.now 0 }
 {
     let mut words = [0; 44];
-    words[0] = word_of([key[0], key[1], key[2], key[3]]);
-    words[1] = word_of([key[4], key[5], key[6], key[7]]);
-    words[2] = word_of([key[8], key[9], key[10], key[11]]);
-    words[3] = word_of([key[12], key[13], key[14], key[15]]);
+    words[0] = column(key, 0);
+    words[1] = column(key, 1);
+    words[2] = column(key, 2);
+    words[3] = column(key, 3);
     words
 }
 

@@ -1,5 +1,5 @@
 -- What a command reads, where it is told what files hold: the value that a file's bytes write, or why it is refused.
-use Rattle.std.specs.Prelude.{◌≡◌, ℕ, ◌%◌, ◌^◌, ◌==◌, true, false, List, Option, Some, None, Result, Ok, Err, length, nat_le, if◌then◌else◌}
+use Rattle.std.specs.Prelude.{◌≡◌, ℕ, ◌%◌, ◌^◌, ◌<◌, ◌≤◌, ◌==◌, Bool, true, false, List, Option, Some, None, Result, Ok, Err, length, nat_le, if◌then◌else◌}
 use Rattle.std.proofs.Math.Decide.{dec_le, dec_lt}
 use Rattle.std.proofs.Common.{refl}
 use Rattle.std.proofs.lemmas.Bool.{eqb-true}
@@ -54,19 +54,23 @@ Answers wanted (Err why) = Faults wanted why
 
 -- ---- The formats
 
--- the image of an entry and of bytes that are valid
+-- the image of an entry and of bytes that are valid: the bytes are few enough, and the entry is below the size of
+-- private memory and aligned
+abbrev pub image_if_aligned : (entry : ℕ) (bytes : List ℕ) → length bytes ≤ 2 ^ 20 → entry < 2 ^ 20 → (b : Bool) → (entry % 4 == 0) ≡ b → Option PlainImage
+image_if_aligned entry bytes fits private false aligned = None
+image_if_aligned entry bytes fits private true aligned =
+    Some (record { entry = entry; bytes = bytes; fits = fits; aligned = eqb-true (entry % 4) 0 aligned; private = private })
+
+abbrev pub image_if_private : (entry : ℕ) (bytes : List ℕ) → length bytes ≤ 2 ^ 20 → Dec (entry < 2 ^ 20) → Option PlainImage
+image_if_private entry bytes fits (no high) = None
+image_if_private entry bytes fits (yes private) = image_if_aligned entry bytes fits private (entry % 4 == 0) refl
+
+abbrev pub image_if_fitting : (entry : ℕ) (bytes : List ℕ) → Dec (length bytes ≤ 2 ^ 20) → Option PlainImage
+image_if_fitting entry bytes (no long) = None
+image_if_fitting entry bytes (yes fits) = image_if_private entry bytes fits (dec_lt entry (2 ^ 20))
+
 abbrev pub valid_image : ℕ → List ℕ → Option PlainImage
-valid_image entry bytes =
-    elim (dec_le (length bytes) (2 ^ 20)) [
-      | no _ ↦ None
-      | yes fits ↦ elim (dec_lt entry (2 ^ 20)) [
-        | no _ ↦ None
-        | yes private ↦ elim (entry % 4 == 0) as (λ b. (entry % 4 == 0) ≡ b → Option PlainImage) [
-          | false ↦ λ _. None
-          | true ↦ λ aligned. Some (record { entry = entry; bytes = bytes; fits = fits; aligned = eqb-true (entry % 4) 0 aligned; private = private })
-        ] refl
-      ]
-    ]
+valid_image entry bytes = image_if_fitting entry bytes (dec_le (length bytes) (2 ^ 20))
 
 -- The image that was read, or the first bad byte. What is read is valid, so the first case is never met.
 abbrev pub image_found : Option PlainImage → Result PlainImage InputFault

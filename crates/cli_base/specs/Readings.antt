@@ -1,6 +1,7 @@
 -- What reading the files of a command gives, where `Wanted` says what it is to give of what files hold.
 use Rattle.std.specs.Prelude.{◌≡◌, ◌⊎◌, ℕ, ◌≤◌, List, Some, Result, Ok, Err, IsSomeAnd}
 use Rattle.xom_io.specs.Answers.{Rises, Told}
+use Rattle.xom_base.specs.Memory.{OrOut}
 use Rattle.xom_base.specs.declared.lines.TextFault.{TextFault}
 use Rattle.xom_base.specs.declared.lines.TextFault.TheVariants as text_fault
 use Rattle.cli_base.specs.declared.refusal.InputFault.TheVariants.{BadLine}
@@ -53,5 +54,5 @@ IsLined (Err text_fault.NoMemory) result = result ≡ Err input_stop.NoMemory
 -- what a reader answered, with the name of the file
 abbrev pub IsNamed : {A : Type 0} → List ℕ → Result A InputStop → Result A Stop → Type 0
 IsNamed name (Ok value) result = result ≡ Ok value
-IsNamed name (Err (input_stop.Fault fault)) result = (result ≡ Err (stop.Refused (Bad name fault))) ⊎ (result ≡ Err stop.NoMemory)
+IsNamed name (Err (input_stop.Fault fault)) result = OrOut stop.NoMemory (Err (stop.Refused (Bad name fault))) result
 IsNamed name (Err input_stop.NoMemory) result = result ≡ Err stop.NoMemory

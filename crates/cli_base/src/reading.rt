@@ -12,7 +12,8 @@ use xom_io::{FileFault, Files, Name};
 /// The most bytes of a plain image file.
 const IMAGE_LIMIT: u64 = 1_048_592;
 
-/// The image of the plain image file of this name.
+/// The image of the plain image file of this name. Refused where the file can't be read, is over
+/// 1,048,592 bytes, or is no plain image file; the first bad byte is told.
 #[tactic(auto, unfolding(crate::specs::Inputs::image_of))]
 pub fn image<F: Files>(alloc: Global, files: &mut F, name: &String) -> Result<PlainImage, Stop>
     ensures gives { Gives (F.held files.old) (λ held. image_of held (string_bytes name.now))
@@ -24,7 +25,7 @@ pub fn image<F: Files>(alloc: Global, files: &mut F, name: &String) -> Result<Pl
     of_file(name, image_in(alloc, &bytes))
 }
 
-/// The bytes of a file, at most so many.
+/// The bytes of a file. Refused where it can't be read or has more than so many bytes.
 #[tactic(auto, unfolding(crate::specs::Inputs::fetched))]
 pub fn fetch<F: Files>(files: &mut F, name: &String, limit: u64) -> Result<ByteList, Stop>
     ensures gives { Gives (F.held files.old) (λ held. fetched held (string_bytes name.now) limit)
@@ -40,7 +41,7 @@ pub fn fetch<F: Files>(files: &mut F, name: &String, limit: u64) -> Result<ByteL
     }
 }
 
-/// What the reader of a text in lines answered.
+/// What the reader of a text in lines answered. A bad line, counted from 1, is the fault of the input.
 pub fn lined<A: Drop>(read: Result<A, TextFault>) -> Result<A, InputStop>
     ensures { IsLined read result }
 {
@@ -63,7 +64,8 @@ fn image_in(alloc: Global, bytes: &ByteList) -> Result<PlainImage, InputStop>
     }
 }
 
-/// What a reader answered, with the name of the file.
+/// What a reader answered. A fault of the input is refused with the name of the file, unless memory runs
+/// out for the name.
 pub fn of_file<A: Drop>(name: &String, read: Result<A, InputStop>) -> Result<A, Stop>
     ensures { IsNamed (string_bytes name.now) read result }
 {
@@ -83,7 +85,7 @@ fn unread(name: &String) -> Stop
     }
 }
 
-/// The refusal of a file that has this fault.
+/// The refusal of a file that has this fault, or want of memory for its name.
 pub fn bad(name: &String, fault: InputFault) -> Stop
     ensures { IsRefusal result (Bad (string_bytes name.now) fault) }
 {

@@ -1,10 +1,8 @@
 -- What an owner sealed for a machine opens there.
-use Rattle.std.proofs.Common.{◌≡◌, ℕ, ◌+◌, ◌*◌, ◌-◌, ◌^◌, ◌<◌, ◌≤◌, inl, inr, List, [], ◌∷◌, ◌++◌, Some, None, if◌then◌else◌, drop, length, map, min, refl, replicate, sym, take, ◌∙◌, ap, arith, length-append}
+use Rattle.std.proofs.Common.{◌≡◌, ℕ, ◌+◌, ◌*◌, ◌-◌, ◌^◌, ◌<◌, ◌≤◌, inl, inr, List, [], ◌∷◌, ◌++◌, Some, drop, length, map, min, refl, replicate, sym, take, ◌∙◌, ap, arith, length-append}
 use Rattle.std.specs.Prelude.{slice_get}
 use Rattle.std.specs.List.{range_with_len}
-use Rattle.std.specs.Str.{bytes_eq}
-use Rattle.std.proofs.lemmas.Bool.{cases_Bool, cases_lt}
-use Rattle.std.proofs.lemmas.Slice.Eq.{bytes_eq-Decides}
+use Rattle.std.proofs.lemmas.Bool.{cases_lt}
 use Rattle.std.proofs.lemmas.List.{drop-replicate, length-replicate, length-take}
 use Rattle.std.proofs.Math.Seq.{take_all}
 use Rattle.std.proofs.lemmas.List.FromFn.{length-map-range_with_len, map-range_with_len_more}
@@ -19,7 +17,7 @@ use Rattle.xom_seal.specs.Laws.{IsUnwrapped}
 use Rattle.xom_seal.specs.Messages.{envelope_message}
 use Rattle.xom_seal.specs.Sealing.{line_tag, sealed_line, unsealed_line}
 use Rattle.xom_seal.proofs.EnvelopeLaws.{envelopes_open as wrapped_open}
-use Rattle.xom_seal.proofs.SealLaws.{lines_open as sealed_lines_open, sealed_lines_have_their_length}
+use Rattle.xom_seal.proofs.SealLaws.{let_through, lines_open as sealed_lines_open, sealed_lines_have_their_length}
 use Rattle.xom_image.proofs.LineBytes.{AreWhole, get-made}
 use Rattle.xom_owners.specs.declared.owner.Owner.{Owner}
 use Rattle.image_sealer.specs.Laws.{EnvelopesOpen, IsOwner, LinesOpen, TagsAreOfTheSealing}
@@ -105,20 +103,12 @@ envelopes_open machine owner sealed is_owner is = ap (unwrapped machine) is.enve
 
 -- ---- Tags
 
--- a text that a test against another lets through is that other
-let_through : {X : Type 0} (tag other : List ℕ) (value found : X) → (if bytes_eq tag other then Some value else None) ≡ Some found → tag ≡ other
-let_through tag other value found through =
-    elim (cases_Bool (bytes_eq tag other)) [
-      | inl same ↦ (bytes_eq-Decides tag other).0 same
-      | inr differs ↦ absurd (cc (sym (ap (λ b. if b then Some value else None) differs) ∙ through))
-    ]
-
 -- the tag of the envelope is that of its message
 envelope-tag : (machine : Key256) (owner : Owner) → IsOwner owner → tag_in (envelope_of machine owner) ≡ hmac_sha256 machine.0 (envelope_message (envelope_of machine owner))
 unfolding envelope_tag
 envelope-tag machine owner is_owner =
     let envelope = envelope_of machine owner in
-    let_through (tag_in envelope) (envelope_tag machine envelope) (contents_in machine envelope) (contents_of owner) (envelope_opens machine owner is_owner)
+    (let_through (tag_in envelope) (envelope_tag machine envelope) (contents_in machine envelope) (contents_of owner) (envelope_opens machine owner is_owner)).0
 
 -- the tags of lines are those of their messages
 lines-tags : (owner : Owner) (places : List ℕ)

@@ -2,10 +2,10 @@ ghost use Rattle.std.specs.Prelude.{◌≡◌, ◌++◌, ◌+◌, ◌<◌, ◌�
 ghost use Rattle.mips_text.specs.Texts.{listing_of, line_of, word_at as word_at_of, word_text};
 
 use crate::pieces::push_address;
-use crate::printing::push_text;
+use crate::printing::push_instruction;
 use mips_isa::decode;
 use std::alloc::Global;
-use text_pieces::{push_bytes, push_hex8};
+use text_pieces::{push_hex8, push_text};
 use xom_base::{ByteList, NoMemory, PlainImage};
 
 /// The words of an image, a line each: the address, the word, and the instruction, or `.word` where
@@ -30,11 +30,11 @@ fn push_line(text: &mut Vec<u8>, address: u32, word: u32) -> Result<(), NoMemory
     ensures { OnOk result (text.new.items ≡ text.old.items ++ line_of address word) }
 {
     push_hex8(text, address)?;
-    push_bytes(text, b" ")?;
+    push_text(text, " ")?;
     push_hex8(text, word)?;
-    push_bytes(text, b" ")?;
+    push_text(text, " ")?;
     push_word(text, word, address)?;
-    push_bytes(text, b"\n")
+    push_text(text, "\n")
 }
 
 /// Adds the instruction of a word at an address, or the word itself where it is reserved.
@@ -42,9 +42,9 @@ fn push_word(text: &mut Vec<u8>, word: u32, pc: u32) -> Result<(), NoMemory>
     ensures { OnOk result (text.new.items ≡ text.old.items ++ word_text word pc) }
 {
     match decode(word) {
-        Some(ins) => push_text(text, ins, pc),
+        Some(ins) => push_instruction(text, ins, pc),
         None => {
-            push_bytes(text, b".word ")?;
+            push_text(text, ".word ")?;
             push_address(text, word)
         }
     }

@@ -4,12 +4,12 @@ ghost use Rattle.mips_instruction.specs.Words.{Fits};
 ghost use Rattle.mips_forms.specs.Forms.{listed, InRange};
 ghost use Rattle.mips_text.specs.Texts.{text_of, operand_text, offset_text, operands_text, joined};
 
-use crate::pieces::{push_address, push_register, push_signed};
+use crate::pieces::{push_address, push_immediate, push_register};
 use crate::targets::{branch_target, jump_target};
 use mips_forms::{Operand, Operands, form};
 use mips_instruction::Ins;
 use std::alloc::Global;
-use text_pieces::{push_bytes, push_decimal};
+use text_pieces::{push_decimal, push_text};
 use xom_base::{ByteList, NoMemory};
 
 /// The text of the instruction at the address `pc`, with all its operands: registers as `$n`,
@@ -20,19 +20,19 @@ pub fn print(alloc: Global, ins: Ins, pc: u32) -> Result<ByteList, NoMemory>
     ensures { IfOk result (λ text. text ≡ text_of ins pc) }
 {
     let mut text = Vec::new(alloc);
-    push_text(&mut text, ins, pc)?;
+    push_instruction(&mut text, ins, pc)?;
     Ok(ByteList::from_vec(text))
 }
 
 /// Adds the text of the instruction at an address. Where memory runs out, a part of it may stand
 /// there already.
 #[tactic(auto, unfolding(crate::specs::Texts::text_of), using(mips_forms::proofs::FormTable::operands_fit))]
-pub fn push_text(text: &mut Vec<u8>, ins: Ins, pc: u32) -> Result<(), NoMemory>
+pub fn push_instruction(text: &mut Vec<u8>, ins: Ins, pc: u32) -> Result<(), NoMemory>
     requires { Fits ins }
     ensures { OnOk result (text.new.items ≡ text.old.items ++ text_of ins pc) }
 {
     let form = form(ins);
-    push_bytes(text, form.name.as_bytes())?;
+    push_text(text, form.name)?;
     push_behind(text, form.operands, pc)
 }
 
@@ -44,16 +44,16 @@ fn push_behind(text: &mut Vec<u8>, operands: Operands, pc: u32) -> Result<(), No
     match operands {
         Operands::Empty => Ok(()),
         Operands::One(a) => {
-            push_bytes(text, b" ")?;
+            push_text(text, " ")?;
             push_operand(text, a, pc)
         }
         Operands::Two(a, b) => {
-            push_bytes(text, b" ")?;
+            push_text(text, " ")?;
             push_operand(text, a, pc)?;
             push_next(text, b, pc)
         }
         Operands::Three(a, b, c) => {
-            push_bytes(text, b" ")?;
+            push_text(text, " ")?;
             push_operand(text, a, pc)?;
             push_next(text, b, pc)?;
             push_next(text, c, pc)
@@ -66,7 +66,7 @@ fn push_next(text: &mut Vec<u8>, operand: Operand, pc: u32) -> Result<(), NoMemo
     requires { InRange operand }
     ensures { OnOk result (text.new.items ≡ text.old.items ++ (codes ", " ++ operand_text pc operand)) }
 {
-    push_bytes(text, b", ")?;
+    push_text(text, ", ")?;
     push_operand(text, operand, pc)
 }
 
@@ -78,7 +78,7 @@ fn push_operand(text: &mut Vec<u8>, operand: Operand, pc: u32) -> Result<(), NoM
     match operand {
         Operand::Register(reg) => push_register(text, reg),
         Operand::Shift(amount) => push_decimal(text, u32::from(amount)),
-        Operand::Signed(imm) => push_signed(text, imm),
+        Operand::Signed(imm) => push_immediate(text, imm),
         Operand::Unsigned(imm) => push_decimal(text, u32::from(imm)),
         Operand::Code(code) => push_decimal(text, code),
         Operand::Branch(imm) => push_address(text, branch_target(pc, imm)),
@@ -91,8 +91,8 @@ fn push_operand(text: &mut Vec<u8>, operand: Operand, pc: u32) -> Result<(), NoM
 fn push_offset(text: &mut Vec<u8>, imm: u16, base: u8) -> Result<(), NoMemory>
     ensures { OnOk result (text.new.items ≡ text.old.items ++ offset_text imm base) }
 {
-    push_signed(text, imm)?;
-    push_bytes(text, b"(")?;
+    push_immediate(text, imm)?;
+    push_text(text, "(")?;
     push_register(text, base)?;
-    push_bytes(text, b")")
+    push_text(text, ")")
 }

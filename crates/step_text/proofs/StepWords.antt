@@ -23,7 +23,9 @@ use Rattle.xom_base.specs.declared.step.Released.TheVariants as released
 use Rattle.xom_base.specs.declared.step.StepEnd.{StepEnd}
 use Rattle.xom_base.specs.declared.step.StepEnd.TheVariants as ended
 use Rattle.xom_base.specs.declared.step.Step.{Step}
-use Rattle.step_text.specs.StepFields.{IsEnd, IsFault, IsHex8, IsReceived, IsReleased, IsStep, IsStored, IsWrites, behind, bytes_at_of, cell_of, count_below_of, end_of, fault_of, hex8_of, low_bytes, named_hex8_of, named_number_of, named_pair_of, or_else, received_of, released_of, step_of, stored_bytes_of, stored_of, writes_of}
+use Rattle.step_text.specs.declared.reading.CellOrPair.{CellOrPair}
+use Rattle.step_text.specs.declared.reading.CellOrPair.TheVariants as form
+use Rattle.step_text.specs.StepFields.{IsCell, IsEnd, IsFault, IsHex8, IsNamedPair, IsReceived, IsReleased, IsStep, IsStored, IsWrites, behind, bytes_at_of, cell_of, cell_or_pair_of, count_below_of, end_of, fault_of, hex8_of, low_bytes, named_hex8_of, named_number_of, named_pair_of, or_else, received_of, released_by, released_of, step_of, stored_bytes_of, stored_of, writes_by, writes_of}
 use Rattle.step_text.proofs.FieldLaws.{behind_head, cell_found, cell_none, cell_only, count_found, count_only, hex8_of-exact, hex8_without, is_word, named_hex8_found, named_hex8_none, named_hex8_only, named_number_found, named_number_only, named_pair_found, named_pair_none, named_pair_only, number_without, or_else_some, other_head, other_word, same_word}
 
 -- ---- a choice by a word
@@ -33,33 +35,62 @@ either : {A : Type 0} (test : Bool) (x : A) (other : Option A) (y : A) → cond 
 either true x other y h = inl (refl, same_Some x y h)
 either false x other y h = inr (refl, h)
 
--- ---- WRITES
+-- ---- `-`, a cell, or two values behind a name
 
-writes_found : (word : List ℕ) (w : Writes) → writes_of word ≡ Some w → IsWrites word w
-unfolding writes_of
-writes_found word w h =
-    elim (either (bytes_eq word (codes "-")) writes.Nothing _ w h) [
-      | inl t ↦ subst (IsWrites word) t.1 (same_word word (codes "-") t.0)
-      | inr t ↦ elim (or_else_some _ _ w t.1) [
+abbrev IsCellOrPair : List ℕ → List ℕ → CellOrPair → Type 0
+IsCellOrPair name word form.Nothing = word ≡ codes "-"
+IsCellOrPair name word (form.Cell reg value) = IsCell word reg value
+IsCellOrPair name word (form.Pair first second) = IsNamedPair name word first second
+
+cell_or_pair_found : (name word : List ℕ) (c : CellOrPair) → cell_or_pair_of name word ≡ Some c → IsCellOrPair name word c
+unfolding cell_or_pair_of
+cell_or_pair_found name word c h =
+    elim (either (bytes_eq word (codes "-")) form.Nothing _ c h) [
+      | inl t ↦ subst (IsCellOrPair name word) t.1 (same_word word (codes "-") t.0)
+      | inr t ↦ elim (or_else_some _ _ c t.1) [
         | inl first ↦
-            let m = option_map_some (λ (cell : ℕ × ℕ). writes.One cell.0 cell.1) (cell_of word) w first in
-            subst (IsWrites word) (same_Some (writes.One m.0.0 m.0.1) w m.2) (cell_found word m.0.0 m.0.1 m.1)
+            let m = option_map_some (λ (cell : ℕ × ℕ). form.Cell cell.0 cell.1) (cell_of word) c first in
+            subst (IsCellOrPair name word) (same_Some (form.Cell m.0.0 m.0.1) c m.2) (cell_found word m.0.0 m.0.1 m.1)
         | inr second ↦
-            let m = option_map_some (λ (pair : ℕ × ℕ). writes.Pair pair.0 pair.1) (named_pair_of (codes "hl=") word) w second in
-            subst (IsWrites word) (same_Some (writes.Pair m.0.0 m.0.1) w m.2) (named_pair_found (codes "hl=") word m.0.0 m.0.1 m.1)
+            let m = option_map_some (λ (pair : ℕ × ℕ). form.Pair pair.0 pair.1) (named_pair_of name word) c second in
+            subst (IsCellOrPair name word) (same_Some (form.Pair m.0.0 m.0.1) c m.2) (named_pair_found name word m.0.0 m.0.1 m.1)
       ]
     ]
 
-writes_only : (word : List ℕ) (w : Writes) → IsWrites word w → writes_of word ≡ Some w
-unfolding writes_of
-writes_only word writes.Nothing is = rw (is_word word (codes "-") is) refl
-writes_only word (writes.One reg value) is =
+-- the name begins neither as `-` nor as a cell does
+cell_or_pair_only : (head : ℕ) (rest word : List ℕ) (c : CellOrPair) → eqb head 45 ≡ false → eqb head 114 ≡ false → IsCellOrPair (head ∷ rest) word c → cell_or_pair_of (head ∷ rest) word ≡ Some c
+unfolding cell_or_pair_of
+cell_or_pair_only head rest word form.Nothing dash cell is = rw (is_word word (codes "-") is) refl
+cell_or_pair_only head rest word (form.Cell reg value) dash cell is =
     let away : bytes_eq word (codes "-") ≡ false = other_head 114 45 word _ _ is.2 refl in
     rw (away, cell_only word reg value is) refl
-writes_only word (writes.Pair hi lo) is =
-    let away : bytes_eq word (codes "-") ≡ false = other_head 104 45 word _ _ is.2 refl in
-    let no_cell : cell_of word ≡ None = cell_none word (behind_head 114 104 _ word _ is.2 refl) in
-    rw (away, no_cell, named_pair_only (codes "hl=") word hi lo is) refl
+cell_or_pair_only head rest word (form.Pair first second) dash cell is =
+    let away : bytes_eq word (codes "-") ≡ false = other_head head 45 word _ _ is.2 dash in
+    let no_cell : cell_of word ≡ None = cell_none word (behind_head 114 head _ word _ is.2 cell) in
+    rw (away, no_cell, named_pair_only (head ∷ rest) word first second is) refl
+
+-- what holds of each such word holds of the word of the value that is made of it
+made_found : {A : Type 0} (make : CellOrPair → A) (IsOf : List ℕ → A → Type 0) (name word : List ℕ) (x : A) → ((c : CellOrPair) → IsCellOrPair name word c → IsOf word (make c)) → option_map make (cell_or_pair_of name word) ≡ Some x → IsOf word x
+made_found make IsOf name word x is h =
+    let m = option_map_some make (cell_or_pair_of name word) x h in
+    subst (IsOf word) (same_Some (make m.0) x m.2) (is m.0 (cell_or_pair_found name word m.0 m.1))
+
+-- ---- WRITES
+
+writes_by-is : (word : List ℕ) (c : CellOrPair) → IsCellOrPair (codes "hl=") word c → IsWrites word (writes_by c)
+writes_by-is word form.Nothing is = is
+writes_by-is word (form.Cell reg value) is = is
+writes_by-is word (form.Pair first second) is = is
+
+writes_found : (word : List ℕ) (w : Writes) → writes_of word ≡ Some w → IsWrites word w
+unfolding writes_of
+writes_found word w h = made_found writes_by IsWrites (codes "hl=") word w (writes_by-is word) h
+
+writes_only : (word : List ℕ) (w : Writes) → IsWrites word w → writes_of word ≡ Some w
+unfolding writes_of
+writes_only word writes.Nothing is = ap (option_map writes_by) (cell_or_pair_only 104 (codes "l=") word form.Nothing refl refl is)
+writes_only word (writes.One reg value) is = ap (option_map writes_by) (cell_or_pair_only 104 (codes "l=") word (form.Cell reg value) refl refl is)
+writes_only word (writes.Pair hi lo) is = ap (option_map writes_by) (cell_or_pair_only 104 (codes "l=") word (form.Pair hi lo) refl refl is)
 
 pub writes_of-exact : (word : List ℕ) (w : Writes) → (writes_of word ≡ Some w) ↔ IsWrites word w
 writes_of-exact word w = (writes_found word w, writes_only word w)
@@ -161,31 +192,20 @@ received_of-exact word g = (received_found word g, received_only word g)
 
 -- ---- RELEASED
 
+released_by-is : (word : List ℕ) (c : CellOrPair) → IsCellOrPair (codes "null=") word c → IsReleased word (released_by c)
+released_by-is word form.Nothing is = is
+released_by-is word (form.Cell reg value) is = is
+released_by-is word (form.Pair first second) is = is
+
 released_found : (word : List ℕ) (r : Released) → released_of word ≡ Some r → IsReleased word r
 unfolding released_of
-released_found word r h =
-    elim (either (bytes_eq word (codes "-")) released.Nothing _ r h) [
-      | inl t ↦ subst (IsReleased word) t.1 (same_word word (codes "-") t.0)
-      | inr t ↦ elim (or_else_some _ _ r t.1) [
-        | inl first ↦
-            let m = option_map_some (λ (cell : ℕ × ℕ). released.Cell cell.0 cell.1) (cell_of word) r first in
-            subst (IsReleased word) (same_Some (released.Cell m.0.0 m.0.1) r m.2) (cell_found word m.0.0 m.0.1 m.1)
-        | inr second ↦
-            let m = option_map_some (λ (pair : ℕ × ℕ). released.Null pair.0 pair.1) (named_pair_of (codes "null=") word) r second in
-            subst (IsReleased word) (same_Some (released.Null m.0.0 m.0.1) r m.2) (named_pair_found (codes "null=") word m.0.0 m.0.1 m.1)
-      ]
-    ]
+released_found word r h = made_found released_by IsReleased (codes "null=") word r (released_by-is word) h
 
 released_only : (word : List ℕ) (r : Released) → IsReleased word r → released_of word ≡ Some r
 unfolding released_of
-released_only word released.Nothing is = rw (is_word word (codes "-") is) refl
-released_only word (released.Cell reg value) is =
-    let away : bytes_eq word (codes "-") ≡ false = other_head 114 45 word _ _ is.2 refl in
-    rw (away, cell_only word reg value is) refl
-released_only word (released.Null address value) is =
-    let away : bytes_eq word (codes "-") ≡ false = other_head 110 45 word _ _ is.2 refl in
-    let no_cell : cell_of word ≡ None = cell_none word (behind_head 114 110 _ word _ is.2 refl) in
-    rw (away, no_cell, named_pair_only (codes "null=") word address value is) refl
+released_only word released.Nothing is = ap (option_map released_by) (cell_or_pair_only 110 (codes "ull=") word form.Nothing refl refl is)
+released_only word (released.Cell reg value) is = ap (option_map released_by) (cell_or_pair_only 110 (codes "ull=") word (form.Cell reg value) refl refl is)
+released_only word (released.Null address value) is = ap (option_map released_by) (cell_or_pair_only 110 (codes "ull=") word (form.Pair address value) refl refl is)
 
 pub released_of-exact : (word : List ℕ) (r : Released) → (released_of word ≡ Some r) ↔ IsReleased word r
 released_of-exact word r = (released_found word r, released_only word r)

@@ -20,6 +20,8 @@ use Rattle.xom_base.specs.declared.step.Released.TheVariants as released
 use Rattle.xom_base.specs.declared.step.StepEnd.{StepEnd}
 use Rattle.xom_base.specs.declared.step.StepEnd.TheVariants as ended
 use Rattle.xom_base.specs.declared.step.Step.{Step}
+use Rattle.step_text.specs.declared.reading.CellOrPair.{CellOrPair}
+use Rattle.step_text.specs.declared.reading.CellOrPair.TheVariants as form
 use Rattle.step_text.specs.StepTexts.{fault_text}
 
 -- HEX8: eight hexadecimal digits, the high byte first
@@ -137,12 +139,27 @@ abbrev pub or_else : {A : Type 0} → Option A → Option A → Option A
 or_else (Some x) other = Some x
 or_else None other = other
 
-unfoldable pub writes_of : List ℕ → Option Writes
-writes_of word =
-    if bytes_eq word (codes "-") then Some writes.Nothing
+-- the form of WRITES and of RELEASED: `-`, a cell, or two values behind a name
+unfoldable pub cell_or_pair_of : List ℕ → List ℕ → Option CellOrPair
+cell_or_pair_of name word =
+    if bytes_eq word (codes "-") then Some form.Nothing
     else or_else
-    (option_map (λ cell. writes.One cell.0 cell.1) (cell_of word))
-    (option_map (λ pair. writes.Pair pair.0 pair.1) (named_pair_of (codes "hl=") word))
+    (option_map (λ cell. form.Cell cell.0 cell.1) (cell_of word))
+    (option_map (λ pair. form.Pair pair.0 pair.1) (named_pair_of name word))
+
+-- the same as WRITES, and as RELEASED
+abbrev pub writes_by : CellOrPair → Writes
+writes_by form.Nothing = writes.Nothing
+writes_by (form.Cell reg value) = writes.One reg value
+writes_by (form.Pair first second) = writes.Pair first second
+
+abbrev pub released_by : CellOrPair → Released
+released_by form.Nothing = released.Nothing
+released_by (form.Cell reg value) = released.Cell reg value
+released_by (form.Pair first second) = released.Null first second
+
+unfoldable pub writes_of : List ℕ → Option Writes
+writes_of word = option_map writes_by (cell_or_pair_of (codes "hl=") word)
 
 -- the stored bytes, behind their address
 unfoldable pub bytes_at_of : ℕ → List ℕ → Option Stored
@@ -171,11 +188,7 @@ received_of word =
     (option_map received.Signal (named_number_of (codes "signal=") word)))
 
 unfoldable pub released_of : List ℕ → Option Released
-released_of word =
-    if bytes_eq word (codes "-") then Some released.Nothing
-    else or_else
-    (option_map (λ cell. released.Cell cell.0 cell.1) (cell_of word))
-    (option_map (λ pair. released.Null pair.0 pair.1) (named_pair_of (codes "null=") word))
+released_of word = option_map released_by (cell_or_pair_of (codes "null=") word)
 
 unfoldable pub end_of : List ℕ → Option StepEnd
 end_of word =

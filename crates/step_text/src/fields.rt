@@ -4,8 +4,8 @@ ghost use Rattle.xom_base.specs.declared.step.Stored.TheVariants as stored_varia
 ghost use Rattle.text_pieces.specs.Pieces.{Begins, hex8};
 ghost use Rattle.step_text.specs.StepTexts.{end_text, outer_fields, own_fields, received_text, released_text, step_fields, stored_text, writes_text};
 
-use crate::pieces::{push_low, push_text};
-use text_pieces::{push_decimal, push_hex8};
+use crate::pieces::push_low;
+use text_pieces::{push_decimal, push_hex8, push_text};
 use xom_base::{NoMemory, Received, Released, Step, StepEnd, Stored, Writes};
 
 /// Adds the fields of a step to a text, with one space between each two and nothing behind the last:
@@ -13,7 +13,7 @@ use xom_base::{NoMemory, Received, Released, Step, StepEnd, Stored, Writes};
 /// releases and how it ends, as `00000008 0000000c - - - r9=0000000c goes`. It costs constant time on
 /// average, and takes memory for the text alone. Where memory runs out, a part of the fields may have
 /// been added.
-#[tactic(auto, unfolding(crate::specs::StepTexts::step_fields), using(crate::proofs::Texts::begins_behind))]
+#[tactic(auto, unfolding(crate::specs::StepTexts::step_fields), using(text_pieces::proofs::HexTexts::begins_behind))]
 pub fn push_step(text: &mut Vec<u8>, step: &Step) -> Result<(), NoMemory>
     ensures ok { OnOk result (text.new.items ≡ text.old.items ++ step_fields step.now) }
     ensures err { OnErr result (Begins text.old.items text.new.items) }
@@ -24,7 +24,7 @@ pub fn push_step(text: &mut Vec<u8>, step: &Step) -> Result<(), NoMemory>
 }
 
 /// Adds where the guest was, and what it changed of its own.
-#[tactic(auto, using(crate::proofs::Texts::begins_behind))]
+#[tactic(auto, using(text_pieces::proofs::HexTexts::begins_behind))]
 fn push_own(text: &mut Vec<u8>, step: &Step) -> Result<(), NoMemory>
     ensures ok { OnOk result (text.new.items ≡ text.old.items ++ own_fields step.now) }
     ensures err { OnErr result (Begins text.old.items text.new.items) }
@@ -38,7 +38,7 @@ fn push_own(text: &mut Vec<u8>, step: &Step) -> Result<(), NoMemory>
 }
 
 /// Adds what passed to and from the guest, and how the step ended.
-#[tactic(auto, using(crate::proofs::Texts::begins_behind))]
+#[tactic(auto, using(text_pieces::proofs::HexTexts::begins_behind))]
 fn push_outer(text: &mut Vec<u8>, step: &Step) -> Result<(), NoMemory>
     ensures ok { OnOk result (text.new.items ≡ text.old.items ++ outer_fields step.now) }
     ensures err { OnErr result (Begins text.old.items text.new.items) }
@@ -61,7 +61,7 @@ fn push_writes(text: &mut Vec<u8>, writes: Writes) -> Result<(), NoMemory>
     }
 }
 
-#[tactic(auto, using(crate::proofs::Texts::begins_behind))]
+#[tactic(auto, using(text_pieces::proofs::HexTexts::begins_behind))]
 fn push_stored(text: &mut Vec<u8>, stored: Stored) -> Result<(), NoMemory>
     ensures ok { OnOk result (text.new.items ≡ text.old.items ++ stored_text stored) }
     ensures err { OnErr result (Begins text.old.items text.new.items) }
@@ -111,7 +111,7 @@ fn push_end(text: &mut Vec<u8>, end: StepEnd) -> Result<(), NoMemory>
 }
 
 /// Adds stored bytes, behind their address and their number.
-#[tactic(auto, using(crate::proofs::Texts::begins_behind))]
+#[tactic(auto, using(text_pieces::proofs::HexTexts::begins_behind))]
 fn push_bytes(text: &mut Vec<u8>, address: u32, count: u8, value: u32) -> Result<(), NoMemory>
     ensures ok { OnOk result (text.new.items ≡ text.old.items ++ stored_text (stored_variants.Bytes address count value)) }
     ensures err { OnErr result (Begins text.old.items text.new.items) }
@@ -124,7 +124,7 @@ fn push_bytes(text: &mut Vec<u8>, address: u32, count: u8, value: u32) -> Result
 }
 
 /// Adds a register and its value.
-#[tactic(auto, using(crate::proofs::Texts::begins_behind))]
+#[tactic(auto, using(text_pieces::proofs::HexTexts::begins_behind))]
 fn push_cell(text: &mut Vec<u8>, reg: u8, value: u32) -> Result<(), NoMemory>
     ensures ok { OnOk result (text.new.items ≡ text.old.items ++ (codes "r" ++ (decimal reg ++ (codes "=" ++ hex8 value)))) }
     ensures err { OnErr result (Begins text.old.items text.new.items) }
@@ -134,7 +134,7 @@ fn push_cell(text: &mut Vec<u8>, reg: u8, value: u32) -> Result<(), NoMemory>
 }
 
 /// Adds two values behind a name, as an address and what stands there.
-#[tactic(auto, using(crate::proofs::Texts::begins_behind))]
+#[tactic(auto, using(text_pieces::proofs::HexTexts::begins_behind))]
 fn push_two(text: &mut Vec<u8>, name: &str, first: u32, second: u32) -> Result<(), NoMemory>
     ensures ok { OnOk result (text.new.items ≡ text.old.items ++ (name.now ++ (hex8 first ++ (codes ":" ++ hex8 second)))) }
     ensures err { OnErr result (Begins text.old.items text.new.items) }
@@ -144,7 +144,7 @@ fn push_two(text: &mut Vec<u8>, name: &str, first: u32, second: u32) -> Result<(
 }
 
 /// Adds a value behind a name.
-#[tactic(auto, using(crate::proofs::Texts::begins_behind))]
+#[tactic(auto, using(text_pieces::proofs::HexTexts::begins_behind))]
 fn push_value(text: &mut Vec<u8>, name: &str, value: u32) -> Result<(), NoMemory>
     ensures ok { OnOk result (text.new.items ≡ text.old.items ++ (name.now ++ hex8 value)) }
     ensures err { OnErr result (Begins text.old.items text.new.items) }
@@ -154,7 +154,7 @@ fn push_value(text: &mut Vec<u8>, name: &str, value: u32) -> Result<(), NoMemory
 }
 
 /// Adds a number in decimal behind a name.
-#[tactic(auto, using(crate::proofs::Texts::begins_behind))]
+#[tactic(auto, using(text_pieces::proofs::HexTexts::begins_behind))]
 fn push_number(text: &mut Vec<u8>, name: &str, n: u32) -> Result<(), NoMemory>
     ensures ok { OnOk result (text.new.items ≡ text.old.items ++ (name.now ++ decimal n)) }
     ensures err { OnErr result (Begins text.old.items text.new.items) }

@@ -5,14 +5,6 @@ ghost use Rattle.text_pieces.specs.Pieces.{Begins};
 use text_pieces::{hex8, push_bytes};
 use xom_base::NoMemory;
 
-/// Adds a text as it is.
-pub fn push_text(text: &mut Vec<u8>, added: &str) -> Result<(), NoMemory>
-    ensures ok { OnOk result (text.new.items ≡ text.old.items ++ added.now) }
-    ensures err { OnErr result (Begins text.old.items text.new.items) }
-{
-    push_bytes(text, added.as_bytes())
-}
-
 /// Adds the low bytes of a number, so many of them, as two hexadecimal digits each.
 #[tactic(auto, using(crate::proofs::Texts::digits_behind))]
 pub fn push_low(text: &mut Vec<u8>, count: u8, value: u32) -> Result<(), NoMemory>

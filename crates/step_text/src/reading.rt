@@ -2,10 +2,21 @@ ghost use Rattle.std.specs.Prelude.{◌≡◌, ◌≤◌, ◌<◌, ◌^◌, List
 ghost use Rattle.std.specs.Int.{w32, from_be_bytes};
 ghost use Rattle.xom_base.specs.Hex.{hex_of};
 ghost use Rattle.xom_base.specs.Numbers.{number_below_of};
-ghost use Rattle.step_text.specs.StepFields.{behind as behind_of, bytes_at_of, cell_of, count_below_of, end_of, fault_of, hex8_of, low_bytes, named_hex8_of, named_number_of, named_pair_of, pair_of, received_of, released_of, step_of, stored_bytes_of, stored_of, writes_of};
+ghost use Rattle.step_text.specs.StepFields.{behind as behind_of, bytes_at_of, cell_of, cell_or_pair_of, count_below_of, end_of, fault_of, hex8_of, low_bytes, named_hex8_of, named_number_of, named_pair_of, pair_of, received_of, released_by, released_of, step_of, stored_bytes_of, stored_of, writes_by, writes_of};
 
 use hex::FromHex;
 use xom_base::{OwnFault, Received, Released, Step, StepEnd, Stored, Writes, cut, number_below};
+
+/// What a word of the form that WRITES and RELEASED have in common says.
+#[derive(Clone, Copy)]
+pub enum CellOrPair {
+    /// `-`: nothing.
+    Nothing,
+    /// The cell of a register, 1 to 33, and its value.
+    Cell { reg: u8, value: u32 },
+    /// Two values behind a name.
+    Pair { first: u32, second: u32 },
+}
 
 /// The step of seven words, in the order PC NPC WRITES STORED RECEIVED RELEASED END. None exactly where
 /// the words aren't those of a step. It takes no memory.
@@ -51,14 +62,21 @@ pub fn fault_in(word: &[u8]) -> Option<OwnFault>
 fn writes_in(word: &[u8]) -> Option<Writes>
     ensures { result ≡ writes_of word.now }
 {
-    if word == b"-".as_slice() {
-        return Some(Writes::Nothing);
+    let read = cell_or_pair_in(b"hl=", word)?;
+    Some(writes_by(read))
+}
+
+fn writes_by(read: CellOrPair) -> Writes
+    ensures { result ≡ writes_by read }
+{
+    match read {
+        CellOrPair::Nothing => Writes::Nothing,
+        CellOrPair::Cell { reg, value } => Writes::One { reg, value },
+        CellOrPair::Pair { first, second } => Writes::Pair {
+            hi: first,
+            lo: second,
+        },
     }
-    if let Some((reg, value)) = cell_in(word) {
-        return Some(Writes::One { reg, value });
-    }
-    let (hi, lo) = named_pair_in(b"hl=", word)?;
-    Some(Writes::Pair { hi, lo })
 }
 
 #[tactic(auto, unfolding(crate::specs::StepFields::stored_of))]
@@ -131,14 +149,36 @@ fn received_in(word: &[u8]) -> Option<Received>
 fn released_in(word: &[u8]) -> Option<Released>
     ensures { result ≡ released_of word.now }
 {
+    let read = cell_or_pair_in(b"null=", word)?;
+    Some(released_by(read))
+}
+
+fn released_by(read: CellOrPair) -> Released
+    ensures { result ≡ released_by read }
+{
+    match read {
+        CellOrPair::Nothing => Released::Nothing,
+        CellOrPair::Cell { reg, value } => Released::Cell { reg, value },
+        CellOrPair::Pair { first, second } => Released::Null {
+            address: first,
+            value: second,
+        },
+    }
+}
+
+/// `-`, a cell, or two values behind a name.
+#[tactic(auto, unfolding(crate::specs::StepFields::cell_or_pair_of))]
+fn cell_or_pair_in(name: &[u8], word: &[u8]) -> Option<CellOrPair>
+    ensures { result ≡ cell_or_pair_of name.now word.now }
+{
     if word == b"-".as_slice() {
-        return Some(Released::Nothing);
+        return Some(CellOrPair::Nothing);
     }
     if let Some((reg, value)) = cell_in(word) {
-        return Some(Released::Cell { reg, value });
+        return Some(CellOrPair::Cell { reg, value });
     }
-    let (address, value) = named_pair_in(b"null=", word)?;
-    Some(Released::Null { address, value })
+    let (first, second) = named_pair_in(name, word)?;
+    Some(CellOrPair::Pair { first, second })
 }
 
 #[tactic(auto, unfolding(crate::specs::StepFields::end_of))]

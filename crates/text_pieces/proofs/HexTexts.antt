@@ -19,5 +19,5 @@ hex_more text bytes i byte within is =
     ∙ ap encode_lower (ap (λ b. take i bytes ++ b ∷ []) is ∙ sym (take_more bytes i 0 within)))
 
 -- what begins with a text and more begins with the text
-pub Begins-front : (front part text : List ℕ) → Begins (front ++ part) text → Begins front text
-Begins-front front part text begins = (part ++ begins.0, begins.1 ∙ append_assoc front part begins.0)
+pub begins_behind : (front part text : List ℕ) → Begins (front ++ part) text → Begins front text
+begins_behind front part text begins = (part ++ begins.0, begins.1 ∙ append_assoc front part begins.0)

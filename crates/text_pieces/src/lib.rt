@@ -1,13 +1,13 @@
 //! The pieces that printed texts are made of, each added at the end of one growing list of bytes:
-//! bytes as they are or as two hexadecimal digits each, numbers in decimal, and numbers of 32 bits as
-//! eight hexadecimal digits.
+//! texts and bytes as they are, bytes as two hexadecimal digits each, numbers in decimal, with a sign
+//! where they have one, and numbers of 32 bits as eight hexadecimal digits.
 //!
 //! So a text of a million lines is one list, and no piece has a list of its own. Where memory runs
 //! out, what stood there before still stands in front, and a part of the piece may follow.
 #![tactic(auto)]
 
 ghost use Rattle.std.specs.Prelude.{◌≡◌, ◌++◌, ◌∷◌, [], OnErr, OnOk};
-ghost use Rattle.std.specs.Fmt.{decimal};
+ghost use Rattle.std.specs.Fmt.{decimal, signed_decimal};
 ghost use Rattle.hex.specs.Hex.{encode_lower};
 ghost use Rattle.text_pieces.specs.Pieces.{Begins, hex8 as hex8_of};
 
@@ -20,6 +20,14 @@ pub fn push_bytes(text: &mut Vec<u8>, bytes: &[u8]) -> Result<(), NoMemory>
     ensures err { OnErr result (Begins text.old.items text.new.items) }
 {
     Ok(text.extend_from_slice(bytes)?)
+}
+
+/// Adds a text as it is.
+pub fn push_text(text: &mut Vec<u8>, added: &str) -> Result<(), NoMemory>
+    ensures ok { OnOk result (text.new.items ≡ text.old.items ++ added.now) }
+    ensures err { OnErr result (Begins text.old.items text.new.items) }
+{
+    push_bytes(text, added.as_bytes())
 }
 
 /// Adds a number in decimal, without leading zeros.
@@ -37,6 +45,16 @@ pub fn push_decimal64(text: &mut Vec<u8>, n: u64) -> Result<(), NoMemory>
 {
     let mut digits = Buffer::new();
     push_bytes(text, digits.format(n).as_bytes())
+}
+
+/// Adds a number of 32 bits with a sign in decimal: `-` in front where it is below zero, and no
+/// leading zeros.
+pub fn push_signed(text: &mut Vec<u8>, n: i32) -> Result<(), NoMemory>
+    ensures ok { OnOk result (text.new.items ≡ text.old.items ++ signed_decimal n) }
+    ensures err { OnErr result (Begins text.old.items text.new.items) }
+{
+    let mut numeral = Buffer::new();
+    push_bytes(text, numeral.format(n).as_bytes())
 }
 
 /// Adds bytes as two hexadecimal digits each, in lower case. No list is made for them.

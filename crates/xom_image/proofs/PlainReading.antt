@@ -1,5 +1,5 @@
 -- The reading of a plain image file is the grammar, both ways.
-use Rattle.std.proofs.Common.{◌≡◌, ℕ, ◌+◌, ◌*◌, ◌%◌, ◌^◌, ◌<◌, ◌≤◌, ◌⊎◌, inl, inr, List, ◌++◌, Result, Ok, Err, drop, get_or, length, take, refl, sym, ◌∙◌, ap, arith, ◌↔◌}
+use Rattle.std.proofs.Common.{◌≡◌, ℕ, ◌+◌, ◌*◌, ◌%◌, ◌^◌, ◌<◌, ◌≤◌, inl, inr, List, ◌++◌, Result, Ok, Err, drop, get_or, length, take, refl, sym, ◌∙◌, ap, arith, IfOk}
 use Rattle.std.specs.Int.{w32, to_be_bytes}
 use Rattle.std.proofs.lemmas.Bool.{cases_lt}
 use Rattle.std.proofs.lemmas.List.{take-append-drop, drop-drop, length-take, length-take-le, length-drop, get_or-take, get_or-drop, get_or_past}
@@ -7,10 +7,9 @@ use Rattle.std.proofs.lemmas.Nat.{be_bytes_4, from_be_bytes-to_be_bytes_4}
 use Rattle.xom_base.specs.Results.{◌>>=◌}
 use Rattle.xom_base.specs.declared.image.PlainImage.{PlainImage}
 use Rattle.xom_image.specs.declared.fault.ImageFault.{ImageFault}
-use Rattle.xom_image.specs.declared.fault.ImageFault.TheVariants as fault
 use Rattle.xom_base.proofs.Images.{PlainImage-equal}
-use Rattle.xom_image.proofs.Reading.{agreed-all, fields-told, whole-fields, AnswersBy-first_bad, AnswersBy-only}
-use Rattle.xom_image.specs.Fields.{number_at, agreed, fields_at, IsFormat, IsWhole}
+use Rattle.xom_image.proofs.Reading.{agreed-all, fields-told, whole-fields, AnswersBy-file}
+use Rattle.xom_image.specs.Fields.{number_at, agreed, fields_at, AnswersFile, IsFormat, IsWhole}
 use Rattle.xom_image.specs.PlainFiles.{plain_head, plain_file, plain_format, IsPlainFile, IsFirstBad, plain_image_at, Answers}
 
 pub plain_is_format : IsFormat plain_format
@@ -100,13 +99,9 @@ plain_file-read entry bytes aligned private fits =
 IsPlainFile-read : (file : List ℕ) (image : PlainImage) → IsPlainFile file image → plain_image_at file ≡ Ok (image.entry, image.bytes)
 IsPlainFile-read file image is = ap plain_image_at is ∙ plain_file-read image.entry image.bytes image.aligned image.private image.fits
 
-pub Answers-only : (file : List ℕ) (result : Result PlainImage ImageFault) → Answers (plain_image_at file) result → (image : PlainImage) → IsPlainFile file image → (result ≡ Ok image) ⊎ (result ≡ Err fault.NoMemory)
-Answers-only file result answers image is =
-    AnswersBy-only (λ (image : PlainImage). (image.entry, image.bytes)) (plain_image_at file)
-    (λ a b same. PlainImage-equal a b (ap (λ (p : ℕ × List ℕ). p.0) same) (ap (λ (p : ℕ × List ℕ). p.1) same))
-    image (IsPlainFile-read file image is) result answers
-
-pub Answers-bad : (file : List ℕ) (result : Result PlainImage ImageFault) → Answers (plain_image_at file) result → (n : ℕ) → (result ≡ Err (fault.Bad n)) ↔ IsFirstBad file n
+pub Answers-file : (file : List ℕ) (result : Result PlainImage ImageFault) → IfOk result (IsPlainFile file) → Answers (plain_image_at file) result → AnswersFile (IsPlainFile file) (IsFirstBad file) result
 unfolding plain_image_at
-Answers-bad file =
-    AnswersBy-first_bad (λ (image : PlainImage). (image.entry, image.bytes)) plain_format plain_is_format file (λ fields. (fields.0, drop 16 file))
+Answers-file file =
+    AnswersBy-file (λ (image : PlainImage). (image.entry, image.bytes))
+    (λ a b same. PlainImage-equal a b (ap (λ (p : ℕ × List ℕ). p.0) same) (ap (λ (p : ℕ × List ℕ). p.1) same))
+    plain_format plain_is_format file (λ fields. (fields.0, drop 16 file)) (IsPlainFile file) (IsPlainFile-read file)

@@ -3,11 +3,12 @@ use Rattle.std.proofs.Common.{◌≡◌, ℕ, ◌+◌, ◌%◌, ◌^◌, ◌<◌
 use Rattle.std.proofs.lemmas.Bool.{cond_both, eqb-true, eqb-false, ltb-true, ltb-false, and_cases, cases_lt}
 use Rattle.std.proofs.lemmas.Bool.Decides.{nat_tests}
 use Rattle.std.proofs.lemmas.List.Sums.{take_while-cons}
+use Rattle.xom_base.specs.Memory.{OrOut}
 use Rattle.xom_base.specs.Results.{◌>>=◌}
 use Rattle.xom_image.specs.declared.fault.ImageFault.{ImageFault}
 use Rattle.xom_image.specs.declared.fault.ImageFault.TheVariants as fault
 use Rattle.xom_image.specs.declared.fields.Format.{Format}
-use Rattle.xom_image.specs.Fields.{entry_of, count_of, size_of, DiffersAt, IsBadAt, IsFirstBadOf, is_entry, agreed, fields_at, AnswersBy, IsWhole, IsFormat}
+use Rattle.xom_image.specs.Fields.{entry_of, count_of, size_of, DiffersAt, IsBadAt, IsFirstBadOf, is_entry, agreed, fields_at, AnswersBy, AnswersFile, IsWhole, IsFormat}
 
 -- ---- Where two texts agree
 
@@ -205,7 +206,7 @@ bad_no_image (Ok a) n is image = ok_apart is
 bad_no_image (Err m) n is image = cc
 
 -- a reader answers a bad place exactly where that is the first, if what it should read is so
-pub AnswersBy-bad : {X Image : Type 0} (parts : Image → X) (read : Result X ℕ) (First : ℕ → Type 0) → ((n : ℕ) → read ≡ Err n → First n) → ((n : ℕ) → First n → read ≡ Err n)
+AnswersBy-bad : {X Image : Type 0} (parts : Image → X) (read : Result X ℕ) (First : ℕ → Type 0) → ((n : ℕ) → read ≡ Err n → First n) → ((n : ℕ) → First n → read ≡ Err n)
     → (result : Result Image ImageFault) → AnswersBy parts read result → (n : ℕ) → (result ≡ Err (fault.Bad n)) ↔ First n
 AnswersBy-bad parts read First is_first first (Ok image) answers n = (λ is. absurd (ok_apart is), λ there. absurd (ok_apart (sym answers ∙ first n there)))
 AnswersBy-bad parts read First is_first first (Err (fault.Bad m)) answers n =
@@ -213,8 +214,8 @@ AnswersBy-bad parts read First is_first first (Err (fault.Bad m)) answers n =
 AnswersBy-bad parts read First is_first first (Err fault.NoMemory) answers n = (λ is. absurd (cc), λ there. absurd (bad_no_image read n (first n there) answers))
 
 -- a reader answers the image of a file, or that memory ran out, if that image is what it should read
-pub AnswersBy-only : {X Image : Type 0} (parts : Image → X) (read : Result X ℕ) → ((a b : Image) → parts a ≡ parts b → a ≡ b)
-    → (image : Image) → read ≡ Ok (parts image) → (result : Result Image ImageFault) → AnswersBy parts read result → (result ≡ Ok image) ⊎ (result ≡ Err fault.NoMemory)
+AnswersBy-only : {X Image : Type 0} (parts : Image → X) (read : Result X ℕ) → ((a b : Image) → parts a ≡ parts b → a ≡ b)
+    → (image : Image) → read ≡ Ok (parts image) → (result : Result Image ImageFault) → AnswersBy parts read result → OrOut fault.NoMemory (Ok image) result
 AnswersBy-only parts read equal image is (Ok found) answers = inl (ap Ok (equal found image (ok_parts (sym answers ∙ is))))
 AnswersBy-only parts read equal image is (Err (fault.Bad n)) answers = absurd (ok_apart (sym is ∙ answers))
 AnswersBy-only parts read equal image is (Err fault.NoMemory) answers = inr refl
@@ -224,10 +225,15 @@ made-bad : {A B : Type 0} (make : A → B) (read : Result A ℕ) (n : ℕ) → (
 made-bad make (Ok x) n is = absurd (ok_apart is)
 made-bad make (Err m) n is = cc
 
--- a reader of a format that makes the image of its fields answers the first bad place of a file, if there is one
-pub AnswersBy-first_bad : {X Image : Type 0} (parts : Image → X) (format : Format) → IsFormat format → (file : List ℕ) (make : ℕ × ℕ → X)
-    → (result : Result Image ImageFault) → AnswersBy parts (fields_at format file >>= (λ fields. Ok (make fields))) result → (n : ℕ) → (result ≡ Err (fault.Bad n)) ↔ IsFirstBadOf format file n
-AnswersBy-first_bad parts format is_format file make =
-    AnswersBy-bad parts (fields_at format file >>= (λ fields. Ok (make fields))) (IsFirstBadOf format file)
-    (λ n is. fields-bad format file n is_format (made-bad make (fields_at format file) n is))
-    (λ n first. ap (λ read. read >>= (λ fields. Ok (make fields))) (bad-fields format file n is_format first))
+-- a reader of a format that makes the image of its fields answers as the format says, if what it reads of the file of an image is that image
+pub AnswersBy-file : {X Image : Type 0} (parts : Image → X) → ((a b : Image) → parts a ≡ parts b → a ≡ b) → (format : Format) → IsFormat format → (file : List ℕ) (make : ℕ × ℕ → X) (IsOf : Image → Type 0)
+    → ((image : Image) → IsOf image → (fields_at format file >>= (λ fields. Ok (make fields))) ≡ Ok (parts image))
+    → (result : Result Image ImageFault) → IfOk result IsOf → AnswersBy parts (fields_at format file >>= (λ fields. Ok (make fields))) result → AnswersFile IsOf (IsFirstBadOf format file) result
+AnswersBy-file parts equal format is_format file make IsOf is_read result found answers = record {
+  found = found;
+  only = λ image is. AnswersBy-only parts (fields_at format file >>= (λ fields. Ok (make fields))) equal image (is_read image is) result answers;
+  bad = AnswersBy-bad parts (fields_at format file >>= (λ fields. Ok (make fields))) (IsFirstBadOf format file)
+      (λ n is. fields-bad format file n is_format (made-bad make (fields_at format file) n is))
+      (λ n first. ap (λ read. read >>= (λ fields. Ok (make fields))) (bad-fields format file n is_format first))
+      result answers;
+}

@@ -1,5 +1,5 @@
 -- The reading of a sealed image file is the grammar, both ways.
-use Rattle.std.proofs.Common.{◌≡◌, ℕ, ◌+◌, ◌*◌, ◌%◌, ◌^◌, ◌<◌, ◌≤◌, ◌⊎◌, List, ◌++◌, Result, Ok, Err, drop, length, take, refl, sym, ◌∙◌, ap, arith, ◌↔◌, length-append, length-drop, append_assoc}
+use Rattle.std.proofs.Common.{◌≡◌, ℕ, ◌+◌, ◌*◌, ◌%◌, ◌^◌, ◌<◌, ◌≤◌, List, ◌++◌, Result, Ok, Err, drop, length, take, refl, sym, ◌∙◌, ap, arith, IfOk, length-append, length-drop, append_assoc}
 use Rattle.std.specs.Int.{w32, from_be_bytes}
 use Rattle.std.specs.List.{flat_map}
 use Rattle.std.proofs.Math.Seq.{drop-drop, take_at, take-append-le, drop-append-le, length-take-le, take-take}
@@ -8,12 +8,11 @@ use Rattle.xom_base.specs.Results.{◌>>=◌}
 use Rattle.xom_seal.specs.declared.line.SealedLine.{SealedLine}
 use Rattle.xom_seal.specs.Envelopes.{entry_in, lines_in}
 use Rattle.xom_image.specs.declared.fault.ImageFault.{ImageFault}
-use Rattle.xom_image.specs.declared.fault.ImageFault.TheVariants as fault
 use Rattle.xom_image.specs.declared.sealed_image.SealedImage.{SealedImage}
 use Rattle.xom_image.proofs.Images.{SealedImage-equal}
 use Rattle.xom_image.proofs.LineBytes.{AreWhole, length-lines_at, lines_at-all, lines_at-lines, lines_at-whole, lines-length}
-use Rattle.xom_image.proofs.Reading.{agreed-all, fields-told, whole-fields, AnswersBy-first_bad, AnswersBy-only}
-use Rattle.xom_image.specs.Fields.{number_at, agreed, fields_at, IsFormat, IsWhole}
+use Rattle.xom_image.proofs.Reading.{agreed-all, fields-told, whole-fields, AnswersBy-file}
+use Rattle.xom_image.specs.Fields.{number_at, agreed, fields_at, AnswersFile, IsFormat, IsWhole}
 use Rattle.xom_image.specs.SealedFiles.{sealed_head, line_bytes, sealed_file, sealed_format, lines_at, envelope_at, IsSealedFile, IsFirstBadSealed, sealed_image_at, AnswersSealed}
 
 pub sealed_is_format : IsFormat sealed_format
@@ -154,13 +153,9 @@ IsSealedFile-read file image is =
 
 -- ---- What a reader promises follows from what it answers
 
-pub AnswersSealed-only : (file : List ℕ) (result : Result SealedImage ImageFault) → AnswersSealed (sealed_image_at file) result → (image : SealedImage) → IsSealedFile file image → (result ≡ Ok image) ⊎ (result ≡ Err fault.NoMemory)
-AnswersSealed-only file result answers image is =
-    AnswersBy-only (λ (image : SealedImage). (image.envelope, image.lines)) (sealed_image_at file)
-    (λ a b same. SealedImage-equal a b (ap (λ (p : List ℕ × List SealedLine). p.0) same) (ap (λ (p : List ℕ × List SealedLine). p.1) same))
-    image (IsSealedFile-read file image is) result answers
-
-pub AnswersSealed-bad : (file : List ℕ) (result : Result SealedImage ImageFault) → AnswersSealed (sealed_image_at file) result → (n : ℕ) → (result ≡ Err (fault.Bad n)) ↔ IsFirstBadSealed file n
+pub AnswersSealed-file : (file : List ℕ) (result : Result SealedImage ImageFault) → IfOk result (IsSealedFile file) → AnswersSealed (sealed_image_at file) result → AnswersFile (IsSealedFile file) (IsFirstBadSealed file) result
 unfolding sealed_image_at
-AnswersSealed-bad file =
-    AnswersBy-first_bad (λ (image : SealedImage). (image.envelope, image.lines)) sealed_format sealed_is_format file (λ fields. (envelope_at file, lines_at file fields.1))
+AnswersSealed-file file =
+    AnswersBy-file (λ (image : SealedImage). (image.envelope, image.lines))
+    (λ a b same. SealedImage-equal a b (ap (λ (p : List ℕ × List SealedLine). p.0) same) (ap (λ (p : List ℕ × List SealedLine). p.1) same))
+    sealed_format sealed_is_format file (λ fields. (envelope_at file, lines_at file fields.1)) (IsSealedFile file) (IsSealedFile-read file)

@@ -1,6 +1,7 @@
 -- What the files of plain and of sealed images have in common: a name with a version, an entry with a count behind it, and then so many parts of one size. Numbers have four bytes, the highest first. The formats are this project's own.
-use Rattle.std.specs.Prelude.{ℕ, ◌≡◌, ◌≢◌, ◌+◌, ◌*◌, ◌%◌, ◌^◌, ◌<◌, ◌≤◌, ◌⊎◌, ◌==◌, ◌&&◌, Bool, List, Result, Ok, Err, IsOk, drop, length, min, nat_lt, slice_index, take, take_while, zip, if◌then◌else◌}
+use Rattle.std.specs.Prelude.{ℕ, ◌≡◌, ◌≢◌, ◌↔◌, ◌+◌, ◌*◌, ◌%◌, ◌^◌, ◌<◌, ◌≤◌, ◌⊎◌, ◌==◌, ◌&&◌, Bool, List, Result, Ok, Err, IfOk, IsOk, drop, length, min, nat_lt, slice_index, take, take_while, zip, if◌then◌else◌}
 use Rattle.std.specs.Int.{w32, from_be_bytes}
+use Rattle.xom_base.specs.Memory.{OrOut}
 use Rattle.xom_image.specs.declared.fault.ImageFault.{ImageFault}
 use Rattle.xom_image.specs.declared.fault.ImageFault.TheVariants as fault
 use Rattle.xom_image.specs.declared.fields.Format.{Format}
@@ -98,3 +99,11 @@ abbrev pub AnswersBy : {X Image : Type 0} → (Image → X) → Result X ℕ →
 AnswersBy parts read (Ok image) = read ≡ Ok (parts image)
 AnswersBy parts read (Err (fault.Bad n)) = read ≡ Err n
 AnswersBy parts read (Err fault.NoMemory) = IsOk read
+
+-- How the reader of a format answers, where a file is that of an image, and a place is its first bad one:
+-- what is read is in the format; what is in the format is read as that image, unless memory ran out; the
+-- place that is answered is just the first bad one.
+pub record AnswersFile {Image : Type 0} (IsOf : Image → Type 0) (IsBad : ℕ → Type 0) (result : Result Image ImageFault) : Type 0 where
+  pub found : IfOk result IsOf
+  pub only : (image : Image) → IsOf image → OrOut fault.NoMemory (Ok image) result
+  pub bad : (n : ℕ) → (result ≡ Err (fault.Bad n)) ↔ IsBad n

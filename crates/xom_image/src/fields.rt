@@ -1,4 +1,4 @@
-ghost use Rattle.std.specs.Prelude.{◌≡◌, ◌+◌, ◌*◌, ◌≤◌, IfOk, SomeIff, drop, length, take};
+ghost use Rattle.std.specs.Prelude.{◌≡◌, ◌+◌, ◌*◌, ◌≤◌, IfOk, SomeIff, length};
 ghost use Rattle.xom_image.specs.Fields.{IsFormat, IsWhole, agreed as agreed_of, fields_at, number_at as number_of};
 
 /// The size of private memory in bytes, which no entry reaches.
@@ -83,14 +83,4 @@ fn number_at(file: &[u8], place: usize) -> Option<u32>
 {
     let field = file.get(place..)?.first_chunk()?;
     Some(u32::from_be_bytes(*field))
-}
-
-/// So many bytes from this place on.
-pub fn bytes_at<const N: usize>(file: &[u8], place: usize) -> [u8; N]
-    requires { place + N ≤ length file.now }
-    ensures { result ≡ take N (drop place file.now) }
-{
-    let mut bytes = [0; N];
-    bytes.copy_from_slice(&file[place..place + N]);
-    bytes
 }

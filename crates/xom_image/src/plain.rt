@@ -1,5 +1,5 @@
-ghost use Rattle.std.specs.Prelude.{◌≡◌, ◌⊎◌, ◌↔◌, ℕ, Ok, Err, IfOk};
-ghost use Rattle.xom_base.specs.declared.image.PlainImage.{PlainImage};
+ghost use Rattle.std.specs.Prelude.{◌≡◌, IfOk};
+ghost use Rattle.xom_image.specs.Fields.{AnswersFile};
 ghost use Rattle.xom_image.specs.PlainFiles.{Answers, IsFirstBad, IsPlainFile, plain_file, plain_image_at};
 
 use crate::ImageFault;
@@ -21,9 +21,9 @@ const PLAIN: Format = Format {
 
 /// The image of a plain image file. The bytes are copied once.
 pub fn read_plain(alloc: Global, bytes: &ByteList) -> Result<PlainImage, ImageFault>
-    ensures found { IfOk result (IsPlainFile bytes.now) }
-    ensures only { (image : PlainImage) → IsPlainFile bytes.now image → (result ≡ Ok image) ⊎ (result ≡ Err ImageFault.NoMemory) }
-    ensures bad { (n : ℕ) → (result ≡ Err (ImageFault.Bad n)) ↔ IsFirstBad bytes.now n }
+    // What is read is in the format, and what is in the format is read, unless memory ran out. The place
+    // that is answered is just the first bad one.
+    ensures file { AnswersFile (IsPlainFile bytes.now) (IsFirstBad bytes.now) result }
     ensures value { Answers (plain_image_at bytes.now) result }
 {
     image_of(alloc, bytes.as_slice())

@@ -1,13 +1,13 @@
-ghost use Rattle.std.specs.Prelude.{◌≡◌, ◌+◌, ◌*◌, ◌≤◌, ◌⊎◌, ◌↔◌, ℕ, Ok, Err, IfOk, length, OnOk, ◌++◌};
+ghost use Rattle.std.specs.Prelude.{◌≡◌, ◌+◌, ◌*◌, ◌≤◌, IfOk, length, OnOk, ◌++◌};
 ghost use Rattle.std.specs.List.{flat_map};
-ghost use Rattle.xom_image.specs.declared.sealed_image.SealedImage.{SealedImage};
+ghost use Rattle.xom_image.specs.Fields.{AnswersFile};
 ghost use Rattle.xom_image.specs.SealedFiles.{AnswersSealed, IsFirstBadSealed, IsSealedFile, line_at as line_of, line_bytes, lines_at as lines_of, sealed_file, sealed_image_at};
 
-use crate::fields::{Format, HEAD, bytes_at, fields};
+use crate::fields::{Format, HEAD, fields};
 use crate::{ImageFault, SealedImage, SealedLineList};
 use std::alloc::{AllocError, Global};
 use xom_base::{ByteList, NoMemory};
-use xom_seal::SealedLine;
+use xom_seal::{SealedLine, part};
 
 /// How many bytes stand before the lines.
 const START: usize = 96;
@@ -27,9 +27,9 @@ const SEALED: Format = Format {
 
 /// The image of a sealed image file. No tag is looked at. The lines are copied once.
 pub fn read_sealed(alloc: Global, bytes: &ByteList) -> Result<SealedImage, ImageFault>
-    ensures found { IfOk result (IsSealedFile bytes.now) }
-    ensures only { (image : SealedImage) → IsSealedFile bytes.now image → (result ≡ Ok image) ⊎ (result ≡ Err ImageFault.NoMemory) }
-    ensures bad { (n : ℕ) → (result ≡ Err (ImageFault.Bad n)) ↔ IsFirstBadSealed bytes.now n }
+    // What is read is in the format, and what is in the format is read, unless memory ran out. The place
+    // that is answered is just the first bad one.
+    ensures file { AnswersFile (IsSealedFile bytes.now) (IsFirstBadSealed bytes.now) result }
     ensures value { AnswersSealed (sealed_image_at bytes.now) result }
 {
     image_of(alloc, bytes.as_slice())
@@ -44,7 +44,7 @@ fn image_of(alloc: Global, file: &[u8]) -> Result<SealedImage, ImageFault>
     let (_entry, count) = fields(&SEALED, file).map_err(ImageFault::Bad)?;
     let lines = lines_at(alloc, file, count)?;
     Ok(SealedImage {
-        envelope: bytes_at(file, HEAD),
+        envelope: part(file, HEAD),
         lines: SealedLineList::from_vec(lines),
     })
 }
@@ -69,8 +69,8 @@ fn line_at(file: &[u8], place: usize) -> SealedLine
     ensures { result ≡ line_of file.now place }
 {
     SealedLine {
-        ct: bytes_at(file, place),
-        tag: bytes_at(file, place + 32),
+        ct: part(file, place),
+        tag: part(file, place + 32),
     }
 }
 

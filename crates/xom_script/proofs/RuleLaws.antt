@@ -10,26 +10,17 @@ use Rattle.xom_base.specs.declared.schedule.Poke.{Poke}
 use Rattle.xom_base.specs.Words.{words_of}
 use Rattle.xom_script.specs.RunFiles.{IsRunFile, RunFormat, run_file_at}
 use Rattle.xom_script.specs.RunLines.{IsInterrupts, IsRunLine}
-use Rattle.xom_script.specs.RunOrder.{Follows, HasRoom, IsNewId, with_owner}
-use Rattle.xom_script.specs.RunRules.{HasOwnIds, KeepsInterrupts, KeepsRules}
+use Rattle.xom_script.specs.RunOrder.{Follows, HasRoom, IsNewId, with_guest, with_owner}
+use Rattle.xom_script.specs.RunRules.{HasOwnIds, KeepsDraft, KeepsInterrupts, KeepsRules}
 use Rattle.xom_script.specs.declared.progress.Draft.{Draft}
 use Rattle.xom_script.specs.declared.progress.Progress.{Progress}
 use Rattle.xom_script.specs.declared.progress.Progress.TheVariants as progress
+use Rattle.xom_script.specs.declared.run_file.GuestFile.{GuestFile}
 use Rattle.xom_script.specs.declared.run_file.OwnerFile.{OwnerFile}
 use Rattle.xom_script.specs.declared.run_file.RunFile.{RunFile}
 use Rattle.xom_script.specs.declared.run_line.RunLine.{RunLine}
 use Rattle.xom_script.specs.declared.run_line.RunLine.TheVariants as line
 use Rattle.xom_script.proofs.RunLaws.{run_file_at-exact}
-
--- what the lines up to the files keep
-record KeepsDraft (draft : Draft) : Type 0 where
-  boot : draft.boot < 2 ^ 63
-  frames_least : 4 ≤ draft.frames
-  frames_most : draft.frames ≤ 8192
-  budget : draft.budget ≤ 2 ^ 20
-  owners : length draft.owners ≤ 16
-  ids : HasOwnIds draft.owners
-  guests : length draft.guests ≤ 16
 
 -- what the lines so far keep
 abbrev Keeps : Progress → Type 0
@@ -59,13 +50,18 @@ one_more items item few = rw (length-append items (item ∷ [])) (omega arith)
 
 owner-keeps : (draft : Draft) (owner : OwnerFile) → KeepsDraft draft → length draft.owners < 16 → IsNewId owner.id draft.owners → KeepsDraft (with_owner draft owner)
 owner-keeps draft owner keeps few new = record {
-  boot = keeps.boot;
-  frames_least = keeps.frames_least;
-  frames_most = keeps.frames_most;
-  budget = keeps.budget;
+  numbers = keeps.numbers;
   owners = one_more draft.owners owner few;
   ids = ids-snoc draft.owners owner keeps.ids new;
   guests = keeps.guests;
+}
+
+guest-keeps : (draft : Draft) (guest : GuestFile) → KeepsDraft draft → length draft.guests < 16 → KeepsDraft (with_guest draft guest)
+guest-keeps draft guest keeps few = record {
+  numbers = keeps.numbers;
+  owners = keeps.owners;
+  ids = keeps.ids;
+  guests = one_more draft.guests guest few;
 }
 
 interrupts-keep : (words : List (List ℕ)) (line : Interrupts) → IsInterrupts words line → KeepsInterrupts line
@@ -87,10 +83,7 @@ line-keeps before n words (line.Budget budget) after keeps is f =
     let k = subst Keeps f.3 keeps in
     let small : budget < 1048577 = is.2.1 in
     subst Keeps (sym f.4) record {
-      boot = k.0;
-      frames_least = k.1;
-      frames_most = k.2;
-      budget = omega arith;
+      numbers = record { booted = k.0; frames_least = k.1; frames_most = k.2; few = omega arith };
       owners = omega arith;
       ids = tt;
       guests = omega arith;
@@ -98,44 +91,17 @@ line-keeps before n words (line.Budget budget) after keeps is f =
 line-keeps before n words (line.Owner owner) after keeps is f =
     subst Keeps (sym f.5) (owner-keeps f.0 owner (subst Keeps f.1 keeps) f.3 f.4)
 line-keeps before n words (line.Guest sealed input) after keeps is f =
-    let k : KeepsDraft f.0 = subst Keeps f.1 keeps in
-    subst Keeps (sym f.3) record {
-      boot = k.boot;
-      frames_least = k.frames_least;
-      frames_most = k.frames_most;
-      budget = k.budget;
-      owners = k.owners;
-      ids = k.ids;
-      guests = one_more f.0.guests _ f.2;
-    }
+    subst Keeps (sym f.3) (guest-keeps f.0 (record { line = n; sealed = sealed; input = input }) (subst Keeps f.1 keeps) f.2)
 line-keeps before n words (line.Kernel kernel) after keeps is f =
     let k : KeepsDraft f.0 = subst Keeps f.1 keeps in
     subst Keeps (sym f.3) (k, f.2)
 line-keeps before n words (line.Interrupt interrupts) after keeps is f =
     let k = subst Keeps f.3 keeps in
-    let d : KeepsDraft f.0 = k.0 in
-    subst Keeps (sym f.4) record {
-      boot = d.boot;
-      frames_least = d.frames_least;
-      frames_most = d.frames_most;
-      budget = d.budget;
-      owners = d.owners;
-      ids = d.ids;
-      guests = d.guests;
-      room = k.1;
-      interrupts = interrupts-keep is.0 interrupts is.2;
-      inside = tt;
-    }
+    subst Keeps (sym f.4) record { draft = k.0; room = k.1; interrupts = interrupts-keep is.0 interrupts is.2; inside = tt }
 line-keeps before n words (line.Poke poke) after keeps is f =
     let k : KeepsRules f.0 = subst Keeps f.1 keeps in
     subst Keeps (sym f.4) record {
-      boot = k.boot;
-      frames_least = k.frames_least;
-      frames_most = k.frames_most;
-      budget = k.budget;
-      owners = k.owners;
-      ids = k.ids;
-      guests = k.guests;
+      draft = k.draft;
       room = k.room;
       interrupts = k.interrupts;
       inside = all-snoc (λ (poke : Poke). poke.address + length poke.bytes ≤ f.0.frames * 8192) f.0.schedule.pokes poke k.inside f.3;

@@ -1,11 +1,12 @@
 -- The rules that each run file keeps which is read.
-use Rattle.std.specs.Prelude.{◌^◌, ◌<◌, ◌≤◌, List, [], ◌∷◌, length}
+use Rattle.std.specs.Prelude.{ℕ, ◌^◌, ◌<◌, ◌≤◌, List, [], ◌∷◌, length}
 use Rattle.std.specs.List.{AllByRecursion}
 use Rattle.xom_base.specs.declared.schedule.Interrupts.{Interrupts}
 use Rattle.xom_base.specs.declared.schedule.Interrupts.TheVariants as interrupts
 use Rattle.xom_base.specs.declared.schedule.Poke.{Poke}
 use Rattle.xom_script.specs.RunLines.{Ascends}
 use Rattle.xom_script.specs.RunOrder.{FitsRam, HasRoom, IsNewId}
+use Rattle.xom_script.specs.declared.progress.Draft.{Draft}
 use Rattle.xom_script.specs.declared.run_file.OwnerFile.{OwnerFile}
 use Rattle.xom_script.specs.declared.run_file.RunFile.{RunFile}
 
@@ -20,14 +21,32 @@ abbrev pub HasOwnIds : List OwnerFile → Type 0
 HasOwnIds [] = Unit {0}
 HasOwnIds (owner ∷ owners) = IsNewId owner.id owners × HasOwnIds owners
 
+-- the number of the power-on, how many frames RAM has, and at most how many events are made
+pub record KeepsNumbers (boot frames budget : ℕ) : Type 0 where
+  pub booted : boot < 2 ^ 63
+  pub frames_least : 4 ≤ frames
+  pub frames_most : frames ≤ 8192
+  pub few : budget ≤ 2 ^ 20
+
+-- what is said before the kernel's line
+pub record KeepsDraft (draft : Draft) : Type 0 where
+  pub numbers : KeepsNumbers draft.boot draft.frames draft.budget
+  pub owners : length draft.owners ≤ 16
+  pub ids : HasOwnIds draft.owners
+  pub guests : length draft.guests ≤ 16
+
+abbrev pub draft_of : RunFile → Draft
+draft_of file = record {
+  machine = file.machine;
+  boot = file.boot;
+  frames = file.frames;
+  budget = file.budget;
+  owners = file.owners;
+  guests = file.guests;
+}
+
 pub record KeepsRules (file : RunFile) : Type 0 where
-  pub boot : file.boot < 2 ^ 63
-  pub frames_least : 4 ≤ file.frames
-  pub frames_most : file.frames ≤ 8192
-  pub budget : file.budget ≤ 2 ^ 20
-  pub owners : length file.owners ≤ 16
-  pub ids : HasOwnIds file.owners
-  pub guests : length file.guests ≤ 16
+  pub draft : KeepsDraft (draft_of file)
   pub room : HasRoom file.kernel file.frames (length file.guests)
   pub interrupts : KeepsInterrupts file.schedule.interrupts
   pub inside : AllByRecursion (λ (poke : Poke). FitsRam poke file.frames) file.schedule.pokes

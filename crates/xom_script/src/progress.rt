@@ -8,7 +8,7 @@ use crate::run_line::RunLine;
 use std::alloc::Global;
 use xom_base::{ImageId, Interrupts, Key256, NoMemory, Poke, PokeList, Schedule};
 
-/// The files of a run, and the lines before them.
+/// The files of a run, and the lines before them, each as `RunFile` has it.
 #[derive(Drop)]
 pub struct Draft {
     pub machine: Key256,

@@ -1,20 +1,9 @@
 ghost use Rattle.std.specs.Prelude.{◌≡◌, ◌<◌};
 ghost use Rattle.xom_seal.specs.Counters.{counter_block as counter_block_of, envelope_counter as envelope_counter_of, line_counter as line_counter_of, register_counter as register_counter_of};
 
+use crate::kinds::{ENVELOPE, IMAGE_LINE, REGISTER, RUN_LINE};
 use crate::text::Text;
 use crate::{LineName, RegName};
-
-/// The domain of image lines.
-const IMAGE_LINE: u8 = 1;
-
-/// That of run lines.
-const RUN_LINE: u8 = 2;
-
-/// That of registers.
-const REGISTER: u8 = 3;
-
-/// That of envelopes.
-const ENVELOPE: u8 = 4;
 
 /// The version that all image lines have.
 const IMAGE_VERSION: u64 = 1;

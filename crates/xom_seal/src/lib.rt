@@ -10,6 +10,7 @@
 mod counter;
 mod envelope;
 mod keys;
+mod kinds;
 mod law;
 mod line;
 mod line_sealer;
@@ -35,3 +36,4 @@ pub use message::{envelope_message, line_message, register_message};
 pub use names::{LineName, RegName};
 pub use register::{RegisterOpening, RegisterSealing, SealedReg, seal_register, unseal_register};
 pub use register_sealer::RegisterSealer;
+pub use text::part;

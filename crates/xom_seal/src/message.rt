@@ -1,21 +1,10 @@
 ghost use Rattle.std.specs.Prelude.{◌≡◌};
 ghost use Rattle.xom_seal.specs.Messages.{envelope_message as envelope_message_of, line_message as line_message_of, register_message as register_message_of};
 
+use crate::kinds::{ENVELOPE, IMAGE_LINE, REGISTER, RUN_LINE};
 use crate::text::Text;
 use crate::{LineName, RegName};
 use xom_base::Short;
-
-/// The first byte of the message of an image line.
-const IMAGE_LINE: u8 = 1;
-
-/// That of a run line.
-const RUN_LINE: u8 = 2;
-
-/// That of a register.
-const REGISTER: u8 = 3;
-
-/// That of an envelope.
-const ENVELOPE: u8 = 4;
 
 /// The message of a line, whose tag stands beside its ciphertext: 53 bytes for an image line, 61
 /// for a run line.

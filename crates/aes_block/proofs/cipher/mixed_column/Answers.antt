@@ -9,7 +9,7 @@ pub returns : goal.returns
 returns c =
     column_made c.args.key c.from_row_0.result c.from_row_1.result c.from_row_2.result c.from_row_3.result
     c.args.a c.args.b c.args.c c.args.d
-    (c.from_row_0.ensures ∙ ap (λ bytes. column_from_row_0 (s_box (slice_index bytes 0))) c.to_be_bytes.ensures)
-    (c.from_row_1.ensures ∙ ap (λ bytes. column_from_row_1 (s_box (slice_index bytes 1))) c.to_be_bytes-2.ensures)
-    (c.from_row_2.ensures ∙ ap (λ bytes. column_from_row_2 (s_box (slice_index bytes 2))) c.to_be_bytes-3.ensures)
-    (c.from_row_3.ensures ∙ ap (λ bytes. column_from_row_3 (s_box (slice_index bytes 3))) c.to_be_bytes-4.ensures)
+    (c.from_row_0.ensures ∙ ap (λ bytes. column_from_row_0 (s_box (slice_index bytes 0))) c.rows.ensures)
+    (c.from_row_1.ensures ∙ ap (λ bytes. column_from_row_1 (s_box (slice_index bytes 1))) c.rows.ensures)
+    (c.from_row_2.ensures ∙ ap (λ bytes. column_from_row_2 (s_box (slice_index bytes 2))) c.rows.ensures)
+    (c.from_row_3.ensures ∙ ap (λ bytes. column_from_row_3 (s_box (slice_index bytes 3))) c.rows.ensures)

@@ -14,16 +14,16 @@ lines_at-requires c =
 pub returns-clause-found : goal.returns-clause-found
 returns-clause-found c =
     let read : fields_at sealed_format c.args.file.now ≡ Ok (c.in_ok-_entry._entry, c.in_ok-_entry.count) = grind (arith, common_steps) in
-    let envelope : c.bytes_at.result ≡ envelope_at c.args.file.now = c.bytes_at.ensures in
+    let envelope : c.part.result ≡ envelope_at c.args.file.now = c.part.ensures in
     let lines : c.from_vec.result ≡ lines_at c.args.file.now c.in_ok-_entry.count = c.from_vec.ensures ∙ c.in_ok-lines.ensures in
     told-file c.args.file.now _ _ read
     ∙ ap (λ bytes. sealed_file bytes (lines_at c.args.file.now c.in_ok-_entry.count)) (sym envelope)
-    ∙ ap (sealed_file c.bytes_at.result) (sym lines)
+    ∙ ap (sealed_file c.part.result) (sym lines)
 
 pub invariant_of-result : goal.invariant_of-result
 invariant_of-result c =
     let read : fields_at sealed_format c.args.file.now ≡ Ok (c.in_ok-_entry._entry, c.in_ok-_entry.count) = grind (arith, common_steps) in
-    let envelope : c.bytes_at.result ≡ envelope_at c.args.file.now = c.bytes_at.ensures in
+    let envelope : c.part.result ≡ envelope_at c.args.file.now = c.part.ensures in
     let lines : c.from_vec.result ≡ lines_at c.args.file.now c.in_ok-_entry.count = c.from_vec.ensures ∙ c.in_ok-lines.ensures in
     record {
       sized = rw envelope (told-sized c.args.file.now _ _ read);
