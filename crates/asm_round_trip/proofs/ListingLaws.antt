@@ -13,7 +13,6 @@ use Rattle.mips_text.specs.Texts.{word_at, word_text}
 use Rattle.asm_source.specs.declared.content.Content.{Content}
 use Rattle.asm_source.specs.declared.content.Part.{Part}
 use Rattle.asm_syntax.specs.Lines.{line_parts, part, source_of, source_step, state_of}
-use Rattle.mips_asm.specs.declared.placed_bytes.PlacedBytes.{PlacedBytes}
 use Rattle.mips_asm.specs.declared.placed.Placed.{Placed}
 use Rattle.mips_asm.specs.Layout.{after, layout, padding}
 use Rattle.mips_asm.specs.Passes.{duplicate_line, first_fault, line_of, repeats}
@@ -26,6 +25,7 @@ use Rattle.asm_round_trip.proofs.Growing.{fault-more, lines-front, read-next}
 use Rattle.asm_round_trip.proofs.LineEnds.{OneLine, no_line_end}
 use Rattle.asm_round_trip.proofs.NoNames.{IsFixed, gives_no_names, no_labels}
 use Rattle.asm_round_trip.proofs.Standing.{Stand, stand-more, stand-none}
+use Rattle.mips_asm.specs.Images.{PlacedBytes}
 
 -- ---- words
 

@@ -4,9 +4,8 @@ use Rattle.std.specs.Prelude.{find}
 use Rattle.std.specs.List.{list_any}
 use Rattle.std.proofs.lemmas.Bool.{cases_lt}
 use Rattle.std.proofs.lemmas.Bool.Decides.{nat_tests}
-use Rattle.mips_asm.specs.declared.placed_bytes.PlacedBytes.{PlacedBytes}
 use Rattle.mips_asm.specs.declared.placed.Placed.{Placed}
-use Rattle.mips_asm.specs.Images.{byte_over, chunk_end, chunks_end, holds}
+use Rattle.mips_asm.specs.Images.{PlacedBytes, byte_over, chunk_end, chunks_end, holds}
 use Rattle.mips_asm.specs.Layout.{covers, is_too_long}
 use Rattle.mips_asm.specs.Passes.{Labels, first_fault, is_unknown, line_of, overlap_line, overlaps}
 use Rattle.mips_asm.specs.Sources.{Writes, last_entry}

@@ -1,4 +1,4 @@
-ghost use Rattle.std.specs.Prelude.{◌≡◌, All};
+ghost use Rattle.std.specs.Prelude.{◌≡◌, [], All, IfOk};
 ghost use Rattle.asm_tokens.specs.Tokens.{IsTokenOf};
 ghost use Rattle.asm_syntax.specs.Forms.{Answers, map_some};
 ghost use Rattle.asm_syntax.specs.Lexing.{lexeme_at, lexeme_of, lexemes_of};
@@ -6,7 +6,7 @@ ghost use Rattle.asm_syntax.specs.Lexing.{lexeme_at, lexeme_of, lexemes_of};
 use crate::copies::copy_bytes;
 use asm_tokens::{Integer, Token, TokenFault, TokenKind, integer, register, tokens, unquoted};
 use std::alloc::Global;
-use xom_base::{ByteList, LineFault, List};
+use xom_base::{ByteList, LineFault, List, NoMemory};
 
 /// A token of a line with what it stands for.
 #[derive(Drop)]
@@ -48,13 +48,20 @@ fn lexemes_in(alloc: Global, line: &[u8], tokens: &[Token]) -> Result<List<Lexem
     requires { All (IsTokenOf line.now) tokens.now }
     ensures { Answers (map_some (lexeme_at line.now) tokens.now) result }
 {
-    let mut lexemes = List::new(alloc);
+    let mut lexemes = room(alloc, tokens.len())?;
     for token in tokens {
         let text = &line[token.start as usize..token.end as usize];
         let lexeme = make_lexeme(alloc, token.kind, text)?;
         lexemes.push(lexeme)?;
     }
     Ok(lexemes)
+}
+
+/// The empty list, with room for so many lexemes.
+fn room(alloc: Global, count: usize) -> Result<List<Lexeme>, NoMemory>
+    ensures { IfOk result (λ list. list ≡ []) }
+{
+    Ok(List::from_vec(Vec::with_capacity(alloc, count)?))
 }
 
 /// The lexeme of a token of this kind with this text.

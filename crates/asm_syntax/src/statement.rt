@@ -7,7 +7,7 @@ use crate::arguments::ZERO;
 use crate::copies::{copy_bytes, copy_value};
 use asm_source::{Argument, Content, Value};
 use asm_tokens::Integer;
-use mips_forms::{OperandKind, kinds};
+use mips_forms::{OperandKind, kinds, same_text};
 use std::alloc::Global;
 use xom_base::{ByteList, LineFault, List, NoMemory};
 
@@ -20,19 +20,19 @@ pub fn statement(
 ) -> Result<Content, LineFault>
     ensures { Answers (statement_of name.now arguments) result }
 {
-    if name == b".word".as_slice() {
+    if same_text(name, b".word") {
         word(alloc, arguments.as_slice())
-    } else if name == b".byte".as_slice() {
+    } else if same_text(name, b".byte") {
         byte(alloc, arguments.as_slice())
-    } else if name == b".ascii".as_slice() {
+    } else if same_text(name, b".ascii") {
         ascii(alloc, arguments.as_slice())
-    } else if name == b".space".as_slice() {
+    } else if same_text(name, b".space") {
         space(arguments.as_slice()).ok_or(LineFault::Bad)
-    } else if name == b".align".as_slice() {
+    } else if same_text(name, b".align") {
         align(arguments.as_slice()).ok_or(LineFault::Bad)
-    } else if name == b".org".as_slice() {
+    } else if same_text(name, b".org") {
         org(arguments.as_slice()).ok_or(LineFault::Bad)
-    } else if name == b".entry".as_slice() {
+    } else if same_text(name, b".entry") {
         entry(alloc, arguments.as_slice())
     } else {
         mnemonic(alloc, name, arguments)
@@ -44,19 +44,19 @@ pub fn statement(
 fn mnemonic(alloc: Global, name: &[u8], arguments: List<Argument>) -> Result<Content, LineFault>
     ensures { Answers (mnemonic_of name.now arguments) result }
 {
-    if name == b"li".as_slice() {
+    if same_text(name, b"li") {
         load_number(arguments.as_slice()).ok_or(LineFault::Bad)
-    } else if name == b"la".as_slice() {
+    } else if same_text(name, b"la") {
         load_address(alloc, arguments.as_slice())
-    } else if name == b"move".as_slice() {
+    } else if same_text(name, b"move") {
         move_register(alloc, arguments.as_slice())
-    } else if name == b"nop".as_slice() {
+    } else if same_text(name, b"nop") {
         nop(alloc, arguments.as_slice())
-    } else if name == b"b".as_slice() {
+    } else if same_text(name, b"b") {
         branch(alloc, arguments.as_slice())
-    } else if name == b"jalr".as_slice() {
+    } else if same_text(name, b"jalr") {
         link(alloc, arguments)
-    } else if name == b"syscall".as_slice() || name == b"break".as_slice() {
+    } else if same_text(name, b"syscall") || same_text(name, b"break") {
         coded(alloc, name, arguments)
     } else {
         instruction(alloc, name, arguments)

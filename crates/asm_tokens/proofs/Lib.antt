@@ -6,3 +6,4 @@ pub mod QuotedLaws
 pub mod RegisterLaws
 pub mod SizeLaws
 pub mod StepLaws
+pub mod NumberedRegisters

@@ -50,11 +50,11 @@ found text place h =
 
 -- ---- from the table to the function
 
-is_some_of : Option ℕ → ℕ → Bool
+unfoldable pub is_some_of : Option ℕ → ℕ → Bool
 is_some_of None n = false
 is_some_of (Some m) n = eqb m n
 
-is_some_of-true : (o : Option ℕ) (n : ℕ) → is_some_of o n ≡ true → o ≡ Some n
+pub is_some_of-true : (o : Option ℕ) (n : ℕ) → is_some_of o n ≡ true → o ≡ Some n
 unfolding is_some_of
 is_some_of-true None n h = absurd (true≢false (sym h))
 is_some_of-true (Some m) n h = ap Some (eqb-true m n h)

@@ -1,4 +1,4 @@
-ghost use Rattle.std.specs.Prelude.{◌≡◌, ◌↔◌, ◌<◌, ℕ, IsNone, IfSome, Some, map, position};
+ghost use Rattle.std.specs.Prelude.{◌≡◌, ◌↔◌, ◌<◌, ◌∷◌, [], ℕ, IsNone, IfSome, Some, map, position};
 ghost use Rattle.std.specs.Str.{bytes_eq};
 ghost use Rattle.asm_tokens.specs.Registers.{IsRegister, register_of};
 
@@ -23,7 +23,67 @@ pub fn register(text: &[u8]) -> Option<u8>
     register_in(text)
 }
 
+/// The register of a text. Most texts are a number, or a letter and a digit, so these are read first.
 fn register_in(text: &[u8]) -> Option<u8>
+    ensures { result ≡ register_of text.now }
+{
+    match numbered(text) {
+        Some(register) => Some(register),
+        None => listed(text),
+    }
+}
+
+/// The register of a number below 30, or of a letter and a digit. None says nothing.
+fn numbered(text: &[u8]) -> Option<u8>
+    ensures { IfSome result (λ r. register_of text.now ≡ Some r) }
+{
+    let [dollar, rest @ ..] = text else {
+        return None;
+    };
+    if *dollar != b'$' {
+        return None;
+    }
+    match rest {
+        [digit] => one_digit(*digit),
+        [first, digit] => two_bytes(*first, *digit),
+        _ => None,
+    }
+}
+
+/// The register of `$` and a digit.
+#[tactic(auto, using(crate::proofs::NumberedRegisters::ones))]
+fn one_digit(digit: u8) -> Option<u8>
+    ensures { IfSome result (λ r. register_of (36 ∷ digit ∷ []) ≡ Some r) }
+{
+    if digit < b'0' || b'9' < digit {
+        return None;
+    }
+    Some(digit - b'0')
+}
+
+/// The register of `$`, a digit or a letter, and a digit.
+#[tactic(auto, using(crate::proofs::NumberedRegisters::tens, crate::proofs::NumberedRegisters::temporary, crate::proofs::NumberedRegisters::saved, crate::proofs::NumberedRegisters::given))]
+fn two_bytes(first: u8, digit: u8) -> Option<u8>
+    ensures { IfSome result (λ r. register_of (36 ∷ first ∷ digit ∷ []) ≡ Some r) }
+{
+    if digit < b'0' || b'9' < digit {
+        return None;
+    }
+    if first == b'1' || first == b'2' {
+        Some((first - b'0') * 10 + (digit - b'0'))
+    } else if first == b't' && digit < b'8' {
+        Some(digit - b'0' + 8)
+    } else if first == b's' && digit < b'8' {
+        Some(digit - b'0' + 16)
+    } else if first == b'a' && digit < b'4' {
+        Some(digit - b'0' + 4)
+    } else {
+        None
+    }
+}
+
+/// The register of a text by the table.
+fn listed(text: &[u8]) -> Option<u8>
     ensures { result ≡ register_of text.now }
 {
     let place = place_of(&TEXTS, text)?;

@@ -8,6 +8,7 @@ ghost use Rattle.asm_tokens.specs.Tokens.{Answers, AreTokens, IsBadAt, IsTokenOf
 use crate::quoted::behind_quote;
 use crate::{Token, TokenFault, TokenKind, TokenList, integer, register};
 use std::alloc::Global;
+use xom_base::NoMemory;
 
 /// The tokens of a line, which is given without its line end. Space, tab and byte 13 stand between
 /// tokens, but none needs to; outside quoted texts `#` begins a comment. A name, a number or a register
@@ -28,13 +29,20 @@ pub fn tokens(alloc: Global, line: &[u8]) -> Result<TokenList, TokenFault>
 fn tokens_in(alloc: Global, line: &[u8]) -> Result<TokenList, TokenFault>
     ensures { Answers (tokens_of line.now) result }
 {
-    let mut tokens = TokenList::new(alloc);
+    let mut tokens = room(alloc)?;
     let mut at = 0;
     while let Some(token) = next_token(line, at).map_err(TokenFault::Token)? {
         tokens.push(token)?;
         at = token.end as usize;
     }
     Ok(tokens)
+}
+
+/// The empty list, with room for the tokens of most lines.
+fn room(alloc: Global) -> Result<TokenList, NoMemory>
+    ensures { IfOk result (λ list. list ≡ []) }
+{
+    Ok(TokenList::from_vec(Vec::with_capacity(alloc, 8)?))
 }
 
 /// The first token from a place on, or none where the line is over. The error is the place of the

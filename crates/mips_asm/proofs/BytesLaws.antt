@@ -9,10 +9,9 @@ use Rattle.std.proofs.lemmas.List.Folds.{list_any-append}
 use Rattle.xom_base.specs.declared.image.PlainImage.{PlainImage}
 use Rattle.asm_source.specs.declared.content.Part.{Part}
 use Rattle.asm_syntax.specs.Lines.{source_of}
-use Rattle.mips_asm.specs.declared.placed_bytes.PlacedBytes.{PlacedBytes}
 use Rattle.mips_asm.specs.declared.placed.Placed.{Placed}
 use Rattle.mips_asm.specs.Encoding.{Gives}
-use Rattle.mips_asm.specs.Images.{IsWritten, byte_over, chunks_end, holds}
+use Rattle.mips_asm.specs.Images.{IsWritten, PlacedBytes, byte_over, chunks_end, holds}
 use Rattle.mips_asm.specs.Laws.{AreBytesOf, BytesOfStatements, StandsAtItsPlace}
 use Rattle.mips_asm.specs.Layout.{IsSized, after, covers, end_of, last_end, layout}
 use Rattle.mips_asm.specs.Passes.{Labels, first_fault, line_of, overlap_line, overlaps}
@@ -140,7 +139,7 @@ all_stand labels before (p ∷ placed) chunks apart sized writes =
     )
 
 -- the bytes end where the statements do
-ends-same : (labels : Labels) (placed : List Placed) (chunks : List PlacedBytes) → All IsSized placed → Writes labels placed chunks → chunks_end chunks ≡ last_end placed
+pub ends-same : (labels : Labels) (placed : List Placed) (chunks : List PlacedBytes) → All IsSized placed → Writes labels placed chunks → chunks_end chunks ≡ last_end placed
 unfolding chunks_end last_end
 ends-same labels [] chunks sized writes = ap chunks_end writes
 ends-same labels (p ∷ placed) chunks sized writes =

@@ -3,13 +3,13 @@ use Rattle.std.proofs.Common.{◌≡◌, ℕ, inl, inr, List, [], ◌∷◌, ◌
 use Rattle.std.proofs.lemmas.Option.{none-some}
 use Rattle.xom_base.specs.declared.image.PlainImage.{PlainImage}
 use Rattle.asm_source.specs.declared.content.Part.{Part}
-use Rattle.mips_asm.specs.declared.placed_bytes.PlacedBytes.{PlacedBytes}
 use Rattle.mips_asm.specs.declared.fault.AsmFault.{AsmFault}
 use Rattle.mips_asm.specs.declared.fault.AsmFault.TheVariants.{Syntax, Duplicate, TooLong, Overlap, UnknownName, Range, NoMemory}
 use Rattle.mips_asm.specs.declared.placed.Placed.{Placed}
 use Rattle.mips_asm.specs.Layout.{layout}
 use Rattle.mips_asm.specs.Passes.{Labels, duplicate_line, line_of, too_long_line}
 use Rattle.mips_asm.specs.Sources.{GivesNothing, IsFirst, IsOutOfRange, IsPartsFault, IsPlacedFault, IsPlacedImage, Writes, bad_entry, bad_entry_of, entry_by, labels_of, last_entry}
+use Rattle.mips_asm.specs.Images.{PlacedBytes}
 
 -- a fault that was both found and not found
 both : (found : Option ℕ) (n : ℕ) → found ≡ None → found ≡ Some n → ⊥

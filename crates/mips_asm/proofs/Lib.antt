@@ -12,3 +12,5 @@ pub mod SameFaults
 pub mod ImageOrFaultLaws
 pub mod OneOutcome
 pub mod BytesLaws
+pub mod WrittenLaws
+pub mod CodeLaws

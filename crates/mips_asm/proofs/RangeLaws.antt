@@ -1,18 +1,15 @@
 -- What statements write, one after another.
-use Rattle.std.proofs.Common.{◌≡◌, ℕ, ◌+◌, ◌<◌, inl, inr, List, [], ◌∷◌, ◌++◌, length, get_or, take, drop, eq-eqb, eqb, true, false, Option, Some, None, refl, sym, ap, subst, ◌∙◌, arith}
+use Rattle.std.proofs.Common.{◌≡◌, ℕ, ◌+◌, ◌<◌, inl, inr, List, [], ◌∷◌, ◌++◌, length, get_or, take, drop, eq-eqb, eqb, true, false, Option, Some, None, refl, sym, ap, subst, ◌∙◌}
 use Rattle.std.specs.List.{All}
 use Rattle.std.specs.Option.{option_eq}
 use Rattle.std.proofs.lemmas.Bool.{eqb-true, true≢false}
 use Rattle.std.proofs.lemmas.List.{take_more, take-append-drop, drop_more}
 use Rattle.std.proofs.lemmas.List.Elements.{All-cons, All-head, All-nil, All-tail}
-use Rattle.mips_asm.specs.declared.placed_bytes.PlacedBytes.{PlacedBytes}
 use Rattle.mips_asm.specs.declared.placed.Placed.{Placed}
 use Rattle.mips_asm.specs.Encoding.{Gives}
-use Rattle.mips_asm.specs.Images.{FitsImage}
-use Rattle.mips_asm.specs.Layout.{IsInside, IsSized}
+use Rattle.mips_asm.specs.Images.{PlacedBytes}
 use Rattle.mips_asm.specs.Passes.{Labels, line_of}
 use Rattle.mips_asm.proofs.ImageLaws.{chunk_at}
-use Rattle.mips_asm.proofs.SizeLaws.{Gives-size}
 use Rattle.mips_asm.specs.Sources.{IsFirst, IsOutOfRange, Writes}
 
 -- one more statement
@@ -72,12 +69,6 @@ pub Writes_here : (labels : Labels) (xs : List Placed) (i : ℕ) (x : Placed) (c
 Writes_here labels xs i x chunks bytes within is writes gives =
     subst (λ (p : Placed). Writes labels (take (i + 1) xs) (chunks ++ chunk_at p.place bytes ∷ [])) (sym is)
     (Writes_more labels xs i x chunks bytes within writes (subst (λ (p : Placed). Gives labels p.place p.part.content bytes) is gives))
-
--- the bytes of a statement within the limit are within it
-pub chunk_fits : (labels : Labels) (x : Placed) (bytes : List ℕ) → IsInside x → IsSized x → Gives labels x.place x.part.content bytes → FitsImage (chunk_at x.place bytes)
-chunk_fits labels x bytes inside sized gives =
-    let size : length bytes ≡ x.size = Gives-size labels x.place x.part.content bytes gives ∙ sym sized in
-    λ some. omega (arith, size, inside)
 
 -- a line that is told to be another is it
 pub same_line : (bad : Option ℕ) (line : ℕ) → option_eq eqb bad (Some line) ≡ true → bad ≡ Some line

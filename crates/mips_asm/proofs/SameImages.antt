@@ -9,10 +9,9 @@ use Rattle.mips_instruction.specs.Words.{word_of}
 use Rattle.mips_instruction.specs.declared.instruction.Ins.{Ins}
 use Rattle.asm_source.specs.declared.content.Content.{Content}
 use Rattle.asm_source.specs.declared.content.Content.TheVariants.{Label, Words, Bytes, Ascii, Space, Align, Org, Entry, LoadNumber, LoadAddress, Instruction}
-use Rattle.mips_asm.specs.declared.placed_bytes.PlacedBytes.{PlacedBytes}
 use Rattle.mips_asm.specs.declared.placed.Placed.{Placed}
 use Rattle.mips_asm.specs.Encoding.{AreWords, Gives, IsCode}
-use Rattle.mips_asm.specs.Images.{IsWritten}
+use Rattle.mips_asm.specs.Images.{IsWritten, PlacedBytes}
 use Rattle.mips_asm.specs.Passes.{Labels}
 use Rattle.mips_asm.specs.Sources.{IsPlacedImage, Writes, labels_of}
 

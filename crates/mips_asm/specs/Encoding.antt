@@ -147,6 +147,16 @@ abbrev pub Appends : {A : Type 0} → Option (List A) → List A → Bool → Li
 Appends found old true new = option_map (λ more. old ++ more) found ≡ Some new
 Appends found old false new = found ≡ None
 
+-- What was answered of bytes that have a property: true and such bytes, or false where no bytes have it.
+abbrev pub Tells : (List ℕ → Type 0) → Bool → List ℕ → Type 0
+Tells P true bytes = P bytes
+Tells P false bytes = (all : List ℕ) → ¬ P all
+
+-- the same of bytes that come of a function
+abbrev pub Comes : Option (List ℕ) → Bool → List ℕ → Type 0
+Comes found true bytes = found ≡ Some bytes
+Comes found false bytes = found ≡ None
+
 -- each instruction has its operands in their ranges, and the bytes are their words
 abbrev pub AreWords : List Ins → List ℕ → Type 0
 AreWords [] bytes = bytes ≡ []
@@ -161,15 +171,23 @@ alone i = i ∷ []
 
 -- ---- statements
 
+-- the values of `.word` stand at a multiple of 4
+abbrev pub GivesWords : Labels → ℕ → List Value → List ℕ → Type 0
+GivesWords labels place vs bytes = (place % 4 ≡ 0) × (join_some (word_value labels) vs ≡ Some bytes)
+
+-- zeros up to the next multiple of 2^n, where n is at most 12
+abbrev pub IsAligned : (n place : ℕ) → List ℕ → Type 0
+IsAligned n place bytes = (n ≤ 12) × (bytes ≡ replicate (padding n place) 0)
+
 -- The statement, at this place, writes these bytes: its values are in their ranges. (What the last
 -- `.entry` says of the entry is looked at by itself.)
 abbrev pub Gives : Labels → ℕ → Content → List ℕ → Type 0
 Gives labels place (Label name) bytes = bytes ≡ []
-Gives labels place (Words vs) bytes = (place % 4 ≡ 0) × (join_some (word_value labels) vs ≡ Some bytes)
+Gives labels place (Words vs) bytes = GivesWords labels place vs bytes
 Gives labels place (Bytes ns) bytes = map_some byte_value ns ≡ Some bytes
 Gives labels place (Ascii text) bytes = bytes ≡ text
 Gives labels place (Space n) bytes = bytes ≡ replicate n 0
-Gives labels place (Align n) bytes = (n ≤ 12) × (bytes ≡ replicate (padding n place) 0)
+Gives labels place (Align n) bytes = IsAligned n place bytes
 Gives labels place (Org n) bytes = bytes ≡ []
 Gives labels place (Entry v) bytes = bytes ≡ []
 Gives labels place (LoadNumber r n) bytes = IsCode place (load_number r n) bytes

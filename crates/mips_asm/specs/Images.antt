@@ -1,11 +1,19 @@
 -- The bytes of an image, from the bytes that the statements write.
-use Rattle.std.specs.Prelude.{◌≡◌, ℕ, ◌+◌, ◌-◌, ◌<◌, ◌≤◌, ◌&&◌, nat_le, nat_lt, Bool, if◌then◌else◌, List, [], ◌∷◌, length, max, slice_index}
-use Rattle.mips_asm.specs.Layout.{limit}
-use Rattle.mips_asm.specs.declared.placed_bytes.PlacedBytes.{PlacedBytes}
+use Rattle.std.specs.Prelude.{◌≡◌, ℕ, ◌+◌, ◌-◌, ◌<◌, ◌&&◌, nat_le, nat_lt, Bool, if◌then◌else◌, List, [], ◌∷◌, length, max, slice_index}
+
+-- the bytes that a statement writes, from a place on
+pub record PlacedBytes : Type 0 where
+  pub place : ℕ
+  pub bytes : List ℕ
 
 -- one of the bytes stands at this place
 abbrev pub holds : PlacedBytes → ℕ → Bool
 holds chunk k = nat_le chunk.place k && nat_lt k (chunk.place + length chunk.bytes)
+
+-- what stands at each place once these bytes are written at a place
+abbrev pub IsOver : (place : ℕ) → (own old new : List ℕ) → Type 0
+IsOver place own old new =
+    (k : ℕ) → slice_index new k ≡ (if nat_le place k && nat_lt k (place + length own) then slice_index own (k - place) else slice_index old k)
 
 -- the place behind its last byte, or 0 where it has none
 abbrev pub chunk_end : PlacedBytes → ℕ
@@ -15,10 +23,6 @@ chunk_end chunk = if nat_lt 0 (length chunk.bytes) then chunk.place + length chu
 unfoldable pub chunks_end : List PlacedBytes → ℕ
 chunks_end [] = 0
 chunks_end (chunk ∷ more) = max (chunk_end chunk) (chunks_end more)
-
--- all its bytes are within the limit
-abbrev pub FitsImage : PlacedBytes → Type 0
-FitsImage chunk = 0 < length chunk.bytes → chunk.place + length chunk.bytes ≤ limit
 
 -- what stands at a place where this byte stood, once the chunks are written
 unfoldable pub byte_over : ℕ → List PlacedBytes → ℕ → ℕ

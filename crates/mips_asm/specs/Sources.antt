@@ -1,19 +1,18 @@
 -- What an assembler source stands for: an image, or a fault with its line.
-use Rattle.std.specs.Prelude.{◌≡◌, ℕ, ◌%◌, ◌==◌, ◌⊎◌, Bool, true, false, if◌then◌else◌, List, [], ◌∷◌, ◌++◌, All, Option, Some, None, is_none, find, reverse, Ok, Err}
+use Rattle.std.specs.Prelude.{◌≡◌, ℕ, ◌%◌, ◌==◌, ◌⊎◌, Bool, true, false, if◌then◌else◌, List, [], ◌∷◌, ◌++◌, All, Option, Some, None, is_none, find, reverse, slice_index, Ok, Err}
 use Rattle.xom_base.specs.declared.image.PlainImage.{PlainImage}
 use Rattle.asm_source.specs.declared.content.Content.{Content}
 use Rattle.asm_source.specs.declared.content.Content.TheVariants.{Entry}
 use Rattle.asm_source.specs.declared.content.Part.{Part}
 use Rattle.xom_base.specs.Options.{◌>>=◌}
 use Rattle.asm_syntax.specs.Lines.{source_of}
-use Rattle.mips_asm.specs.declared.placed_bytes.PlacedBytes.{PlacedBytes}
 use Rattle.mips_asm.specs.declared.fault.AsmFault.{AsmFault}
 use Rattle.mips_asm.specs.declared.fault.AsmFault.TheVariants.{Syntax, Duplicate, TooLong, Overlap, UnknownName, Range, NoMemory}
 use Rattle.mips_asm.specs.declared.placed.Placed.{Placed}
 use Rattle.mips_asm.specs.Layout.{layout}
 use Rattle.mips_asm.specs.Passes.{Labels, duplicate_line, line_of, overlap_line, place_of, too_long_line, unknown_line}
 use Rattle.mips_asm.specs.Encoding.{Gives, number_of, unsigned_below, where_holds}
-use Rattle.mips_asm.specs.Images.{IsWritten}
+use Rattle.mips_asm.specs.Images.{IsOver, IsWritten, PlacedBytes, byte_over}
 
 -- ---- the entry
 
@@ -78,6 +77,20 @@ Writes labels [] chunks = chunks ≡ []
 Writes labels (placed ∷ more) chunks =
     (bytes : List ℕ) × (rest : List PlacedBytes) × Gives labels placed.place placed.part.content bytes
     × (chunks ≡ record { place = placed.place; bytes = bytes } ∷ rest) × Writes labels more rest
+
+-- what the statements write stands at their places, one written over another, and zeros elsewhere
+abbrev pub StandsOver : Labels → List Placed → List ℕ → Type 0
+StandsOver labels placed bytes =
+    (chunks : List PlacedBytes) × Writes labels placed chunks × ((k : ℕ) → slice_index bytes k ≡ byte_over 0 chunks k)
+
+-- these are the bytes that the statements write, up to the last one
+abbrev pub HasBytes : Labels → List Placed → List ℕ → Type 0
+HasBytes labels placed bytes = (chunks : List PlacedBytes) × Writes labels placed chunks × IsWritten chunks bytes
+
+-- what was answered of a statement: true where its bytes were written at its place, or false where it writes none
+abbrev pub WritesOne : Labels → Placed → List ℕ → Bool → List ℕ → Type 0
+WritesOne labels placed old true new = (own : List ℕ) × Gives labels placed.place placed.part.content own × IsOver placed.place own old new
+WritesOne labels placed old false new = GivesNothing labels placed
 
 -- ---- labels and statements at their places
 

@@ -6,12 +6,11 @@ ghost use Rattle.mips_asm.specs.Sources.{IsFaultOf, IsImageOf, IsPlacedFault, Is
 use crate::AsmFault;
 use crate::duplicates::no_duplicate;
 use crate::entry::{entry, last_entry};
-use crate::image::image;
 use crate::layout::layout;
 use crate::naming::all_labels;
 use crate::overlap::no_overlap;
 use crate::placed::Placed;
-use crate::ranges::chunks;
+use crate::ranges::written;
 use crate::unknown::no_unknown;
 use asm_syntax::read_source;
 use std::alloc::Global;
@@ -44,6 +43,7 @@ fn assembled(alloc: Global, text: &[u8]) -> Result<PlainImage, AsmFault>
 }
 
 /// The image of labels and statements that are laid out.
+#[tactic(auto, using(crate::proofs::WrittenLaws::placed_image))]
 fn image_of(alloc: Global, placed: &[Placed]) -> Result<PlainImage, AsmFault>
     requires inside { All IsInside placed.now }
     requires sized { All IsSized placed.now }
@@ -53,8 +53,7 @@ fn image_of(alloc: Global, placed: &[Placed]) -> Result<PlainImage, AsmFault>
     let labels = all_labels(alloc, placed)?;
     no_unknown(&labels, placed)?;
     let entry = entry(&labels, last_entry(placed));
-    let chunks = chunks(alloc, &labels, entry.err(), placed)?;
+    let bytes = written(alloc, &labels, entry.err(), placed)?;
     let entry = entry.map_err(AsmFault::Range)?;
-    let bytes = image(alloc, chunks.as_slice())?;
     Ok(PlainImage { entry, bytes })
 }

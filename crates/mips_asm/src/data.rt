@@ -1,82 +1,91 @@
-ghost use Rattle.std.specs.Prelude.{◌≡◌, ◌<◌, ◌≤◌, ◌+◌, ◌%◌, ◌^◌, ℕ, List, Some, IfOk, MatchOption, option_map, replicate};
+ghost use Rattle.std.specs.Prelude.{◌≡◌, ◌<◌, ◌≤◌, ◌+◌, ◌%◌, [], IfOk, option_map};
 ghost use Rattle.asm_syntax.specs.Forms.{map_some};
 ghost use Rattle.mips_asm.specs.LabelMaps.{place_in};
 ghost use Rattle.mips_asm.specs.Layout.{limit, padding, size_of};
-ghost use Rattle.mips_asm.specs.Encoding.{Gives, IsCode, alone, byte_value, instruction_at, join_some, word_bytes, word_value};
+ghost use Rattle.mips_asm.specs.Encoding.{Comes, Gives, GivesWords, IsAligned, IsCode, Tells, alone, byte_value, join_some, word_bytes, word_value};
 
 use crate::fields::{number_of, wrapped};
-use crate::instructions::{instruction_at, load_address, load_number, one, words};
+use crate::instructions::{instruction_at, load_address, load_number, words};
 use crate::labels::Labels;
 use crate::layout::{in_range, padding};
-use asm_source::{Argument, Content, Value};
+use asm_source::{Content, Value};
 use asm_tokens::Integer;
+use mips_forms::Operand;
 use mips_instruction::Ins;
 use std::alloc::Global;
-use xom_base::{ByteList, List, NoMemory};
+use xom_base::{List, NoMemory};
 
-/// The bytes that a statement writes at a place, or none where a value of it is out of its range.
-pub fn bytes_of(
+/// Writes the bytes of a statement at a place, or answers false where a value of it is out of its
+/// range. Nothing is written before. The operands are room that is used again for each instruction.
+pub fn add_bytes(
     alloc: Global,
     labels: &Labels,
     place: u64,
     content: &Content,
-) -> Result<Option<ByteList>, NoMemory>
+    operands: &mut Vec<Operand>,
+    bytes: &mut Vec<u8>,
+) -> Result<bool, NoMemory>
     requires inside { 0 < size_of place content.now → place + size_of place content.now ≤ limit }
-    ensures { IfOk result (λ found. MatchOption found ((bytes : List ℕ) → ¬ Gives (place_in labels.now) place content.now bytes) (Gives (place_in labels.now) place content.now)) }
+    requires clear { bytes.old.items ≡ [] }
+    ensures { IfOk result (λ written. Tells (Gives (place_in labels.now) place content.now) written bytes.new.items) }
 {
     match content {
-        Content::Label(_) | Content::Org(_) | Content::Entry(_) => Ok(Some(ByteList::new(alloc))),
-        Content::Words(values) => word_list(alloc, labels, place, values.as_slice()),
-        Content::Bytes(numbers) => byte_list(alloc, numbers.as_slice()),
-        Content::Ascii(bytes) => Ok(Some(copied(alloc, bytes.as_slice())?)),
-        Content::Space(count) => Ok(Some(zeros(alloc, *count as usize)?)),
-        Content::Align(power) => aligned(alloc, *power, place),
+        Content::Label(_) | Content::Org(_) | Content::Entry(_) => Ok(true),
+        Content::Words(values) => add_words(labels, place, values.as_slice(), bytes),
+        Content::Bytes(numbers) => joined_bytes(numbers.as_slice(), bytes),
+        Content::Ascii(text) => {
+            bytes.extend_from_slice(text.as_slice())?;
+            Ok(true)
+        }
+        Content::Space(count) => {
+            bytes.resize(*count as usize, 0)?;
+            Ok(true)
+        }
+        Content::Align(power) => align(*power, place, bytes),
         Content::LoadNumber(register, number) => {
             let instructions = load_number(alloc, *register, *number)?;
-            code(alloc, place, instructions)
+            add_code(place, instructions, bytes)
         }
         Content::LoadAddress(register, name) => {
             let instructions = load_address(alloc, labels, *register, name.as_slice())?;
-            code(alloc, place, instructions)
+            add_code(place, instructions, bytes)
         }
         Content::Instruction(name, arguments) => {
-            let made = instruction(alloc, labels, place, name.as_slice(), arguments.as_slice())?;
-            code(alloc, place, made)
+            let (name, arguments) = (name.as_slice(), arguments.as_slice());
+            let made = instruction_at(labels, place as u32, name, arguments, operands)?;
+            add_instruction(place, made, bytes)
         }
     }
 }
 
 /// The bytes of the values of `.word`, at a multiple of 4.
-fn word_list(
-    alloc: Global,
+fn add_words(
     labels: &Labels,
     place: u64,
     values: &[Value],
-) -> Result<Option<ByteList>, NoMemory>
-    ensures { IfOk result (λ found. MatchOption found ((bytes : List ℕ) → ¬ ((place % 4 ≡ 0) × (join_some (word_value (place_in labels.now)) values.now ≡ Some bytes))) (λ bytes. (place % 4 ≡ 0) × (join_some (word_value (place_in labels.now)) values.now ≡ Some bytes))) }
+    bytes: &mut Vec<u8>,
+) -> Result<bool, NoMemory>
+    requires { bytes.old.items ≡ [] }
+    ensures { IfOk result (λ written. Tells (GivesWords (place_in labels.now) place values.now) written bytes.new.items) }
 {
     if place % 4 != 0 {
-        return Ok(None);
+        return Ok(false);
     }
-    joined_words(alloc, labels, values)
+    joined_words(labels, values, bytes)
 }
 
 #[tactic(auto, using(crate::proofs::JoinLaws::join_some_more, crate::proofs::JoinLaws::join_some_stops))]
-fn joined_words(
-    alloc: Global,
-    labels: &Labels,
-    values: &[Value],
-) -> Result<Option<ByteList>, NoMemory>
-    ensures { IfOk result (λ found. found ≡ join_some (word_value (place_in labels.now)) values.now) }
+fn joined_words(labels: &Labels, values: &[Value], bytes: &mut Vec<u8>) -> Result<bool, NoMemory>
+    requires { bytes.old.items ≡ [] }
+    ensures { IfOk result (λ written. Comes (join_some (word_value (place_in labels.now)) values.now) written bytes.new.items) }
 {
-    let mut bytes = Vec::new(alloc);
     for value in values {
         let Some(word) = word_value(labels, value) else {
-            return Ok(None);
+            return Ok(false);
         };
         bytes.extend_from_slice(&word)?;
     }
-    Ok(Some(ByteList::from_vec(bytes)))
+    Ok(true)
 }
 
 /// The four bytes of a value from -2^31 to 2^32 - 1.
@@ -98,17 +107,17 @@ fn word_bytes(number: Integer) -> Option<[u8; 4]>
 
 /// The bytes of the numbers of `.byte`.
 #[tactic(auto, using(asm_syntax::proofs::FormLaws::map_some_more, asm_syntax::proofs::FormLaws::map_some_stops))]
-fn byte_list(alloc: Global, numbers: &[Integer]) -> Result<Option<ByteList>, NoMemory>
-    ensures { IfOk result (λ found. found ≡ map_some byte_value numbers.now) }
+fn joined_bytes(numbers: &[Integer], bytes: &mut Vec<u8>) -> Result<bool, NoMemory>
+    requires { bytes.old.items ≡ [] }
+    ensures { IfOk result (λ written. Comes (map_some byte_value numbers.now) written bytes.new.items) }
 {
-    let mut bytes = Vec::new(alloc);
     for number in numbers {
         let Some(byte) = byte_value(*number) else {
-            return Ok(None);
+            return Ok(false);
         };
         bytes.push(byte)?;
     }
-    Ok(Some(ByteList::from_vec(bytes)))
+    Ok(true)
 }
 
 /// The byte of a number from -128 to 255.
@@ -121,58 +130,50 @@ fn byte_value(number: Integer) -> Option<u8>
     Some(wrapped(8, number) as u8)
 }
 
-fn copied(alloc: Global, bytes: &[u8]) -> Result<ByteList, NoMemory>
-    ensures { IfOk result (λ copy. copy ≡ bytes.now) }
-{
-    Ok(ByteList::from_vec(Vec::from_slice(alloc, bytes)?))
-}
-
-fn zeros(alloc: Global, count: usize) -> Result<ByteList, NoMemory>
-    ensures { IfOk result (λ bytes. bytes ≡ replicate count 0) }
-{
-    Ok(ByteList::from_vec(vec![in alloc; 0; count]?))
-}
-
 /// Zeros up to a multiple of 2^power, which is at most 12.
-fn aligned(alloc: Global, power: u64, place: u64) -> Result<Option<ByteList>, NoMemory>
-    ensures { IfOk result (λ found. MatchOption found (12 < power) (λ bytes. (power ≤ 12) × (bytes ≡ replicate (padding power place) 0))) }
+fn align(power: u64, place: u64, bytes: &mut Vec<u8>) -> Result<bool, NoMemory>
+    requires { bytes.old.items ≡ [] }
+    ensures { IfOk result (λ written. Tells (IsAligned power place) written bytes.new.items) }
 {
     if power > 12 {
-        return Ok(None);
+        return Ok(false);
     }
-    Ok(Some(zeros(alloc, padding(power, place) as usize)?))
+    bytes.resize(padding(power, place) as usize, 0)?;
+    Ok(true)
 }
 
 /// The bytes of instructions, if there are any, at a multiple of 4.
-fn code(
-    alloc: Global,
+fn add_code(
     place: u64,
     instructions: Option<List<Ins>>,
-) -> Result<Option<ByteList>, NoMemory>
-    ensures { IfOk result (λ found. MatchOption found ((bytes : List ℕ) → ¬ IsCode place instructions bytes) (IsCode place instructions)) }
+    bytes: &mut Vec<u8>,
+) -> Result<bool, NoMemory>
+    requires { bytes.old.items ≡ [] }
+    ensures { IfOk result (λ written. Tells (IsCode place instructions) written bytes.new.items) }
 {
     if place % 4 != 0 {
-        return Ok(None);
+        return Ok(false);
     }
     match instructions {
-        None => Ok(None),
-        Some(instructions) => words(alloc, instructions.as_slice()),
+        None => Ok(false),
+        Some(instructions) => words(instructions.as_slice(), bytes),
     }
 }
 
-/// The instruction with this mnemonic and these operands.
-fn instruction(
-    alloc: Global,
-    labels: &Labels,
+/// The bytes of an instruction, if there is one, at a multiple of 4.
+fn add_instruction(
     place: u64,
-    name: &[u8],
-    arguments: &[Argument],
-) -> Result<Option<List<Ins>>, NoMemory>
-    requires { place < 2 ^ 20 }
-    ensures { IfOk result (λ found. found ≡ option_map alone (instruction_at (place_in labels.now) place name.now arguments.now)) }
+    instruction: Option<Ins>,
+    bytes: &mut Vec<u8>,
+) -> Result<bool, NoMemory>
+    requires { bytes.old.items ≡ [] }
+    ensures { IfOk result (λ written. Tells (IsCode place (option_map alone instruction)) written bytes.new.items) }
 {
-    match instruction_at(alloc, labels, place as u32, name, arguments)? {
-        None => Ok(None),
-        Some(ins) => Ok(Some(one(alloc, ins)?)),
+    if place % 4 != 0 {
+        return Ok(false);
+    }
+    match instruction {
+        None => Ok(false),
+        Some(ins) => words(&[ins], bytes),
     }
 }

@@ -1,6 +1,6 @@
-ghost use Rattle.std.specs.Prelude.{◌≡◌, ◌<◌, ◌^◌, ◌∷◌, [], ℕ, List, IfOk, MatchOption};
+ghost use Rattle.std.specs.Prelude.{◌≡◌, ◌<◌, ◌^◌, ◌∷◌, [], IfOk};
 ghost use Rattle.mips_asm.specs.LabelMaps.{place_in};
-ghost use Rattle.mips_asm.specs.Encoding.{Appends, AreWords, halves, instruction_at, load_address, load_number, operands_of};
+ghost use Rattle.mips_asm.specs.Encoding.{Appends, AreWords, Tells, halves, instruction_at, load_address, load_number, operands_of};
 
 use crate::fields::{operand_of, wrapped};
 use crate::labels::Labels;
@@ -11,31 +11,32 @@ use mips_forms::{Operand, OperandKind, build, kinds};
 use mips_instruction::Ins;
 use mips_isa::{encode, fits};
 use std::alloc::Global;
-use xom_base::{ByteList, List, NoMemory};
+use xom_base::{List, NoMemory};
 
-/// The bytes of instructions, where each has its operands in their ranges.
+/// Writes the words of instructions, where each has its operands in their ranges. Nothing is written
+/// before.
 #[tactic(auto, using(crate::proofs::JoinLaws::AreWords_more, crate::proofs::JoinLaws::AreWords_fits))]
-pub fn words(alloc: Global, instructions: &[Ins]) -> Result<Option<ByteList>, NoMemory>
-    ensures { IfOk result (λ found. MatchOption found ((bytes : List ℕ) → ¬ AreWords instructions.now bytes) (AreWords instructions.now)) }
+pub fn words(instructions: &[Ins], bytes: &mut Vec<u8>) -> Result<bool, NoMemory>
+    requires { bytes.old.items ≡ [] }
+    ensures { IfOk result (λ written. Tells (AreWords instructions.now) written bytes.new.items) }
 {
-    let mut bytes = Vec::new(alloc);
     for ins in instructions {
         if !fits(ins) {
-            return Ok(None);
+            return Ok(false);
         }
         bytes.extend_from_slice(&encode(*ins).to_be_bytes())?;
     }
-    Ok(Some(ByteList::from_vec(bytes)))
+    Ok(true)
 }
 
 /// The instruction with this mnemonic and these operands, at `pc`.
 #[tactic(auto, unfolding(crate::specs::Encoding::instruction_at))]
 pub fn instruction_at(
-    alloc: Global,
     labels: &Labels,
     pc: u32,
     name: &[u8],
     arguments: &[Argument],
+    operands: &mut Vec<Operand>,
 ) -> Result<Option<Ins>, NoMemory>
     requires { pc < 2 ^ 20 }
     ensures { IfOk result (λ ins. ins ≡ instruction_at (place_in labels.now) pc name.now arguments.now) }
@@ -43,8 +44,8 @@ pub fn instruction_at(
     let Some(shape) = kinds(name) else {
         return Ok(None);
     };
-    let mut operands = List::new(alloc);
-    if !add_operands(labels, pc, shape, arguments, &mut operands)? {
+    operands.clear();
+    if !add_operands(labels, pc, shape, arguments, operands)? {
         return Ok(None);
     }
     Ok(build(name, operands.as_slice()))
@@ -57,10 +58,10 @@ fn add_operands(
     pc: u32,
     shape: &[OperandKind],
     arguments: &[Argument],
-    operands: &mut List<Operand>,
+    operands: &mut Vec<Operand>,
 ) -> Result<bool, NoMemory>
     requires { pc < 2 ^ 20 }
-    ensures { IfOk result (λ all. Appends (operands_of (place_in labels.now) pc shape.now arguments.now) operands.old all operands.new) }
+    ensures { IfOk result (λ all. Appends (operands_of (place_in labels.now) pc shape.now arguments.now) operands.old.items all operands.new.items) }
 {
     let [kind, shape @ ..] = shape else {
         return Ok(arguments.is_empty());
@@ -130,7 +131,7 @@ pub fn load_address(
 }
 
 /// One instruction.
-pub fn one(alloc: Global, ins: Ins) -> Result<List<Ins>, NoMemory>
+fn one(alloc: Global, ins: Ins) -> Result<List<Ins>, NoMemory>
     ensures { IfOk result (λ list. list ≡ ins ∷ []) }
 {
     let mut list = List::new(alloc);

@@ -19,7 +19,6 @@ mod layout;
 mod naming;
 mod overlap;
 mod placed;
-mod placed_bytes;
 mod ranges;
 mod unknown;
 

@@ -1,5 +1,5 @@
 -- The table of forms is exact both ways: an instruction is built of its own form, and what is built has that form.
-use Rattle.std.proofs.Common.{◌≡◌, ◌⊎◌, ℕ, Bool, true, false, cond, List, [], ◌∷◌, map, Option, Some, None, refl, sym, ◌∙◌, ap, inl, inr, is_some}
+use Rattle.std.proofs.Common.{◌≡◌, ◌⊎◌, ◌&&◌, ◌==◌, ℕ, suc, length, Bool, true, false, cond, List, [], ◌∷◌, map, Option, Some, None, refl, sym, ◌∙◌, ap, inl, inr, is_some}
 use Rattle.std.proofs.lemmas.Bool.{cases_Bool}
 use Rattle.std.proofs.lemmas.Slice.Eq.{bytes_eq-Decides}
 use Rattle.std.specs.Str.{bytes_eq}
@@ -281,6 +281,20 @@ pub kinds_of-none : (name : List ℕ) → kinds_of name ≡ None → IsNoMnemoni
 kinds_of-none name none i is =
     let found : None ≡ Some (map kind_of (form_of i).1) = sym none ∙ ap kinds_of (sym is) ∙ kinds_of_forms i in
     cc
+
+-- ---- Texts that differ
+
+false_and : (b : Bool) → (b && false) ≡ false
+false_and true = refl
+false_and false = refl
+
+-- texts of different lengths differ
+pub other_length : (xs ys : List ℕ) → ¬ (length xs ≡ length ys) → bytes_eq xs ys ≡ false
+other_length [] [] differ = absurd (differ refl)
+other_length [] (y ∷ ys) differ = refl
+other_length (x ∷ xs) [] differ = refl
+other_length (x ∷ xs) (y ∷ ys) differ =
+    ap (λ (rest : Bool). (x == y) && rest) (other_length xs ys (λ same. differ (ap (λ (n : ℕ). suc n) same))) ∙ false_and (x == y)
 
 -- ---- Ranges
 

@@ -1,4 +1,5 @@
-ghost use Rattle.std.specs.Prelude.{◌≡◌, ◌↔◌, ◌∷◌, [], MatchOption};
+ghost use Rattle.std.specs.Prelude.{◌≡◌, ◌↔◌, ◌∷◌, [], MatchOption, false};
+ghost use Rattle.std.specs.Str.{bytes_eq};
 ghost use Rattle.mips_forms.specs.Forms.{form_of, Takes, IsNoMnemonic};
 ghost use Rattle.mips_forms.specs.Builds.{build_of, kinds_of, in_rows, plain_rows, register_rows, two_registers_rows, three_registers_rows, sum_rows, slot_rows, shift_rows, signed_rows, unsigned_rows, upper_rows, access_rows, compare_rows, test_rows, jump_rows, coded_rows};
 
@@ -108,11 +109,11 @@ fn found(name: &[u8], operands: &[Operand]) -> Option<Ins>
 fn plain(name: &[u8]) -> Option<Ins>
     ensures { result ≡ in_rows name.now plain_rows }
 {
-    if name == b"xexit".as_slice() {
+    if is(name, b"xexit") {
         Some(Ins::Xexit)
-    } else if name == b"xsigret".as_slice() {
+    } else if is(name, b"xsigret") {
         Some(Ins::Xsigret)
-    } else if name == b"xhalt".as_slice() {
+    } else if is(name, b"xhalt") {
         Some(Ins::Xhalt)
     } else {
         None
@@ -124,33 +125,33 @@ fn plain(name: &[u8]) -> Option<Ins>
 fn register(name: &[u8], a: u8) -> Option<Ins>
     ensures { result ≡ in_rows name.now (register_rows a) }
 {
-    if name == b"jr".as_slice() {
+    if is(name, b"jr") {
         Some(Ins::Jr { rs: a })
-    } else if name == b"mfhi".as_slice() {
+    } else if is(name, b"mfhi") {
         Some(Ins::Mfhi { rd: a })
-    } else if name == b"mthi".as_slice() {
+    } else if is(name, b"mthi") {
         Some(Ins::Mthi { rs: a })
-    } else if name == b"mflo".as_slice() {
+    } else if is(name, b"mflo") {
         Some(Ins::Mflo { rd: a })
-    } else if name == b"mtlo".as_slice() {
+    } else if is(name, b"mtlo") {
         Some(Ins::Mtlo { rs: a })
-    } else if name == b"xmvtn".as_slice() {
+    } else if is(name, b"xmvtn") {
         Some(Ins::Xmvtn { rs: a })
-    } else if name == b"xhand".as_slice() {
+    } else if is(name, b"xhand") {
         Some(Ins::Xhand { rs: a })
-    } else if name == b"xenter".as_slice() {
+    } else if is(name, b"xenter") {
         Some(Ins::Xenter { rs: a })
-    } else if name == b"xkill".as_slice() {
+    } else if is(name, b"xkill") {
         Some(Ins::Xkill { rs: a })
-    } else if name == b"xout".as_slice() {
+    } else if is(name, b"xout") {
         Some(Ins::Xout { rs: a })
-    } else if name == b"xstat".as_slice() {
+    } else if is(name, b"xstat") {
         Some(Ins::Xstat { rd: a })
-    } else if name == b"xcause".as_slice() {
+    } else if is(name, b"xcause") {
         Some(Ins::Xcause { rd: a })
-    } else if name == b"xarg".as_slice() {
+    } else if is(name, b"xarg") {
         Some(Ins::Xarg { rd: a })
-    } else if name == b"xwho".as_slice() {
+    } else if is(name, b"xwho") {
         Some(Ins::Xwho { rd: a })
     } else {
         None
@@ -162,21 +163,21 @@ fn register(name: &[u8], a: u8) -> Option<Ins>
 fn two_registers(name: &[u8], a: u8, b: u8) -> Option<Ins>
     ensures { result ≡ in_rows name.now (two_registers_rows a b) }
 {
-    if name == b"jalr".as_slice() {
+    if is(name, b"jalr") {
         Some(Ins::Jalr { rd: a, rs: b })
-    } else if name == b"mult".as_slice() {
+    } else if is(name, b"mult") {
         Some(Ins::Mult { rs: a, rt: b })
-    } else if name == b"multu".as_slice() {
+    } else if is(name, b"multu") {
         Some(Ins::Multu { rs: a, rt: b })
-    } else if name == b"div".as_slice() {
+    } else if is(name, b"div") {
         Some(Ins::Div { rs: a, rt: b })
-    } else if name == b"divu".as_slice() {
+    } else if is(name, b"divu") {
         Some(Ins::Divu { rs: a, rt: b })
-    } else if name == b"xmvfn".as_slice() {
+    } else if is(name, b"xmvfn") {
         Some(Ins::Xmvfn { rd: a, rs: b })
-    } else if name == b"xresume".as_slice() {
+    } else if is(name, b"xresume") {
         Some(Ins::Xresume { rs: a, rt: b })
-    } else if name == b"xunmap".as_slice() {
+    } else if is(name, b"xunmap") {
         Some(Ins::Xunmap { rs: a, rt: b })
     } else {
         None
@@ -188,11 +189,11 @@ fn two_registers(name: &[u8], a: u8, b: u8) -> Option<Ins>
 fn three_registers(name: &[u8], rd: u8, rt: u8, rs: u8) -> Option<Ins>
     ensures { result ≡ in_rows name.now (three_registers_rows rd rt rs) }
 {
-    if name == b"sllv".as_slice() {
+    if is(name, b"sllv") {
         Some(Ins::Sllv { rd, rt, rs })
-    } else if name == b"srlv".as_slice() {
+    } else if is(name, b"srlv") {
         Some(Ins::Srlv { rd, rt, rs })
-    } else if name == b"srav".as_slice() {
+    } else if is(name, b"srav") {
         Some(Ins::Srav { rd, rt, rs })
     } else {
         sum(name, rd, rt, rs)
@@ -204,25 +205,25 @@ fn three_registers(name: &[u8], rd: u8, rt: u8, rs: u8) -> Option<Ins>
 fn sum(name: &[u8], rd: u8, rs: u8, rt: u8) -> Option<Ins>
     ensures { result ≡ in_rows name.now (sum_rows rd rs rt) }
 {
-    if name == b"add".as_slice() {
+    if is(name, b"add") {
         Some(Ins::Add { rd, rs, rt })
-    } else if name == b"addu".as_slice() {
+    } else if is(name, b"addu") {
         Some(Ins::Addu { rd, rs, rt })
-    } else if name == b"sub".as_slice() {
+    } else if is(name, b"sub") {
         Some(Ins::Sub { rd, rs, rt })
-    } else if name == b"subu".as_slice() {
+    } else if is(name, b"subu") {
         Some(Ins::Subu { rd, rs, rt })
-    } else if name == b"and".as_slice() {
+    } else if is(name, b"and") {
         Some(Ins::And { rd, rs, rt })
-    } else if name == b"or".as_slice() {
+    } else if is(name, b"or") {
         Some(Ins::Or { rd, rs, rt })
-    } else if name == b"xor".as_slice() {
+    } else if is(name, b"xor") {
         Some(Ins::Xor { rd, rs, rt })
-    } else if name == b"nor".as_slice() {
+    } else if is(name, b"nor") {
         Some(Ins::Nor { rd, rs, rt })
-    } else if name == b"slt".as_slice() {
+    } else if is(name, b"slt") {
         Some(Ins::Slt { rd, rs, rt })
-    } else if name == b"sltu".as_slice() {
+    } else if is(name, b"sltu") {
         Some(Ins::Sltu { rd, rs, rt })
     } else {
         slot(name, rd, rs, rt)
@@ -234,13 +235,13 @@ fn sum(name: &[u8], rd: u8, rs: u8, rt: u8) -> Option<Ins>
 fn slot(name: &[u8], rs: u8, rt: u8, rd: u8) -> Option<Ins>
     ensures { result ≡ in_rows name.now (slot_rows rs rt rd) }
 {
-    if name == b"xinstall".as_slice() {
+    if is(name, b"xinstall") {
         Some(Ins::Xinstall { rs, rt, rd })
-    } else if name == b"xsave".as_slice() {
+    } else if is(name, b"xsave") {
         Some(Ins::Xsave { rs, rt, rd })
-    } else if name == b"xrestore".as_slice() {
+    } else if is(name, b"xrestore") {
         Some(Ins::Xrestore { rs, rt, rd })
-    } else if name == b"xmap".as_slice() {
+    } else if is(name, b"xmap") {
         Some(Ins::Xmap { rs, rt, rd })
     } else {
         None
@@ -252,11 +253,11 @@ fn slot(name: &[u8], rs: u8, rt: u8, rd: u8) -> Option<Ins>
 fn shift(name: &[u8], rd: u8, rt: u8, sa: u8) -> Option<Ins>
     ensures { result ≡ in_rows name.now (shift_rows rd rt sa) }
 {
-    if name == b"sll".as_slice() {
+    if is(name, b"sll") {
         Some(Ins::Sll { rd, rt, sa })
-    } else if name == b"srl".as_slice() {
+    } else if is(name, b"srl") {
         Some(Ins::Srl { rd, rt, sa })
-    } else if name == b"sra".as_slice() {
+    } else if is(name, b"sra") {
         Some(Ins::Sra { rd, rt, sa })
     } else {
         None
@@ -268,13 +269,13 @@ fn shift(name: &[u8], rd: u8, rt: u8, sa: u8) -> Option<Ins>
 fn signed(name: &[u8], rt: u8, rs: u8, imm: u16) -> Option<Ins>
     ensures { result ≡ in_rows name.now (signed_rows rt rs imm) }
 {
-    if name == b"addi".as_slice() {
+    if is(name, b"addi") {
         Some(Ins::Addi { rt, rs, imm })
-    } else if name == b"addiu".as_slice() {
+    } else if is(name, b"addiu") {
         Some(Ins::Addiu { rt, rs, imm })
-    } else if name == b"slti".as_slice() {
+    } else if is(name, b"slti") {
         Some(Ins::Slti { rt, rs, imm })
-    } else if name == b"sltiu".as_slice() {
+    } else if is(name, b"sltiu") {
         Some(Ins::Sltiu { rt, rs, imm })
     } else {
         None
@@ -286,11 +287,11 @@ fn signed(name: &[u8], rt: u8, rs: u8, imm: u16) -> Option<Ins>
 fn unsigned(name: &[u8], rt: u8, rs: u8, imm: u16) -> Option<Ins>
     ensures { result ≡ in_rows name.now (unsigned_rows rt rs imm) }
 {
-    if name == b"andi".as_slice() {
+    if is(name, b"andi") {
         Some(Ins::Andi { rt, rs, imm })
-    } else if name == b"ori".as_slice() {
+    } else if is(name, b"ori") {
         Some(Ins::Ori { rt, rs, imm })
-    } else if name == b"xori".as_slice() {
+    } else if is(name, b"xori") {
         Some(Ins::Xori { rt, rs, imm })
     } else {
         None
@@ -302,7 +303,7 @@ fn unsigned(name: &[u8], rt: u8, rs: u8, imm: u16) -> Option<Ins>
 fn upper(name: &[u8], rt: u8, imm: u16) -> Option<Ins>
     ensures { result ≡ in_rows name.now (upper_rows rt imm) }
 {
-    if name == b"lui".as_slice() {
+    if is(name, b"lui") {
         Some(Ins::Lui { rt, imm })
     } else {
         None
@@ -314,33 +315,33 @@ fn upper(name: &[u8], rt: u8, imm: u16) -> Option<Ins>
 fn access(name: &[u8], rt: u8, imm: u16, rs: u8) -> Option<Ins>
     ensures { result ≡ in_rows name.now (access_rows rt imm rs) }
 {
-    if name == b"lb".as_slice() {
+    if is(name, b"lb") {
         Some(Ins::Lb { rt, imm, rs })
-    } else if name == b"lh".as_slice() {
+    } else if is(name, b"lh") {
         Some(Ins::Lh { rt, imm, rs })
-    } else if name == b"lwl".as_slice() {
+    } else if is(name, b"lwl") {
         Some(Ins::Lwl { rt, imm, rs })
-    } else if name == b"lw".as_slice() {
+    } else if is(name, b"lw") {
         Some(Ins::Lw { rt, imm, rs })
-    } else if name == b"lbu".as_slice() {
+    } else if is(name, b"lbu") {
         Some(Ins::Lbu { rt, imm, rs })
-    } else if name == b"lhu".as_slice() {
+    } else if is(name, b"lhu") {
         Some(Ins::Lhu { rt, imm, rs })
-    } else if name == b"lwr".as_slice() {
+    } else if is(name, b"lwr") {
         Some(Ins::Lwr { rt, imm, rs })
-    } else if name == b"sb".as_slice() {
+    } else if is(name, b"sb") {
         Some(Ins::Sb { rt, imm, rs })
-    } else if name == b"sh".as_slice() {
+    } else if is(name, b"sh") {
         Some(Ins::Sh { rt, imm, rs })
-    } else if name == b"swl".as_slice() {
+    } else if is(name, b"swl") {
         Some(Ins::Swl { rt, imm, rs })
-    } else if name == b"sw".as_slice() {
+    } else if is(name, b"sw") {
         Some(Ins::Sw { rt, imm, rs })
-    } else if name == b"swr".as_slice() {
+    } else if is(name, b"swr") {
         Some(Ins::Swr { rt, imm, rs })
-    } else if name == b"xlwn".as_slice() {
+    } else if is(name, b"xlwn") {
         Some(Ins::Xlwn { rt, imm, rs })
-    } else if name == b"xswn".as_slice() {
+    } else if is(name, b"xswn") {
         Some(Ins::Xswn { rt, imm, rs })
     } else {
         None
@@ -352,9 +353,9 @@ fn access(name: &[u8], rt: u8, imm: u16, rs: u8) -> Option<Ins>
 fn compare(name: &[u8], rs: u8, rt: u8, imm: u16) -> Option<Ins>
     ensures { result ≡ in_rows name.now (compare_rows rs rt imm) }
 {
-    if name == b"beq".as_slice() {
+    if is(name, b"beq") {
         Some(Ins::Beq { rs, rt, imm })
-    } else if name == b"bne".as_slice() {
+    } else if is(name, b"bne") {
         Some(Ins::Bne { rs, rt, imm })
     } else {
         None
@@ -366,17 +367,17 @@ fn compare(name: &[u8], rs: u8, rt: u8, imm: u16) -> Option<Ins>
 fn test(name: &[u8], rs: u8, imm: u16) -> Option<Ins>
     ensures { result ≡ in_rows name.now (test_rows rs imm) }
 {
-    if name == b"bltz".as_slice() {
+    if is(name, b"bltz") {
         Some(Ins::Bltz { rs, imm })
-    } else if name == b"bgez".as_slice() {
+    } else if is(name, b"bgez") {
         Some(Ins::Bgez { rs, imm })
-    } else if name == b"bltzal".as_slice() {
+    } else if is(name, b"bltzal") {
         Some(Ins::Bltzal { rs, imm })
-    } else if name == b"bgezal".as_slice() {
+    } else if is(name, b"bgezal") {
         Some(Ins::Bgezal { rs, imm })
-    } else if name == b"blez".as_slice() {
+    } else if is(name, b"blez") {
         Some(Ins::Blez { rs, imm })
-    } else if name == b"bgtz".as_slice() {
+    } else if is(name, b"bgtz") {
         Some(Ins::Bgtz { rs, imm })
     } else {
         None
@@ -388,9 +389,9 @@ fn test(name: &[u8], rs: u8, imm: u16) -> Option<Ins>
 fn jump(name: &[u8], index: u32) -> Option<Ins>
     ensures { result ≡ in_rows name.now (jump_rows index) }
 {
-    if name == b"j".as_slice() {
+    if is(name, b"j") {
         Some(Ins::J { index })
-    } else if name == b"jal".as_slice() {
+    } else if is(name, b"jal") {
         Some(Ins::Jal { index })
     } else {
         None
@@ -402,11 +403,33 @@ fn jump(name: &[u8], index: u32) -> Option<Ins>
 fn coded(name: &[u8], code: u32) -> Option<Ins>
     ensures { result ≡ in_rows name.now (coded_rows code) }
 {
-    if name == b"syscall".as_slice() {
+    if is(name, b"syscall") {
         Some(Ins::Syscall { code })
-    } else if name == b"break".as_slice() {
+    } else if is(name, b"break") {
         Some(Ins::Break { code })
     } else {
         None
+    }
+}
+
+/// Whether two texts are the same. Most texts differ in their lengths or first bytes, so these are
+/// compared first.
+#[tactic(auto, using(crate::proofs::FormTable::other_length))]
+pub fn is(name: &[u8], text: &[u8]) -> bool
+    ensures { result ≡ bytes_eq name.now text.now }
+{
+    if name.len() != text.len() {
+        return false;
+    }
+    begin_alike(name, text) && name == text
+}
+
+/// Whether two texts have the same first byte, or one of them has none.
+fn begin_alike(name: &[u8], text: &[u8]) -> bool
+    ensures { result ≡ false → bytes_eq name.now text.now ≡ false }
+{
+    match (name, text) {
+        ([first, ..], [initial, ..]) => first == initial,
+        _ => true,
     }
 }

@@ -1,15 +1,13 @@
--- The chunks so far are what the statements so far write.
+-- What the statements so far write stands at their places.
 use Rattle.std.proofs.Common.{◌≡◌, Some, take}
 use Rattle.std.specs.List.{All}
-use Rattle.mips_asm.specs.Images.{FitsImage}
 use Rattle.mips_asm.specs.LabelMaps.{place_in}
 use Rattle.mips_asm.specs.Passes.{line_of}
-use Rattle.mips_asm.specs.Sources.{Writes}
-use Rattle.mips_asm.proofs.ranges.chunks.Given as goal
+use Rattle.mips_asm.specs.Sources.{StandsOver}
+use Rattle.mips_asm.proofs.ranges.write_all.Given as goal
 
 abbrev pub invariant-loop-placed : goal.invariant-loop-placed
 invariant-loop-placed l = record {
-  writes : Writes (place_in l.labels) (take l.placed-index l.placed) l.chunks.items;
-  fitting : All FitsImage l.chunks.items;
+  stands : StandsOver (place_in l.labels) (take l.placed-index l.placed) l.image;
   entry : All (λ p. ¬ (l.bad_entry ≡ Some (line_of p))) (take l.placed-index l.placed);
 }

@@ -2,7 +2,7 @@
 use Rattle.std.proofs.Common.{sym, ap, ◌∙◌, ◌%◌}
 use Rattle.std.specs.Prelude.{option_map}
 use Rattle.asm_tokens.specs.Registers.{register_of, register_names, register_numbers}
-use Rattle.asm_tokens.proofs.registers.register_in.Goals as goal
+use Rattle.asm_tokens.proofs.registers.listed.Goals as goal
 
 pub returns-in_err-place : goal.returns-in_err-place
 unfolding register_of register_names register_numbers
