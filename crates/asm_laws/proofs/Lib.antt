@@ -1,0 +1,13 @@
+pub mod Fetching
+pub mod Computing
+pub mod Setting
+pub mod Numbers
+pub mod Branching
+pub mod Statements
+pub mod ShortForms
+pub mod Images
+pub mod Replacing
+pub mod Tokens
+pub mod Guests
+pub mod Numbering
+pub mod Apart
