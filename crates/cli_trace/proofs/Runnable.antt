@@ -62,7 +62,7 @@ lone_of-runnable file run keeps h =
     subst IsRunnable (same_Some made run t.1) record {
       schedule = is_schedule file.schedule.interrupts keeps.interrupts;
       pokes = no_items file.schedule.pokes p.1;
-      budget = keeps.budget;
+      budget = keeps.draft.numbers.few;
     })))
 
 -- and so what was read, where it is built

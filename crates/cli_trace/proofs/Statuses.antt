@@ -5,11 +5,12 @@ use Rattle.std.specs.List.{list_any}
 use Rattle.mips_plain.specs.declared.verdict.Verdict.TheVariants.{Follows}
 use Rattle.trace_judge.specs.declared.report.GuestLine.{GuestLine}
 use Rattle.trace_judge.specs.declared.report.Report.{Report}
+use Rattle.trace_judge.specs.Suspicion.{is_doubted, is_stop, is_suspect}
 use Rattle.lone_model.specs.State.{Record}
 use Rattle.cli_trace.specs.declared.trace.Parts.{Parts}
 use Rattle.cli_base.specs.Commands.{IsDone}
 use Rattle.cli_trace.specs.Run.{console_run}
-use Rattle.cli_trace.specs.Trace.{NamesFinding, is_doubted, is_stop, is_suspect, last_record, report_of, trace_status, traced}
+use Rattle.cli_trace.specs.Trace.{NamesFinding, last_record, report_of, trace_status, traced}
 use Rattle.cli_trace.proofs.Headline.{all_follow}
 
 chosen : (b c d : Bool) → IsDone (cond b 9 (cond c 8 (cond d 0 6)))

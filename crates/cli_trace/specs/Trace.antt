@@ -1,18 +1,16 @@
 -- `trace RUN` and `trace RUN JOURNAL`: the run that a run file tells, and the judgement of the journal that it made.
-use Rattle.std.specs.Prelude.{◌≡◌, ℕ, ◌^◌, ◌≤◌, ◌⊎◌, Bool, true, false, ◌||◌, List, [], ◌∷◌, ◌++◌, All, Option, Some, None, Result, Ok, codes, unwrap_or, is_some, if◌then◌else◌}
+use Rattle.std.specs.Prelude.{◌≡◌, ℕ, ◌^◌, ◌≤◌, ◌⊎◌, Bool, true, false, List, [], ◌∷◌, ◌++◌, All, Option, Some, None, Result, Ok, codes, unwrap_or, is_some, if◌then◌else◌}
 use Rattle.std.specs.Fmt.{decimal}
 use Rattle.std.specs.List.{list_any}
 use Rattle.xom_base.specs.declared.entry.Entry.{Entry}
-use Rattle.xom_base.specs.declared.entry.Entry.TheVariants as entry
 use Rattle.xom_base.specs.declared.event.Op.{Op}
 use Rattle.xom_base.specs.declared.schedule.Interrupts.{Interrupts}
 use Rattle.xom_owners.specs.declared.owner.Owner.{Owner}
-use Rattle.mips_plain.specs.declared.verdict.Verdict.{Verdict}
-use Rattle.mips_plain.specs.declared.verdict.Verdict.TheVariants.{Follows, Departs, NoOwner}
-use Rattle.trace_judge.specs.declared.report.GuestLine.{GuestLine}
+use Rattle.mips_plain.specs.declared.verdict.Verdict.TheVariants.{Follows}
 use Rattle.trace_judge.specs.declared.report.Report.{Report}
 use Rattle.trace_judge.specs.Judgement.{judgement}
 use Rattle.trace_judge.specs.ReportText.{report_text}
+use Rattle.trace_judge.specs.Suspicion.{is_stop, is_suspect}
 use Rattle.lone_model.specs.State.{Record, power_on}
 use Rattle.lone_model.specs.Install.{given}
 use Rattle.lone_model.specs.Run.{IsSchedule, run_from}
@@ -81,20 +79,6 @@ abbrev pub events_line : Record → List ℕ
 events_line r = codes "events " ++ (decimal r.events ++ ending_text r.halted)
 
 -- ---- What is answered
-
--- the guest departs or has no owner
-abbrev pub is_doubted : Verdict → Bool
-is_doubted (Follows steps) = false
-is_doubted (Departs step) = true
-is_doubted NoOwner = true
-
--- the report names a forged entry, a collision, or a guest that departs or has no owner
-abbrev pub is_suspect : Report → Bool
-is_suspect report = is_some report.forged || (is_some report.collision || list_any (λ (line : GuestLine). is_doubted line.verdict) report.guests)
-
-abbrev pub is_stop : Entry → Bool
-is_stop (entry.Stop install rule) = true
-is_stop other = false
 
 -- the first of these that holds: the report is suspect, a guest was stopped, the budget was reached before the kernel halted
 abbrev pub trace_status : Report → Record → ℕ

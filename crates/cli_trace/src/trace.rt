@@ -2,8 +2,9 @@ ghost use Rattle.std.specs.Prelude.{◌≡◌, ◌≤◌, ◌^◌, IfOk, option_
 ghost use Rattle.std.specs.List.{list_any};
 ghost use Rattle.cli_base.specs.Commands.{IsDone};
 ghost use Rattle.cli_base.specs.Readings.{Gives};
-ghost use Rattle.cli_trace.specs.Trace.{CanRun, answer_of, ending_text, events_line, is_doubted as is_doubted_by, is_stop as is_stop_by, is_suspect as is_suspect_by, journal_file as journal_file_of, last_of, last_record, parts_of, report_of, trace_of, trace_status, traced as traced_of};
+ghost use Rattle.cli_trace.specs.Trace.{CanRun, answer_of, ending_text, events_line, journal_file as journal_file_of, last_of, last_record, parts_of, report_of, trace_of, trace_status, traced as traced_of};
 ghost use Rattle.script_kernel.specs.Turns.{is_built, ops_of};
+ghost use Rattle.trace_judge.specs.Suspicion.{is_stop as is_stop_by};
 ghost use Rattle.lone_model.specs.Run.{IsSchedule};
 
 use crate::console::{console, end_line};
@@ -11,14 +12,13 @@ use crate::lone_run::LoneRun;
 use crate::reading::{run_file, script};
 use cli_base::{Answer, OutputFile, Stop, image};
 use journal_text::print_journal;
-use mips_plain::Verdict;
+use lone_machine::{Machine, run};
 use script_kernel::ScriptKernel;
 use std::alloc::Global;
-use trace_judge::{GuestLine, Report, judge, print_report};
-use xom_base::{ByteList, Entry, NoMemory, PlainImage, RunEnd, Schedule};
+use trace_judge::{Report, is_stop, is_suspect, judge, print_report};
+use xom_base::{ByteList, NoMemory, PlainImage, RunEnd, Schedule};
 use xom_io::{Files, Name};
 use xom_journal::Journal;
-use lone_machine::{Machine, run};
 use xom_owners::{Owner, OwnerList};
 use xom_script::Script;
 
@@ -207,24 +207,6 @@ pub fn status(report: &Report, machine: &Machine) -> u8
     }
 }
 
-fn is_suspect(report: &Report) -> bool
-    ensures { result ≡ is_suspect_by report.now }
-{
-    report.forged.is_some() || report.collision.is_some() || has_doubt(report.guests.as_slice())
-}
-
-fn has_doubt(lines: &[GuestLine]) -> bool
-    ensures { result ≡ list_any (λ line. is_doubted_by line.verdict) lines.now }
-{
-    lines.iter().any(|line| is_doubted(line.verdict))
-}
-
-fn is_doubted(verdict: Verdict) -> bool
-    ensures { result ≡ is_doubted_by verdict }
-{
-    !matches!(verdict, Verdict::Follows(_))
-}
-
 fn has_stop(journal: &Journal) -> bool
     ensures { result ≡ list_any is_stop_by journal.now.entries }
 {
@@ -236,10 +218,4 @@ fn has_stop(journal: &Journal) -> bool
         }
     }
     false
-}
-
-fn is_stop(entry: &Entry) -> bool
-    ensures { result ≡ is_stop_by entry.now }
-{
-    matches!(entry, Entry::Stop { .. })
 }

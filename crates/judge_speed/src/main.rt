@@ -1,17 +1,22 @@
 //! How fast a journal is judged: `mixed N` feeds a judge so many entries, in turn a seal, an accept of it, a
 //! hash and three steps that follow; `steps N` steps alone; `owned N` accepts of lines that the owner
 //! sealed; `installs N` so many installs and kills of a guest of one line. `sealings N` seals so many lines and
-//! judges none: the cryptography of `owned`. The benchmark of judging times them.
+//! judges none: the cryptography of `owned`. `journals N` makes a journal of mixed entries, `judged N` judges it
+//! in one call, `texts N` prints it, and `lines N` reads that text again; `strays N` judges so many installs of
+//! one number, each behind a step of it. The benchmark of judging times them.
 #![tactic(auto)]
 
+use journal_text::{print_journal, read_journal};
+use keyed_mac::digest;
 use std::alloc::Global;
 use std::process::ExitCode;
 use std::{env, io};
-use trace_judge::{Judge, Report};
+use trace_judge::{Judge, Report, judge};
 use xom_base::{
     Block, ByteList, Entry, ImageId, Key256, NoMemory, PlainImage, Received, Released, Short, Step,
     StepEnd, Stored, Writes, number,
 };
+use xom_journal::{Journal, cost};
 use xom_owners::{Owner, OwnerList};
 use xom_seal::{LineName, LineSealer, image_keys};
 
@@ -32,6 +37,11 @@ enum Work {
     Owned,
     Installs,
     Sealings,
+    Journals,
+    Judged,
+    Texts,
+    Lines,
+    Strays,
 }
 
 fn main(rt: HostRuntime) -> io::Result<ExitCode> {
@@ -45,17 +55,15 @@ fn main(rt: HostRuntime) -> io::Result<ExitCode> {
     let (Some(work), Some(count)) = (work_of(what.as_str()), number(count.as_bytes())) else {
         return usage(&rt);
     };
-    match lines_of_report(rt.alloc(), work, count) {
-        Ok(lines) => println!(rt; "{lines}")?,
+    match done(rt.alloc(), work, count) {
+        Ok(number) => println!(rt; "{number}")?,
         Err(_) => println!(rt; "out of memory or refused")?,
     }
     Ok(ExitCode::from(0))
 }
 
 fn usage(rt: &HostRuntime) -> io::Result<ExitCode> {
-    println!(rt;
-        "judge_speed: words are `mixed N`, `steps N`, `owned N`, `installs N` or `sealings N`"
-    )?;
+    println!(rt; "judge_speed: words are a kind of work and how much of it, as `mixed 600`")?;
     Ok(ExitCode::from(1))
 }
 
@@ -66,17 +74,65 @@ fn work_of(word: &str) -> Option<Work> {
         "owned" => Some(Work::Owned),
         "installs" => Some(Work::Installs),
         "sealings" => Some(Work::Sealings),
+        "journals" => Some(Work::Journals),
+        "judged" => Some(Work::Judged),
+        "texts" => Some(Work::Texts),
+        "lines" => Some(Work::Lines),
+        "strays" => Some(Work::Strays),
         _ => None,
     }
 }
 
-/// How many lines the report has, where it finds nothing.
+/// Does the work, and answers a number that only all of it gives.
+fn done(alloc: Global, work: Work, count: u64) -> Result<u64, NoMemory> {
+    match work {
+        Work::Sealings => Ok(sealed(count)),
+        Work::Journals => Ok(journal(alloc, Work::Mixed, count)?.len()),
+        Work::Judged => judged(alloc, Work::Mixed, count),
+        Work::Strays => judged(alloc, Work::Strays, count),
+        Work::Texts => Ok(text(alloc, count)?.len() as u64),
+        Work::Lines => entries_read(alloc, &text(alloc, count)?),
+        _ => lines_of_report(alloc, work, count),
+    }
+}
+
+/// The journal of so many entries.
+fn journal(alloc: Global, work: Work, count: u64) -> Result<Journal, NoMemory> {
+    let mut journal = Journal::new(alloc);
+    let accept = owned();
+    for i in 0..count {
+        let entry = entry(work, i, &accept);
+        journal.reserve(cost(&entry))?;
+        journal.push(&entry);
+    }
+    Ok(journal)
+}
+
+/// Judges a journal in one call; how many lines the report has.
+fn judged(alloc: Global, work: Work, count: u64) -> Result<u64, NoMemory> {
+    let mut owners = OwnerList::new(alloc);
+    owners.push(owner(alloc)?)?;
+    let report = judge(alloc, &MACHINE, &owners, &journal(alloc, work, count)?)?;
+    lines(&report)
+}
+
+/// The text of a journal.
+fn text(alloc: Global, count: u64) -> Result<ByteList, NoMemory> {
+    print_journal(alloc, &journal(alloc, Work::Mixed, count)?)
+}
+
+/// How many entries a text gives.
+fn entries_read(alloc: Global, text: &ByteList) -> Result<u64, NoMemory> {
+    match read_journal(alloc, text) {
+        Ok(journal) => Ok(journal.len()),
+        Err(_) => Err(NoMemory),
+    }
+}
+
+/// How many lines the report has of entries that are fed one by one, where it finds nothing.
 fn lines_of_report(alloc: Global, work: Work, count: u64) -> Result<u64, NoMemory> {
     let mut owners = OwnerList::new(alloc);
     owners.push(owner(alloc)?)?;
-    if let Work::Sealings = work {
-        return Ok(sealed(count));
-    }
     let accept = owned();
     let mut judge = Judge::new(alloc, &MACHINE, &owners)?;
     for i in 0..count {
@@ -127,6 +183,8 @@ fn entry(work: Work, i: u64, accept: &Entry) -> Entry {
     match work {
         Work::Installs if i % 2 == 0 => install(i / 2 + 1),
         Work::Installs => Entry::Kill { install: i / 2 + 1 },
+        Work::Strays if i % 2 == 0 => step(i / 2),
+        Work::Strays => install(1),
         _ if i == 0 => install(1),
         Work::Steps => step(i - 1),
         Work::Owned => *accept,
@@ -200,12 +258,10 @@ fn message(round: &[u8; 8]) -> Short {
     Short::new(&text)
 }
 
-/// A hash of a text that tells its round, under a made-up digest.
+/// A hash of a text that tells its round.
 fn hash(round: &[u8; 8]) -> Entry {
-    let mut digest = [0; 32];
-    digest[..8].copy_from_slice(round);
     Entry::Hash {
         preimage: Block::new(round),
-        digest,
+        digest: digest(round),
     }
 }

@@ -221,7 +221,7 @@ longer : (es : List Entry) (e : Entry) → length (es ++ e ∷ []) ≡ length es
 longer es e = length-append es (e ∷ [])
 
 -- how many installs there are with one more entry
-install_count-more : (es : List Entry) (e : Entry) → install_count (es ++ e ∷ []) ≡ install_count es + installs_in e
+pub install_count-more : (es : List Entry) (e : Entry) → install_count (es ++ e ∷ []) ≡ install_count es + installs_in e
 install_count-more [] e = omega arith
 install_count-more (first ∷ es) e = let more : install_count (es ++ e ∷ []) ≡ install_count es + installs_in e = install_count-more es e in omega arith
 

@@ -7,3 +7,4 @@ pub mod HashSearch
 pub mod SealSearch
 pub mod GuestWatch
 pub mod Judging
+pub mod Suspicion

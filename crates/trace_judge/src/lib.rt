@@ -20,6 +20,7 @@ mod sealings;
 mod searches;
 mod steps;
 mod stream;
+mod suspicion;
 mod text;
 
 pub use judging::judge;
@@ -27,4 +28,5 @@ pub use laws::runs_are_followed;
 pub use mips_plain::Verdict;
 pub use report::{GuestEnd, GuestLine, GuestLineList, Report};
 pub use stream::Judge;
+pub use suspicion::{is_stop, is_suspect};
 pub use text::print_report;

@@ -1,11 +1,14 @@
 //! Journals, and what is judged of them.
 
 use crate::inputs::{TWELVE, image_of, owner_of};
+use journal_text::{BadLine, LineReader, print_journal, read_journal};
 use std::test::Fail;
-use trace_judge::{GuestEnd, GuestLine, GuestLineList, Report, Verdict, judge, print_report};
+use trace_judge::{
+    GuestEnd, GuestLine, GuestLineList, Judge, Report, Verdict, judge, print_report,
+};
 use xom_base::{
-    Block, Entry, ImageId, Key256, NoMemory, Received, Released, Rule, Short, Step, StepEnd,
-    Stored, Writes,
+    Block, ByteList, Entry, ImageId, Key256, NoMemory, Received, Released, Rule, Short, Step,
+    StepEnd, Stored, Writes,
 };
 use xom_journal::{Journal, cost};
 use xom_owners::OwnerList;
@@ -179,5 +182,71 @@ fn each_end_and_rule_is_printed(rt: HostRuntime) -> Result<(), Fail> {
         "collision none\n",
     );
     assert!(rt; print_report(rt.alloc(), &report)?.as_slice() == told.as_bytes());
+    Ok(())
+}
+
+#[test]
+fn texts_of_one_digest_collide(rt: HostRuntime) -> Result<(), Fail> {
+    let owners = OwnerList::new(rt.alloc());
+    let mut two = Journal::new(rt.alloc());
+    add(&mut two, hash(4))?;
+    add(&mut two, hash(5))?;
+    let report = judge(rt.alloc(), &MACHINE, &owners, &two)?;
+    assert!(rt; report.collision == Some((1, 2)));
+    let mut one = Journal::new(rt.alloc());
+    add(&mut one, hash(4))?;
+    add(&mut one, hash(4))?;
+    let report = judge(rt.alloc(), &MACHINE, &owners, &one)?;
+    assert!(rt; report.collision.is_none());
+    Ok(())
+}
+
+#[test]
+fn a_later_seal_leaves_a_forgery(rt: HostRuntime) -> Result<(), Fail> {
+    let owners = OwnerList::new(rt.alloc());
+    let (late, forged) = seal_and_accept(1);
+    let mut judge = Judge::new(rt.alloc(), &MACHINE, &owners)?;
+    judge.feed(&forged)?;
+    assert!(rt; judge.report()?.forged == Some(1));
+    judge.feed(&late)?;
+    assert!(rt; judge.report()?.forged == Some(1));
+    Ok(())
+}
+
+#[test]
+fn a_journal_off_the_rules_is_judged(rt: HostRuntime) -> Result<(), Fail> {
+    let mut owners = OwnerList::new(rt.alloc());
+    owners.push(owner_of(image_of(rt.alloc(), &TWELVE)?, 5, 0xab))?;
+    let mut journal = Journal::new(rt.alloc());
+    let [first, second, third, last] = steps(7);
+    add(&mut journal, first)?;
+    add(&mut journal, install(7, 1, MINE))?;
+    add(&mut journal, second)?;
+    add(&mut journal, install(7, 2, STRANGE))?;
+    add(&mut journal, third)?;
+    add(&mut journal, last)?;
+    let report = judge(rt.alloc(), &MACHINE, &owners, &journal)?;
+    let told = concat!(
+        "guest 7 slot 1 id abababababababababababababababab follows 4 steps ended\n",
+        "guest 7 slot 2 id 01010101010101010101010101010101 no owner ended\n",
+        "forged none\n",
+        "collision none\n",
+    );
+    assert!(rt; print_report(rt.alloc(), &report)?.as_slice() == told.as_bytes());
+    Ok(())
+}
+
+#[test]
+fn a_journal_is_printed_and_read(rt: HostRuntime) -> Result<(), Fail> {
+    let mut journal = Journal::new(rt.alloc());
+    add_guests(&mut journal)?;
+    let text = print_journal(rt.alloc(), &journal)?;
+    let read = read_journal(rt.alloc(), &text)?;
+    assert!(rt; print_journal(rt.alloc(), &read)?.as_slice() == text.as_slice());
+    let bad = ByteList::from_slice(rt.alloc(), b"out 1\nkill 1")?;
+    assert!(rt; read_journal(rt.alloc(), &bad).is_err());
+    let mut reader = LineReader::new();
+    assert!(rt; matches!(reader.next(b"kill 1"), Err(BadLine(1))));
+    assert!(rt; matches!(reader.next(b"out 1"), Err(BadLine(1))));
     Ok(())
 }

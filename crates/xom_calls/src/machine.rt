@@ -3,6 +3,10 @@
 ghost use Rattle.std.specs.Prelude.{◌≡◌, None, IfOk, false};
 
 use crate::inputs::{TWELVE, image_of};
+use lone_guest::guest_event;
+use lone_machine::{Kernel, Machine, View, next_event, run};
+use lone_ops::operate;
+use lone_private::{Core, EVENT_ROOM, Memories};
 use session_table::{SlotState, Table, owns, with_cell, without_cell};
 use std::alloc::Global;
 use std::test::Fail;
@@ -11,10 +15,6 @@ use xom_base::{
     Cause, Event, ImageId, Interrupts, Key256, NoMemory, NumberList, Op, Outcome, OwnFault,
     PokeList, Rule, RunEnd, Schedule, Stored, Turn,
 };
-use lone_guest::guest_event;
-use lone_machine::{Kernel, Machine, View, next_event, run};
-use lone_ops::operate;
-use lone_private::{Core, EVENT_ROOM, Memories};
 
 const ID: ImageId = ImageId([7; 16]);
 

@@ -18,17 +18,17 @@ use Rattle.xom_cli.specs.Endings.{Disk, Ends, EndsRow, EndsWords, Finishes, IsSi
 use Rattle.cli_base.specs.Commands.{IsDone}
 use Rattle.cli_base.specs.Inputs.{Held, without}
 use Rattle.xom_cli.specs.Outcome.{IsOutcome, IsPrinted, IsPrintedBy, Printed, printed, printed_words}
-use Rattle.xom_cli.specs.Promises.{AsksForRun, ChangesOnly, FailsWriting, IsReadBy, IsUnprinted, IsUnput, Promises, WritesFile, WritesPrefix, WritesWhole, target_in}
+use Rattle.xom_cli.specs.Promises.{AsksForRun, ChangesOnly, FailsWriting, IsReadBy, IsUnprinted, IsJudged, IsUnput, Promises, WritesFile, WritesPrefix, WritesWhole, target_in}
 use Rattle.cli_base.specs.Readings.{IsRead, Meets, Refuses}
 use Rattle.cli_base.specs.Refusals.{line_of, refusal_status, words_line}
-use Rattle.xom_cli.specs.Rows.{Row, Run, Trace, row_of, target_of}
+use Rattle.xom_cli.specs.Rows.{Row, Run, Trace, Judge, row_of, target_of}
 use Rattle.cli_trace.specs.Console.{console_of}
 use Rattle.cli_trace.specs.Run.{console_run}
 use Rattle.cli_trace.specs.Trace.{AllFollow, NamesFinding, journal_file, last_record, parts_of, report_of, trace_of, trace_text, traced}
 use Rattle.xom_cli.proofs.Delivered.{done_not_1, done_not_2, done_not_3, done_not_4, done_not_5, fails-rising, lacks-count, lacks-held, never-long, puts-changes, puts-count, puts-file, puts-nothing, same-changes, same-count, takes-prefix}
 use Rattle.cli_trace.proofs.Headline.{all_follow}
 use Rattle.cli_trace.proofs.Statuses.{nine-names}
-use Rattle.xom_cli.proofs.Targets.{parts-traced, run-answer, trace-answer}
+use Rattle.xom_cli.proofs.Targets.{journal-text, judge-answer, parts-traced, run-answer, trace-answer}
 use Rattle.xom_cli.proofs.Unread.{row-unread}
 
 -- the sink took a text, and answered this
@@ -79,6 +79,7 @@ module _ (words : List (List ℕ)) (before after : Outside) where
     headline = λ held told run journal row d. absurd (done_not_5 d);
     console = λ held told run row d. absurd (done_not_5 d);
     finding_cause = λ held told run row nine. absurd (omega arith);
+    judges = λ held told run journal row d. absurd (done_not_5 d);
   }
 
   silent_prefix : after.output ≡ before.output → WritesPrefix words before after
@@ -136,6 +137,7 @@ module _ (words : List (List ℕ)) (before after : Outside) where
       headline = λ held told run journal row d. absurd (done_not_1 d);
       console = λ held told run row d. absurd (done_not_1 d);
       finding_cause = λ held told run row nine. absurd (omega arith);
+      judges = λ held told run journal row d. absurd (done_not_1 d);
     }
 
     words_end : after.disk ≡ before.disk → after.reads ≡ before.reads → (put : Result (Unit {0}) SinkFault) → Took before.output after.output words_line put → Promises words before after (status_of (ended ending.NoRow ending.NoRow put))
@@ -222,6 +224,24 @@ module _ (words : List (List ℕ)) (before after : Outside) where
           let found = trace-answer held run journal answer (is_wanted (Trace run journal) named held told) in
           (found.0, found.1, nine-names found.0 (sym (ap (λ (a : Answer). a.status) found.2) ∙ nine))
 
+      judges_here : Appends before.output.written after.output.written answer.text → (held : Held) → before.disk.held ≡ Some held → (run journal : List ℕ) → row_of words ≡ Some (Judge run journal)
+          → IsJudged held before after run journal answer.status
+      judges_here whole held told run journal named =
+          let found = judge-answer held run journal answer (is_wanted (Judge run journal) named held told) in
+          let text = journal-text held journal found.2 found.5 in
+          record {
+            file = found.0;
+            owners = found.1;
+            text = text.0;
+            entries = found.2;
+            file_is = found.3;
+            owners_are = found.4;
+            text_is = text.1;
+            entries_are = text.2;
+            status_is = ap (λ (a : Answer). a.status) found.6;
+            prints = subst (λ (a : Answer). Appends before.output.written after.output.written a.text) found.6 whole;
+          }
+
       -- the file was put, and all of the text
       delivered : (u : Unit {0}) → PutsFile before.disk after.disk answer.file (Ok u) → (v : Unit {0}) → Took before.output after.output answer.text (Ok v) → Promises words before after answer.status
       delivered u puts v takes = record {
@@ -244,6 +264,7 @@ module _ (words : List (List ℕ)) (before after : Outside) where
         headline = λ held told run journal named _. headline_here takes.1 (puts-file before.disk after.disk answer.file u puts) held told run journal named;
         console = λ held told run named _. console_here takes.1 held told run named;
         finding_cause = λ held told run named nine. finding_here nine held told run named;
+        judges = λ held told run journal named _. judges_here takes.1 held told run journal named;
       }
 
       -- the file or the text couldn't be written
@@ -268,6 +289,7 @@ module _ (words : List (List ℕ)) (before after : Outside) where
         headline = λ held told run journal named d. absurd (done_not_3 d);
         console = λ held told run named d. absurd (done_not_3 d);
         finding_cause = λ held told run named nine. absurd (omega arith);
+        judges = λ held told run journal row d. absurd (done_not_3 d);
       }
 
       uncounted : after.disk.writes ≡ before.disk.writes → IsUnprinted before after
@@ -317,6 +339,7 @@ module _ (words : List (List ℕ)) (before after : Outside) where
         headline = λ held told run journal named d. absurd (done_not_4 d);
         console = λ held told run named d. absurd (done_not_4 d);
         finding_cause = λ held told run named nine. absurd (omega arith);
+        judges = λ held told run journal row d. absurd (done_not_4 d);
       }
 
       bad_end : (put : Result (Unit {0}) SinkFault) → Took before.output after.output (line_of refusal) put → Promises words before after (status_of (ended ending.BadInput ending.BadInput put))
@@ -374,6 +397,7 @@ module _ (words : List (List ℕ)) (before after : Outside) where
         headline = λ held told run journal named d. absurd (done_not_2 d);
         console = λ held told run named d. absurd (done_not_2 d);
         finding_cause = λ held told run named nine. absurd (omega arith);
+        judges = λ held told run journal row d. absurd (done_not_2 d);
       }
 
       unread_end : (put : Result (Unit {0}) SinkFault) → Took before.output after.output (line_of (Unread name)) put → Promises words before after (status_of (ended ending.Unread ending.Unread put))

@@ -12,7 +12,7 @@ use Rattle.cli_base.specs.Inputs.{Held, fetched}
 use Rattle.cli_programs.specs.Programs.{source_limit}
 use Rattle.xom_cli.specs.Laws.{HaveOneOutcome}
 use Rattle.xom_cli.specs.Outcome.{IsOutcome, IsPrinted, IsPrintedBy, Printed, printed}
-use Rattle.xom_cli.specs.Rows.{Row, Asm, Disasm, Plain, Seal, Run, Trace, row_of}
+use Rattle.xom_cli.specs.Rows.{Row, Asm, Disasm, Plain, Seal, Run, Trace, Judge, row_of}
 
 -- nothing is said of want of memory
 said-none : (source : List ℕ) (fault : AsmFault) (refusal : Refusal) → fault ≡ asm_fault.NoMemory → said_of source fault ≡ Some refusal → ⊥
@@ -48,6 +48,7 @@ row-one (Plain image steps received) held x y p q = sym p ∙ q
 row-one (Seal image key id machine sealed) held x y p q = sym p ∙ q
 row-one (Run run) held x y p q = sym p ∙ q
 row-one (Trace run journal) held x y p q = sym p ∙ q
+row-one (Judge run journal) held x y p q = sym p ∙ q
 
 printed-one : (o : Option Row) (held : Held) (p q : Printed) → IsPrintedBy o held p → IsPrintedBy o held q → p ≡ q
 printed-one None held p q a b = a ∙ sym b

@@ -1,19 +1,27 @@
 -- The file that a command answers is the one that its words name.
-use Rattle.std.proofs.Common.{◌≡◌, List, ℕ, Option, Some, None, Result, Ok, Err, refl, sym, ◌∙◌, ap}
+use Rattle.std.proofs.Common.{◌≡◌, List, ℕ, Option, Some, None, Result, Ok, Err, true, false, cond, length, refl, sym, ◌∙◌, ap}
+use Rattle.std.specs.Prelude.{nat_le}
 use Rattle.xom_base.specs.declared.entry.Entry.{Entry}
 use Rattle.xom_base.specs.declared.key.ImageId.{ImageId}
 use Rattle.xom_base.specs.declared.key.Key256.{Key256}
 use Rattle.cli_base.specs.declared.answer.Answer.{Answer}
 use Rattle.cli_base.specs.declared.answer.OutputFile.{OutputFile}
+use Rattle.cli_base.specs.declared.refusal.InputFault.TheVariants.{TooLong}
 use Rattle.cli_base.specs.declared.refusal.Refusal.{Refusal}
+use Rattle.cli_base.specs.declared.refusal.Refusal.TheVariants.{Bad}
 use Rattle.cli_trace.specs.declared.trace.Parts.{Parts}
 use Rattle.cli_programs.specs.Assembly.{AssemblesRead}
-use Rattle.cli_base.specs.Inputs.{◌>>=◌, Held, fetched, image_of}
+use Rattle.cli_base.specs.Inputs.{◌>>=◌, Held, fetched, fetched_bytes, image_of, in_file, in_lines}
 use Rattle.cli_programs.specs.Programs.{source_limit}
 use Rattle.xom_cli.specs.Outcome.{IsOutcome}
 use Rattle.cli_programs.specs.Programs.{disasm_of, plain_of, seal_of, values_of}
-use Rattle.xom_cli.specs.Rows.{Row, Asm, Disasm, Plain, Seal, Run, Trace, target_of}
+use Rattle.xom_cli.specs.Rows.{Row, Asm, Disasm, Plain, Seal, Run, Trace, Judge, target_of}
+use Rattle.journal_text.specs.Readings.{IsJournal}
+use Rattle.cli_judge.proofs.Grammar.{entries-are}
+use Rattle.cli_judge.specs.Judge.{entries_at, journal_limit, journal_of, judge_of, judged, owners_of, run_file_of}
 use Rattle.cli_trace.specs.Run.{console_run, run_of}
+use Rattle.xom_owners.specs.declared.owner.Owner.{Owner}
+use Rattle.xom_script.specs.declared.run_file.RunFile.{RunFile}
 use Rattle.cli_trace.specs.Trace.{journal_file, last_record, parts_of, trace_of, traced}
 
 -- where two steps answer, the first did, and the second of what it gave
@@ -62,6 +70,39 @@ pub parts-traced : (held : Held) (run : List ℕ) (journal : Option (List ℕ)) 
 unfolding trace_of
 parts-traced held run journal parts is = ap (λ read. read >>= (λ p. Ok (traced journal p))) is
 
+-- the answer of `judge` is that of the run file, its owners and the journal
+pub judge-answer : (held : Held) (run journal : List ℕ) (answer : Answer) → judge_of held run journal ≡ Ok answer
+    → (file : RunFile) × (owners : List Owner) × (entries : List Entry) × (run_file_of held run ≡ Ok file) × (owners_of held file.owners ≡ Ok owners) × (journal_of held journal ≡ Ok entries) × (answer ≡ judged file.machine owners entries)
+unfolding judge_of
+judge-answer held run journal answer is =
+    let file = bind-ok (run_file_of held run) _ answer is in
+    let owners = bind-ok (owners_of held file.0.owners) _ answer file.2 in
+    let entries = bind-ok (journal_of held journal) _ answer owners.2 in
+    (file.0, owners.0, entries.0, file.1, owners.1, entries.1, let last = entries.2 in cc)
+
+judge-file : (held : Held) (run journal : List ℕ) (answer : Answer) → judge_of held run journal ≡ Ok answer → answer.file ≡ None
+judge-file held run journal answer is = ap (λ (a : Answer). a.file) (judge-answer held run journal answer is).6
+
+-- the entries of a journal are those of the text that the file holds
+bytes-text : (name text : List ℕ) (limit : ℕ) (o : Option (List ℕ)) → fetched_bytes name limit o ≡ Ok text → o ≡ Some text
+bytes-text name text limit None is = absurd (cc)
+bytes-text name text limit (Some bytes) is =
+    elim (nat_le (length bytes) limit) as (λ b. cond b (Ok bytes) (Err (Bad name TooLong)) ≡ Ok text → Some bytes ≡ Some text) [ true ↦ λ ok. cc | false ↦ λ long. absurd (cc) ] is
+
+fetched-text : (held : Held) (name text : List ℕ) (limit : ℕ) → fetched held name limit ≡ Ok text → held name ≡ Some text
+unfolding fetched
+fetched-text held name text limit is = bytes-text name text limit (held name) is
+
+entries-text : (name text : List ℕ) (entries : List Entry) (read : Result (List Entry) ℕ) → in_file name (in_lines read) ≡ Ok entries → read ≡ Ok entries
+entries-text name text entries (Ok found) is = cc
+entries-text name text entries (Err line) is = absurd (cc)
+
+pub journal-text : (held : Held) (name : List ℕ) (entries : List Entry) → journal_of held name ≡ Ok entries → (text : List ℕ) × (held name ≡ Some text) × IsJournal text entries
+unfolding journal_of
+journal-text held name entries is =
+    let read = bind-ok (fetched held name journal_limit) _ entries is in
+    (read.0, fetched-text held name read.0 journal_limit read.1, entries-are read.0 entries (entries-text name read.0 entries (entries_at read.0) read.2))
+
 asm_read-file : (source target : List ℕ) (read : Result (List ℕ) Refusal) (answer : Answer) (file : OutputFile) → AssemblesRead source target read (Ok answer) → answer.file ≡ Some file → file.name ≡ target
 asm_read-file source target (Ok text) answer file is written = let last = is.2 in cc
 asm_read-file source target (Err refusal) answer file is written = absurd (cc)
@@ -87,3 +128,4 @@ target-written (Plain image steps received) held answer file is written = let no
 target-written (Seal image key id machine sealed) held answer file is written = ap Some (sym (seal-file held image key id machine sealed answer file is written))
 target-written (Run run) held answer file is written = let none = run-file held run answer is in absurd (cc)
 target-written (Trace run journal) held answer file is written = trace-file held run journal answer file is written
+target-written (Judge run journal) held answer file is written = let none = judge-file held run journal answer is in absurd (cc)

@@ -1,5 +1,5 @@
 -- A file that can't be read, where no read failed, isn't held.
-use Rattle.std.proofs.Common.{◌≡◌, ◌⊎◌, inl, inr, ℕ, List, Option, Some, None, Result, Ok, Err, true, false, cond, length, refl, subst}
+use Rattle.std.proofs.Common.{◌≡◌, ◌⊎◌, inl, inr, ℕ, List, [], ◌∷◌, Option, Some, None, Result, Ok, Err, true, false, cond, length, refl, subst}
 use Rattle.std.specs.Prelude.{nat_le}
 use Rattle.xom_base.specs.declared.key.ImageId.{ImageId}
 use Rattle.xom_base.specs.declared.key.Key256.{Key256}
@@ -14,8 +14,10 @@ use Rattle.cli_programs.specs.Programs.{received_of, source_limit}
 use Rattle.cli_trace.specs.Inputs.{run_file_of, script_of}
 use Rattle.xom_cli.specs.Outcome.{IsOutcome}
 use Rattle.cli_programs.specs.Programs.{disasm_of, plain_of, seal_of, values_of}
-use Rattle.xom_cli.specs.Rows.{Row, Asm, Disasm, Plain, Seal, Run, Trace}
+use Rattle.xom_cli.specs.Rows.{Row, Asm, Disasm, Plain, Seal, Run, Trace, Judge}
+use Rattle.cli_judge.specs.Judge.{journal_of, judge_of, owners_of, run_file_of as judge_run_of}
 use Rattle.cli_trace.specs.Run.{run_of}
+use Rattle.xom_script.specs.declared.run_file.OwnerFile.{OwnerFile}
 use Rattle.cli_trace.specs.Trace.{parts_of, trace_of}
 
 -- where a step and what follows it are refused, one of them is
@@ -120,6 +122,37 @@ run-unread held run name is = elim (bind-err (parts_of held run) _ (Unread name)
   | inr parts ↦ absurd (let last = parts.2 in cc)
 ]
 
+judge_run-unread : (held : Held) (n name : List ℕ) → judge_run_of held n ≡ Err (Unread name) → held name ≡ None
+unfolding judge_run_of
+judge_run-unread held n name is = input-unread _ _ held n name is
+
+journal-unread : (held : Held) (n name : List ℕ) → journal_of held n ≡ Err (Unread name) → held name ≡ None
+unfolding journal_of
+journal-unread held n name is = input-unread _ _ held n name is
+
+owners-unread : (held : Held) (lines : List OwnerFile) (name : List ℕ) → owners_of held lines ≡ Err (Unread name) → held name ≡ None
+owners-unread held [] name is = absurd (cc)
+owners-unread held (line ∷ lines) name is = elim (bind-err (image_of held line.plain) _ (Unread name) is) [
+  | inl here ↦ image-unread held line.plain name here
+  | inr image ↦ elim (bind-err (owners_of held lines) _ (Unread name) image.2) [
+    | inl here ↦ owners-unread held lines name here
+    | inr owners ↦ absurd (let last = owners.2 in cc)
+  ]
+]
+
+judge-unread : (held : Held) (run journal name : List ℕ) → judge_of held run journal ≡ Err (Unread name) → held name ≡ None
+unfolding judge_of
+judge-unread held run journal name is = elim (bind-err (judge_run_of held run) _ (Unread name) is) [
+  | inl here ↦ judge_run-unread held run name here
+  | inr file ↦ elim (bind-err (owners_of held file.0.owners) _ (Unread name) file.2) [
+    | inl here ↦ owners-unread held file.0.owners name here
+    | inr owners ↦ elim (bind-err (journal_of held journal) _ (Unread name) owners.2) [
+      | inl here ↦ journal-unread held journal name here
+      | inr entries ↦ absurd (let last = entries.2 in cc)
+    ]
+  ]
+]
+
 pub row-unread : (row : Row) (held : Held) (name : List ℕ) → IsOutcome row held (Err (Unread name)) → held name ≡ None
 row-unread (Asm source target) held name is = asm-unread held source target name is
 row-unread (Disasm image) held name is = disasm-unread held image name is
@@ -127,3 +160,4 @@ row-unread (Plain image steps received) held name is = plain-unread held image s
 row-unread (Seal image key id machine sealed) held name is = seal-unread held image key id machine sealed name is
 row-unread (Run run) held name is = run-unread held run name is
 row-unread (Trace run journal) held name is = trace-unread held run journal name is
+row-unread (Judge run journal) held name is = judge-unread held run journal name is

@@ -7,7 +7,8 @@ use Rattle.cli_base.specs.Inputs.{Held}
 use Rattle.cli_base.specs.Refusals.{line_of, refusal_status, words_line}
 use Rattle.cli_programs.specs.Assembly.{Assembles}
 use Rattle.cli_programs.specs.Programs.{disasm_of, plain_of, seal_of}
-use Rattle.xom_cli.specs.Rows.{Row, Asm, Disasm, Plain, Seal, Run, Trace, row_of}
+use Rattle.xom_cli.specs.Rows.{Row, Asm, Disasm, Plain, Seal, Run, Trace, Judge, row_of}
+use Rattle.cli_judge.specs.Judge.{judge_of}
 use Rattle.cli_trace.specs.Run.{run_of}
 use Rattle.cli_trace.specs.Trace.{trace_of}
 
@@ -19,6 +20,7 @@ IsOutcome (Plain image steps received) held result = plain_of held image steps r
 IsOutcome (Seal image key id machine sealed) held result = seal_of held image key id machine sealed ≡ result
 IsOutcome (Run run) held result = run_of held run ≡ result
 IsOutcome (Trace run journal) held result = trace_of held run journal ≡ result
+IsOutcome (Judge run journal) held result = judge_of held run journal ≡ result
 
 -- what is printed, the file that is written, if there is one, and the status
 pub record Printed : Type 0 where

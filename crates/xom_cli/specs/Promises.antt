@@ -9,7 +9,14 @@ use Rattle.cli_base.specs.Commands.{IsDone}
 use Rattle.cli_base.specs.Inputs.{Held, without}
 use Rattle.xom_cli.specs.Outcome.{IsPrinted, Printed, printed}
 use Rattle.cli_base.specs.Refusals.{line_of}
-use Rattle.xom_cli.specs.Rows.{Run, Trace, row_of, target_of}
+use Rattle.xom_cli.specs.Rows.{Run, Trace, Judge, row_of, target_of}
+use Rattle.xom_base.specs.declared.entry.Entry.{Entry}
+use Rattle.xom_owners.specs.declared.owner.Owner.{Owner}
+use Rattle.xom_script.specs.declared.run_file.RunFile.{RunFile}
+use Rattle.journal_text.specs.Readings.{IsJournal}
+use Rattle.trace_judge.specs.Judgement.{judgement}
+use Rattle.trace_judge.specs.ReportText.{report_text}
+use Rattle.cli_judge.specs.Judge.{judge_status, owners_of, run_file_of}
 use Rattle.cli_trace.specs.Console.{console_of}
 use Rattle.cli_trace.specs.Trace.{AllFollow, NamesFinding, journal_file, last_record, parts_of, report_of, trace_of, trace_text, traced}
 
@@ -140,6 +147,23 @@ abbrev pub FindingCause : List (List ℕ) → Outside → ℕ → Type 0
 FindingCause words before status = (held : Held) → before.disk.held ≡ Some held → (run : List ℕ) → AsksForRun words run → status ≡ 9
     → (parts : Parts) × (parts_of held run ≡ Ok parts) × NamesFinding (report_of parts)
 
+-- Where `judge` was carried out, the journal's file is the text of a list of entries, its text is the report on just these entries by the machine key and the owners of the run file, and its status is 9 where this report is suspect, else 8 where an entry is a Stop, else 0.
+pub record IsJudged (held : Held) (before after : Outside) (run journal : List ℕ) (status : ℕ) : Type 0 where
+  pub file : RunFile
+  pub owners : List Owner
+  pub text : List ℕ
+  pub entries : List Entry
+  pub file_is : run_file_of held run ≡ Ok file
+  pub owners_are : owners_of held file.owners ≡ Ok owners
+  pub text_is : held journal ≡ Some text
+  pub entries_are : IsJournal text entries
+  pub status_is : status ≡ judge_status (judgement file.machine owners entries) entries
+  pub prints : Appends before.output.written after.output.written (report_text (judgement file.machine owners entries))
+
+abbrev pub JudgesJournal : List (List ℕ) → Outside → Outside → ℕ → Type 0
+JudgesJournal words before after status = (held : Held) → before.disk.held ≡ Some held → (run journal : List ℕ) → row_of words ≡ Some (Judge run journal) → IsDone status
+    → IsJudged held before after run journal status
+
 -- all of this, of a call with these words
 pub record Promises (words : List (List ℕ)) (before after : Outside) (status : ℕ) : Type 0 where
   pub answers : IsStatus status
@@ -161,3 +185,4 @@ pub record Promises (words : List (List ℕ)) (before after : Outside) (status :
   pub headline : GuestsRunAlone words before after status
   pub console : PrintsConsole words before after status
   pub finding_cause : FindingCause words before status
+  pub judges : JudgesJournal words before after status

@@ -20,6 +20,8 @@ pub data Row : Type 0 where
   Run : (run : List ℕ) → Row
   -- makes the run of a run file, prints its console and the judgement of its journal, and writes the journal where a file is named
   Trace : (run : List ℕ) → (journal : Option (List ℕ)) → Row
+  -- judges a journal by the owners of a run file, and prints the report
+  Judge : (run : List ℕ) → (journal : List ℕ) → Row
 
 -- at most so many steps are asked for
 abbrev pub most_steps : ℕ
@@ -48,7 +50,8 @@ abbrev pub row_of_two : List ℕ → List ℕ → List ℕ → Option Row
 row_of_two command a b =
     if bytes_eq command (codes "asm") then Some (Asm a b)
     else (if bytes_eq command (codes "plain") then plain_row a b None
-    else (if bytes_eq command (codes "trace") then Some (Trace a (Some b)) else None))
+    else (if bytes_eq command (codes "trace") then Some (Trace a (Some b))
+    else (if bytes_eq command (codes "judge") then Some (Judge a b) else None)))
 
 abbrev pub row_of_three : List ℕ → List ℕ → List ℕ → List ℕ → Option Row
 row_of_three command a b c = if bytes_eq command (codes "plain") then plain_row a b (Some c) else None
@@ -72,3 +75,4 @@ target_of (Plain image steps received) = None
 target_of (Seal image key id machine sealed) = Some sealed
 target_of (Run run) = None
 target_of (Trace run journal) = journal
+target_of (Judge run journal) = None

@@ -42,6 +42,11 @@ pub enum Row<'a> {
         run: &'a String,
         journal: Option<&'a String>,
     },
+    /// `judge RUN JOURNAL`
+    Judge {
+        run: &'a String,
+        journal: &'a String,
+    },
 }
 
 /// The row that the words match, or none. The words come after the program's name.
@@ -86,6 +91,7 @@ fn row_of_two<'a>(command: &String, a: &'a String, b: &'a String) -> Option<Row<
             run: a,
             journal: Some(b),
         }),
+        "judge" => Some(Row::Judge { run: a, journal: b }),
         _ => None,
     }
 }

@@ -10,6 +10,7 @@ use crate::delivery::{finish, print};
 use crate::ending::Ending;
 use crate::row::{Row, row_named};
 use cli_base::{Answer, Stop};
+use cli_judge::judge::judge;
 use cli_programs::asm::asm;
 use cli_programs::disasm::disasm;
 use cli_programs::plain::plain;
@@ -32,8 +33,10 @@ use xom_io::{Files, Sink};
 ///   there. Where there is none nothing is put.
 /// - `trace RUN` and `trace RUN JOURNAL` make the same run, with the same status, and print its console
 ///   and the judgement of its journal; where a file is named, the journal's text is written there.
+/// - `judge RUN JOURNAL` judges a journal that was taken away, by the owners of a run file, and prints
+///   the report. Of the files that the run file names it reads the owners' images alone.
 ///
-/// 0: carried out; for a run, the kernel halted. 1: the words match no command. 2: a file can't be
+/// 0: carried out; for a run, the kernel halted; for a journal, none of what follows. 1: the words match no command. 2: a file can't be
 /// read. 3: the output can't be written. 4: a file is too long, or off its format. 5: no memory was
 /// found. 6: the budget was reached. 8: a guest was stopped. 9: the report names a forgery, a
 /// collision, or a guest that departs from its program. No file is changed but the one that the
@@ -93,5 +96,6 @@ fn answer<F: Files>(alloc: Global, row: Row<'_>, files: &mut F) -> Result<Answer
         } => seal(alloc, files, image, key, id, &machine, sealed),
         Row::Run { run: name } => run(alloc, files, name),
         Row::Trace { run: name, journal } => trace(alloc, files, name, journal),
+        Row::Judge { run: name, journal } => judge(alloc, files, name, journal),
     }
 }

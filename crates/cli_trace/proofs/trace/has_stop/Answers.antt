@@ -2,7 +2,7 @@
 use Rattle.std.proofs.Common.{◌≡◌, ℕ, ◌+◌, ◌<◌, ◌≤◌, length, Bool, true, false, ◌||◌, List, drop, Some, None, refl, sym, ap, ◌∙◌, arith}
 use Rattle.std.specs.List.{list_any}
 use Rattle.std.specs.Prelude.{slice_get}
-use Rattle.cli_trace.specs.Trace.{is_stop}
+use Rattle.trace_judge.specs.Suspicion.{is_stop}
 use Rattle.xom_base.specs.declared.entry.Entry.{Entry}
 use Rattle.xom_journal.proofs.PlaceLaws.{behind_some, past_end}
 use Rattle.cli_trace.proofs.trace.has_stop.Goals as goal

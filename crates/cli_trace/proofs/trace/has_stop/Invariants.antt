@@ -1,7 +1,7 @@
 -- Whether there is a Stop is told by the entries that are left.
 use Rattle.std.proofs.Common.{◌≡◌, drop}
 use Rattle.std.specs.List.{list_any}
-use Rattle.cli_trace.specs.Trace.{is_stop}
+use Rattle.trace_judge.specs.Suspicion.{is_stop}
 use Rattle.cli_trace.proofs.trace.has_stop.Given as goal
 
 abbrev pub invariant-loop-i : goal.invariant-loop-i

@@ -1,0 +1,5 @@
+pub mod Numbered
+pub mod Owners
+pub mod Files
+pub mod Heard
+pub mod Grammar
