@@ -1,0 +1,213 @@
+-- One event of the running guest: an instruction that retires, or what stands against it, and the trap or the end that may follow.
+use Rattle.std.specs.Prelude.{ℕ, ◌+◌, ◌-◌, ◌%◌, ◌^◌, ◌==◌, Bool, List, Option, Some, None, Result, Ok, Err, slice_set, if◌then◌else◌}
+use Rattle.std.specs.Int.{w32, to_be_bytes}
+use Rattle.xom_base.specs.declared.entry.Entry.TheVariants as entry
+use Rattle.xom_base.specs.declared.event.Cause.{Cause}
+use Rattle.xom_base.specs.declared.event.Cause.TheVariants as cause
+use Rattle.xom_base.specs.declared.event.OwnFault.{OwnFault}
+use Rattle.xom_base.specs.declared.event.OwnFault.TheVariants as fault
+use Rattle.xom_base.specs.declared.step.Stored.{Stored}
+use Rattle.xom_base.specs.declared.step.Stored.TheVariants as stored
+use Rattle.xom_base.specs.declared.step.Writes.{Writes}
+use Rattle.xom_base.specs.declared.step.Writes.TheVariants as writes
+use Rattle.xom_base.specs.declared.step.Released.{Released}
+use Rattle.xom_base.specs.declared.step.Released.TheVariants as released
+use Rattle.xom_base.specs.declared.step.StepEnd.{StepEnd}
+use Rattle.xom_base.specs.declared.step.StepEnd.TheVariants as ended
+use Rattle.xom_base.specs.declared.step.Step.{Step}
+use Rattle.mips_instruction.specs.Words.{read}
+use Rattle.mips_effect.specs.declared.effects.Effect.{Effect}
+use Rattle.mips_effect.specs.declared.seen.Seen.{Seen}
+use Rattle.mips_effect.specs.declared.seen.Seen.TheVariants.{Value, Foreign}
+use Rattle.mips_effect.specs.declared.wish.Wish.{Wish}
+use Rattle.mips_effect.specs.declared.wish.Wish.TheVariants as wish
+use Rattle.mips_plain.specs.Instruction.{is_code, known, tried, step_made, handler_after, kept_after, signal_step}
+use Rattle.mips_plain.specs.Memory.{low_bytes, word_at, written_at}
+use Rattle.line_ram.specs.Bytes.{line_size, stored as stored_in_ram}
+use Rattle.tag_regs.specs.declared.cell.Cell.{Cell}
+use Rattle.tag_regs.specs.TaggedCells.{cell_at, with_cell as written_cell}
+use Rattle.session_table.specs.declared.session.Session.{Session}
+use Rattle.session_table.specs.declared.session.SlotState.TheVariants as state
+use Rattle.session_table.specs.Masks.{with_cell, without_cell}
+use Rattle.session_table.specs.Sessions.{paused}
+use Rattle.xom_model.specs.declared.reach.Reach.{Reach}
+use Rattle.xom_model.specs.declared.reach.Reach.TheVariants as reach
+use Rattle.xom_versions.specs.Versions.{Versions}
+use Rattle.line_cache.specs.declared.way.Way.{Way}
+use Rattle.line_cache.specs.Ways.{way_at, written}
+use Rattle.xom_model.specs.State.{CoreState, holds, line_at, noted, session_of, with_session}
+use Rattle.xom_model.specs.Access.{access, gone}
+
+-- what a slot's guest sees in a cell: the value where the cell has the slot's tag; $0 is zero
+abbrev pub seen_as : ℕ → Cell → Seen
+seen_as slot cell = if cell.tag == slot then Value cell.value else Foreign
+
+abbrev pub seen_by : ℕ → List Cell → ℕ → Seen
+seen_by slot cells reg = if reg == 0 then Value 0 else seen_as slot (cell_at cells reg)
+
+-- the word of RAM at an address, 0 outside
+abbrev pub null_word : List ℕ → ℕ → ℕ
+null_word ram address = if holds ram address 4 then word_at ram address else 0
+
+-- what comes from outside: the value of a cell of the null compartment, and 0 of any other's; or a word of RAM
+abbrev pub open_value : Cell → ℕ
+open_value cell = if cell.tag == 0 then cell.value else 0
+
+abbrev pub received_by : List Cell → List ℕ → Wish → ℕ
+received_by cells ram (wish.Receive reg from) = open_value (cell_at cells from)
+received_by cells ram (wish.NullLoad reg address) = null_word ram address
+received_by cells ram other = 0
+
+-- RAM after what a step gives out; outside RAM nothing is written
+abbrev pub given_out : List ℕ → Released → List ℕ
+given_out ram released.Nothing = ram
+given_out ram (released.Cell reg value) = ram
+given_out ram (released.Null address value) = if holds ram address 4 then stored_in_ram ram address (to_be_bytes w32 value) else ram
+
+-- a written cell gets the slot's tag
+abbrev pub tagged : ℕ → List Cell → Writes → List Cell
+tagged slot cells writes.Nothing = cells
+tagged slot cells (writes.One reg value) = written_cell cells reg value slot
+tagged slot cells (writes.Pair hi lo) = written_cell (written_cell cells 32 hi slot) 33 lo slot
+
+-- a released cell is of the null compartment, and keeps its value
+abbrev pub untagged : List Cell → Released → List Cell
+untagged cells released.Nothing = cells
+untagged cells (released.Cell reg value) = written_cell cells reg value 0
+untagged cells (released.Null address value) = cells
+
+-- the cells after a step of a slot's guest
+abbrev pub cells_after : ℕ → List Cell → Step → List Cell
+cells_after slot cells step = untagged (tagged slot cells step.writes) step.released
+
+-- the cells that the guest owns after what it wrote and released
+abbrev pub mask_written : ℕ → Writes → ℕ
+mask_written mask writes.Nothing = mask
+mask_written mask (writes.One reg value) = with_cell mask reg
+mask_written mask (writes.Pair hi lo) = with_cell (with_cell mask 32) 33
+
+abbrev pub mask_released : ℕ → Released → ℕ
+mask_released mask released.Nothing = mask
+mask_released mask (released.Cell reg value) = without_cell mask reg
+mask_released mask (released.Null address value) = mask
+
+abbrev pub mask_after : ℕ → Step → ℕ
+mask_after mask step = mask_released (mask_written mask step.writes) step.released
+
+-- the session after a step of this effect
+abbrev pub moved : Session → Effect → Step → Session
+moved s effect step = record s {
+  pc = effect.pc;
+  npc = effect.npc;
+  mask = mask_after s.mask step;
+  handler = handler_after s.handler effect.wish;
+  saved = kept_after s.saved effect.wish;
+}
+
+-- a way with bytes stored in it has still to be sealed
+abbrev pub stored_way : Way → ℕ → List ℕ → Way
+stored_way way address bytes = written way (written_at way.bytes (address % line_size) bytes)
+
+-- the cache after what a step stored in the line at a place
+abbrev pub stored_at : List Way → ℕ → Stored → List Way
+stored_at ways place stored.Nothing = ways
+stored_at ways place (stored.Bytes address count value) =
+    slice_set ways place (stored_way (way_at ways place) address (low_bytes count value))
+
+-- the core after a step with which the slot's session becomes this one, and which stores in the line at this place, if it stores
+abbrev pub stepped : CoreState → ℕ → ℕ → Session → Step → CoreState
+stepped core slot place session step =
+    noted
+    (record core {
+      cells = cells_after slot core.cells step;
+      sessions = slice_set core.sessions slot session;
+      ways = stored_at core.ways place step.stored;
+      ram = given_out core.ram step.released;
+    })
+    (entry.Step (session_of core slot).install step)
+
+-- the core after the instruction retired with this step
+abbrev pub retired : CoreState → ℕ → ℕ → Effect → Step → CoreState
+retired core slot place effect step = stepped core slot place (moved (session_of core slot) effect step) step
+
+-- a signal is delivered: its step keeps the pair and goes to the handler
+abbrev pub signal_of : Session → ℕ → Step
+signal_of s n = signal_step s.pc s.npc n
+
+abbrev pub signalled : Session → ℕ → Session
+signalled s n = record s { pc = s.handler; npc = (s.handler + 4) % 2 ^ 32; mask = mask_after s.mask (signal_of s n); saved = Some (s.pc, s.npc) }
+
+abbrev pub delivered : CoreState → ℕ → ℕ → CoreState
+delivered core slot n = stepped core slot 0 (signalled (session_of core slot) n) (signal_of (session_of core slot) n)
+
+-- the guest leaves to come back: the pair is kept, and the epoch is raised
+abbrev pub trapped : CoreState → ℕ → Cause → CoreState × Option Cause
+trapped core slot why =
+    (noted (with_session core slot (paused (session_of core slot))) (entry.Trap (session_of core slot).install why), Some why)
+
+-- the guest leaves for good
+abbrev pub finished : CoreState → ℕ → CoreState × Option Cause
+finished core slot = (gone core slot state.Ended, Some cause.Exit)
+
+-- what follows a step: its own end comes before the interrupt line
+abbrev pub after_step : CoreState → ℕ → Bool → StepEnd → CoreState × Option Cause
+after_step core slot interrupt (ended.Call code) = trapped core slot (cause.Call code)
+after_step core slot interrupt ended.Exit = finished core slot
+after_step core slot interrupt ended.Goes = if interrupt then trapped core slot cause.Interrupt else (core, None)
+
+-- an effect retires, where this word is what it loads from and the line at this place is what it stores in
+abbrev pub retires : CoreState → ℕ → Bool → Effect → ℕ → ℕ → CoreState × Option Cause
+retires core slot interrupt effect word place =
+    let step = step_made (session_of core slot).pc (session_of core slot).npc effect word (received_by core.cells core.ram effect.wish) in
+    after_step (retired core slot place effect step) slot interrupt step.end
+
+-- the address of private memory that an instruction reads or writes
+abbrev pub address_in : Wish → Option ℕ
+address_in (wish.Load reg address how old) = Some address
+address_in (wish.Store address count value) = Some address
+address_in other = None
+
+-- the word of a line that holds an address
+abbrev pub word_in : List ℕ → ℕ → ℕ
+word_in bytes address = word_at bytes ((address - address % 4) % line_size)
+
+-- the word that a load is made of, from its line; 0 where nothing is loaded
+abbrev pub word_loaded : List ℕ → Wish → ℕ
+word_loaded bytes (wish.Load reg address how old) = word_in bytes address
+word_loaded bytes other = 0
+
+-- what stands against an access: an unmapped page traps before anything changes, and a broken line has stopped the slot
+abbrev pub data_reached : ℕ → Bool → Effect → CoreState × Reach → CoreState × Option Cause
+data_reached slot interrupt effect (core, reach.PageFault page) = trapped core slot (cause.Page page)
+data_reached slot interrupt effect (core, reach.Stopped why) = (core, Some (cause.Stopped why))
+data_reached slot interrupt effect (core, reach.Ready place) =
+    retires core slot interrupt effect (word_loaded (way_at core.ways place).bytes effect.wish) place
+
+module _ (v : Versions) where
+  -- the private access of an instruction's own bytes, if it has some
+  abbrev pub data_of : CoreState → ℕ → Bool → Effect → Option ℕ → CoreState × Option Cause
+  data_of core slot interrupt effect None = retires core slot interrupt effect 0 0
+  data_of core slot interrupt effect (Some address) = data_reached slot interrupt effect (access v core slot (line_at address))
+
+  -- an own fault traps before anything changes, and an effect goes on to its access
+  abbrev pub ran : CoreState → ℕ → Bool → Result Effect OwnFault → CoreState × Option Cause
+  ran core slot interrupt (Err why) = trapped core slot (cause.Fault why)
+  ran core slot interrupt (Ok effect) = data_of core slot interrupt effect (address_in effect.wish)
+
+  -- what the word of an instruction comes to for the guest in a slot
+  abbrev pub word_tried : CoreState → ℕ → ℕ → Result Effect OwnFault
+  word_tried core slot word =
+      tried (seen_by slot core.cells) (session_of core slot).saved (known (read word)) (session_of core slot).pc (session_of core slot).npc
+
+  abbrev pub code_reached : ℕ → Bool → CoreState × Reach → CoreState × Option Cause
+  code_reached slot interrupt (core, reach.PageFault page) = trapped core slot (cause.Page page)
+  code_reached slot interrupt (core, reach.Stopped why) = (core, Some (cause.Stopped why))
+  code_reached slot interrupt (core, reach.Ready place) =
+      ran core slot interrupt (word_tried core slot (word_in (way_at core.ways place).bytes (session_of core slot).pc))
+
+  -- an event of the guest in a slot, with the interrupt line after it; the cause where the guest leaves
+  unfoldable pub guest : CoreState → ℕ → Bool → CoreState × Option Cause
+  guest core slot interrupt =
+      if is_code (session_of core slot).pc
+      then code_reached slot interrupt (access v core slot (line_at (session_of core slot).pc))
+      else trapped core slot (cause.Fault fault.Address)

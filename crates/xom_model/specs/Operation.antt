@@ -1,0 +1,270 @@
+-- The privileged operations: what each does, or the status with which it is refused.
+use Rattle.std.specs.Prelude.{ℕ, zero, suc, ◌+◌, ◌*◌, ◌%◌, ◌^◌, ◌==◌, ◌&&◌, ◌||◌, not, nat_le, nat_lt, Bool, true, false, List, [], ◌∷◌, ◌++◌, Option, Some, None, is_some, is_none, slice_set, if◌then◌else◌}
+use Rattle.std.specs.Int.{bit_at}
+use Rattle.xom_base.specs.declared.entry.Entry.TheVariants as entry
+use Rattle.xom_base.specs.declared.event.Op.{Op}
+use Rattle.xom_base.specs.declared.event.Op.TheVariants.{Install, Enter, Resume, Save, Restore, Map, Unmap, SetReg, Kill, Out, Halt}
+use Rattle.xom_base.specs.declared.event.Rule.{Rule}
+use Rattle.xom_base.specs.declared.event.Rule.TheVariants as rule
+use Rattle.xom_seal.specs.declared.envelope.Unwrapped.{Unwrapped}
+use Rattle.xom_seal.specs.Envelopes.{unwrapped}
+use Rattle.xom_seal.specs.Messages.{envelope_message}
+use Rattle.xom_seal.specs.Sealing.{unsealed_register}
+use Rattle.mips_plain.specs.Instruction.{is_signal_ready}
+use Rattle.tag_regs.specs.declared.cell.Cell.{Cell}
+use Rattle.tag_regs.specs.TaggedCells.{cell_at, with_cell}
+use Rattle.session_table.specs.declared.session.Session.{Session}
+use Rattle.session_table.specs.declared.session.SlotState.{SlotState}
+use Rattle.session_table.specs.declared.session.SlotState.TheVariants as state
+use Rattle.session_table.specs.Sessions.{entered, resumed, free, fresh}
+use Rattle.xom_versions.specs.Store.{area_size}
+use Rattle.xom_versions.specs.Versions.{Versions}
+use Rattle.line_ram.specs.Bytes.{bytes_at, frame_lines, frame_size}
+use Rattle.page_map.specs.Pages.{frame_of, with_page}
+use Rattle.xom_model.specs.State.{CoreState, session_of, with_cells, with_session, noted, hashed, holds, lines_of, pages_of, window_of}
+use Rattle.xom_model.specs.Lines.{who_of}
+use Rattle.xom_model.specs.Saves.{reg_accept_entry, reg_keys, reg_name, reg_seal_entry, saved_at, saved_size, sealed_reg, with_saved}
+use Rattle.xom_model.specs.Access.{dropped, stopped, flushed}
+use Rattle.xom_model.specs.Guest.{delivered}
+
+-- an operation that is refused changes nothing
+abbrev pub refused : CoreState → ℕ → CoreState × ℕ
+refused core status = (core, status)
+
+abbrev pub done : CoreState → CoreState × ℕ
+done core = (core, 0)
+
+-- a number names a slot
+abbrev pub is_slot : ℕ → Bool
+is_slot slot = nat_le 1 slot && nat_le slot 16
+
+-- a number names a cell
+abbrev pub is_cell : ℕ → Bool
+is_cell reg = nat_le 1 reg && nat_le reg 33
+
+-- Enter: only a fresh guest is started
+abbrev pub enter : CoreState → ℕ → SlotState → CoreState × ℕ
+enter core slot state.Free = refused core 1
+enter core slot state.Fresh = done (with_session core slot (entered (session_of core slot)))
+enter core slot state.Running = refused core 2
+enter core slot state.Paused = refused core 2
+enter core slot state.Ended = refused core 2
+enter core slot (state.Stopped rule) = refused core 2
+
+-- the guest owns the cell, and the cell hasn't its tag
+abbrev pub is_missing : ℕ → ℕ → List Cell → ℕ → Bool
+is_missing slot mask cells reg = (bit_at mask reg == 1) && not ((cell_at cells reg).tag == slot)
+
+-- the least cell from this one on, of so many, that is missing
+abbrev pub missing_from : ℕ → ℕ → List Cell → ℕ → ℕ → Option ℕ
+missing_from slot mask cells zero reg = None
+missing_from slot mask cells (suc count) reg =
+    if is_missing slot mask cells reg then Some reg else missing_from slot mask cells count (reg + 1)
+
+-- the least cell that is missing
+unfoldable pub missing : ℕ → ℕ → List Cell → Option ℕ
+missing slot mask cells = missing_from slot mask cells 33 1
+
+-- a signal, if there is one, is delivered to the guest that goes on
+abbrev pub with_signal : CoreState → ℕ → ℕ → CoreState
+with_signal core slot signal = if signal == 0 then core else delivered core slot signal
+
+-- a guest goes on only where each cell that it owns has its tag; else it is stopped for good
+abbrev pub go_on : CoreState → ℕ → ℕ → Option ℕ → CoreState × ℕ
+go_on core slot signal None = done (with_signal (with_session core slot (resumed (session_of core slot))) slot signal)
+go_on core slot signal (Some reg) = (stopped core slot (rule.RegisterMissing reg), 8)
+
+-- the slot takes the signal: there is none, or the slot is ready for one
+abbrev pub takes : Session → ℕ → Bool
+takes s signal = (signal == 0) || is_signal_ready s.handler s.saved
+
+-- Resume of a paused guest: a signal above 63 is no signal
+abbrev pub resume_paused : CoreState → ℕ → ℕ → CoreState × ℕ
+resume_paused core slot signal =
+    if nat_le signal 63
+    then (if takes (session_of core slot) signal then go_on core slot signal (missing slot (session_of core slot).mask core.cells) else refused core 2)
+    else refused core 7
+
+abbrev pub resume : CoreState → ℕ → ℕ → SlotState → CoreState × ℕ
+resume core slot signal state.Free = refused core 1
+resume core slot signal state.Fresh = refused core 2
+resume core slot signal state.Running = refused core 2
+resume core slot signal state.Paused = resume_paused core slot signal
+resume core slot signal state.Ended = refused core 2
+resume core slot signal (state.Stopped rule) = refused core 2
+
+-- SetReg: the cell is of the null compartment, whatever it was
+abbrev pub set_register : CoreState → ℕ → ℕ → CoreState × ℕ
+set_register core reg value =
+    if is_cell reg then done (with_cells core (with_cell core.cells reg value 0)) else refused core 7
+
+-- ---- Operations with a row of tests
+
+-- the first test that holds answers with its status; where none does, the deed is done
+abbrev pub tested : CoreState → List (Bool × ℕ) → CoreState × ℕ → CoreState × ℕ
+tested core [] deed = deed
+tested core (test ∷ tests) deed = if test.0 then refused core test.1 else tested core tests deed
+
+abbrev pub is_free_state : SlotState → Bool
+is_free_state state.Free = true
+is_free_state other = false
+
+-- a guest may come back: pages are mapped and unmapped while it doesn't run
+abbrev pub waits : SlotState → Bool
+waits state.Fresh = true
+waits state.Paused = true
+waits other = false
+
+-- no slot, or one that holds nothing
+abbrev pub is_bad_slot : CoreState → ℕ → Bool
+is_bad_slot core slot = not (is_slot slot) || is_free_state (session_of core slot).state
+
+abbrev pub is_paused : SlotState → Bool
+is_paused state.Paused = true
+is_paused other = false
+
+-- how many bytes an envelope has
+abbrev pub envelope_size : ℕ
+envelope_size = 88
+
+abbrev pub envelope_at : CoreState → ℕ → List ℕ
+envelope_at core place = bytes_at core.ram place envelope_size
+
+-- the session that an envelope asks for, under the next install number
+abbrev pub session_for : CoreState → Unwrapped → Session
+session_for core plain = fresh (core.installs + 1) plain.id plain.key plain.entry plain.lines
+
+-- what it says can't be: too many lines, or an entry that is no place of an instruction
+abbrev pub is_bad_image : Session → Bool
+is_bad_image s = nat_lt (lines_of s) s.lines || (not (s.entry % 4 == 0) || nat_le (window_of s) s.entry)
+
+-- the tests of each, in their order, with their statuses
+abbrev pub install_tests : CoreState → ℕ → ℕ → ℕ → List (Bool × ℕ)
+install_tests core slot place area =
+    (not (is_slot slot), 1) ∷ (not (is_free_state (session_of core slot).state), 2) ∷ (not (holds core.ram place envelope_size && holds core.ram area area_size), 4) ∷ []
+
+abbrev pub image_tests : CoreState → Unwrapped → List (Bool × ℕ)
+image_tests core plain = (is_bad_image (session_for core plain), 7) ∷ []
+
+abbrev pub map_tests : CoreState → ℕ → ℕ → ℕ → List (Bool × ℕ)
+map_tests core slot page frame =
+    (is_bad_slot core slot, 1) ∷ (not (waits (session_of core slot).state), 2) ∷ (nat_le (pages_of (session_of core slot)) page, 7)
+    ∷ (not (holds core.ram (frame * frame_size) frame_size), 4) ∷ (is_some (frame_of core.pages slot page), 5) ∷ []
+
+abbrev pub unmap_tests : CoreState → ℕ → ℕ → List (Bool × ℕ)
+unmap_tests core slot page =
+    (is_bad_slot core slot, 1) ∷ (not (waits (session_of core slot).state), 2) ∷ (nat_le (pages_of (session_of core slot)) page, 7)
+    ∷ (is_none (frame_of core.pages slot page), 5) ∷ []
+
+abbrev pub kill_tests : CoreState → ℕ → List (Bool × ℕ)
+kill_tests core slot = (is_bad_slot core slot, 1) ∷ []
+
+-- the cell is the slot's own, and its value is one of a register, as in each cell there is
+abbrev pub is_own_cell : ℕ → Cell → Bool
+is_own_cell slot cell = (cell.tag == slot) && nat_lt cell.value (2 ^ 32)
+
+-- the tests that Save and Restore have in common
+abbrev pub register_tests : CoreState → ℕ → ℕ → ℕ → List (Bool × ℕ) → List (Bool × ℕ)
+register_tests core slot reg address last =
+    (is_bad_slot core slot, 1) ∷ (not (is_paused (session_of core slot).state), 2) ∷ (not (is_cell reg), 7)
+    ∷ (not (holds core.ram address saved_size), 4) ∷ last
+
+abbrev pub save_tests : CoreState → ℕ → ℕ → ℕ → List (Bool × ℕ)
+save_tests core slot reg address = register_tests core slot reg address ((not (is_own_cell slot (cell_at core.cells reg)), 6) ∷ [])
+
+abbrev pub restore_tests : CoreState → ℕ → ℕ → ℕ → List (Bool × ℕ)
+restore_tests core slot reg address = register_tests core slot reg address ((not (bit_at (session_of core slot).mask reg == 1), 6) ∷ [])
+
+-- ---- Save and Restore
+
+-- the epoch under which a slot's registers are sealed
+abbrev pub epoch_of : CoreState → ℕ → ℕ
+epoch_of core slot = (session_of core slot).epoch
+
+-- Save: the cell's value is sealed under the epoch and written to RAM
+unfoldable pub saved : CoreState → ℕ → ℕ → ℕ → CoreState
+saved core slot reg address =
+    let value = (cell_at core.cells reg).value in
+    record (noted core (reg_seal_entry (who_of core slot) (epoch_of core slot) reg value)) {
+      ram = with_saved core.ram address (sealed_reg (who_of core slot) (epoch_of core slot) reg value);
+    }
+
+abbrev pub save_register : CoreState → ℕ → ℕ → ℕ → CoreState × ℕ
+save_register core slot reg address = tested core (save_tests core slot reg address) (done (saved core slot reg address))
+
+-- Restore: the tag that was right is recorded, and the cell gets the value and the slot's tag
+unfoldable pub restored : CoreState → ℕ → ℕ → ℕ → ℕ → CoreState
+restored core slot reg address value =
+    record (noted core (reg_accept_entry (who_of core slot) (epoch_of core slot) reg (saved_at core.ram address).ct address)) {
+      cells = with_cell core.cells reg value slot;
+    }
+
+-- a tag that differs stops the guest
+abbrev pub reopened : CoreState → ℕ → ℕ → ℕ → Option ℕ → CoreState × ℕ
+reopened core slot reg address None = (stopped core slot (rule.RegisterTag reg), 8)
+reopened core slot reg address (Some value) = done (restored core slot reg address value)
+
+abbrev pub reopen : CoreState → ℕ → ℕ → ℕ → CoreState × ℕ
+reopen core slot reg address =
+    reopened core slot reg address
+    (unsealed_register (reg_name (who_of core slot) (epoch_of core slot) reg) (reg_keys (who_of core slot) (epoch_of core slot)) (saved_at core.ram address))
+
+abbrev pub restore_register : CoreState → ℕ → ℕ → ℕ → CoreState × ℕ
+restore_register core slot reg address = tested core (restore_tests core slot reg address) (reopen core slot reg address)
+
+module _ (v : Versions) where
+  -- Install: the tag that was right is recorded, then the guest, then what its version store hashes
+  unfoldable pub installed : CoreState → ℕ → ℕ → ℕ → Unwrapped → CoreState
+  installed core slot place area plain =
+      hashed
+      (record core {
+        sessions = slice_set core.sessions slot (session_for core plain);
+        stores = slice_set core.stores slot (v.store_after_build area plain.lines core.ram);
+        ram = v.ram_after_build area plain.lines core.ram;
+        installs = core.installs + 1;
+        entries = core.entries
+            ++ entry.Accept core.machine.0 (envelope_message (envelope_at core place)) place
+            ∷ entry.Install (core.installs + 1) slot plain.id place plain.entry plain.lines ∷ [];
+      })
+      (v.texts_of_build area plain.lines core.ram)
+
+  abbrev pub unwrap : CoreState → ℕ → ℕ → ℕ → Option Unwrapped → CoreState × ℕ
+  unwrap core slot place area None = refused core 3
+  unwrap core slot place area (Some plain) = tested core (image_tests core plain) (done (installed core slot place area plain))
+
+  abbrev pub install : CoreState → ℕ → ℕ → ℕ → CoreState × ℕ
+  install core slot place area = tested core (install_tests core slot place area)
+      (unwrap core slot place area (unwrapped core.machine (envelope_at core place)))
+
+  -- Map
+  abbrev pub map_page : CoreState → ℕ → ℕ → ℕ → CoreState × ℕ
+  map_page core slot page frame = tested core (map_tests core slot page frame) (done (record core { pages = with_page core.pages slot page (Some frame) }))
+
+  -- Unmap: the page's lines leave the cache, the dirty ones sealed, before it is unmapped
+  abbrev pub unmapped : ℕ → ℕ → CoreState × Option Rule → CoreState × ℕ
+  unmapped slot page (core, None) = done (record core { pages = with_page core.pages slot page None })
+  unmapped slot page (core, Some why) = (core, 8)
+
+  abbrev pub unmap_page : CoreState → ℕ → ℕ → CoreState × ℕ
+  unmap_page core slot page = tested core (unmap_tests core slot page) (unmapped slot page (flushed v slot frame_lines (frame_lines * page) core))
+
+  -- Kill: the slot is free again, and its version store stays as it is
+  abbrev pub killed : CoreState → ℕ → CoreState
+  killed core slot = noted (with_session (dropped core slot) slot free) (entry.Kill (session_of core slot).install)
+
+  abbrev pub kill : CoreState → ℕ → CoreState × ℕ
+  kill core slot = tested core (kill_tests core slot) (done (killed core slot))
+
+  -- an operation, with its status
+  unfoldable pub operation : CoreState → Op → CoreState × ℕ
+  operation core (Enter slot) = if is_slot slot then enter core slot (session_of core slot).state else refused core 1
+  operation core (Resume slot signal) = if is_slot slot then resume core slot signal (session_of core slot).state else refused core 1
+  operation core (SetReg reg value) = set_register core reg value
+  operation core Halt = done core
+  operation core (Install slot envelope area) = install core slot envelope area
+  operation core (Save slot reg address) = save_register core slot reg address
+  operation core (Restore slot reg address) = restore_register core slot reg address
+  operation core (Map slot page frame) = map_page core slot page frame
+  operation core (Unmap slot page) = unmap_page core slot page
+  operation core (Kill slot) = kill core slot
+  operation core (Out byte) = done (noted core (entry.Out byte))
