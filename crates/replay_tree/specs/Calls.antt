@@ -1,0 +1,90 @@
+-- What a version store does whose numbers lie in hostile RAM, as a tree of hashes with its root on chip.
+use Rattle.std.specs.Prelude.{ℕ, ◌++◌, List, [], Option, Some, None, Result, Ok, Err, replicate}
+use Rattle.line_ram.specs.Bytes.{stored}
+use Rattle.xom_versions.specs.declared.store.Torn.{Torn}
+use Rattle.xom_versions.specs.Store.{Store}
+use Rattle.xom_versions.specs.Versions.{Versions, next_version, start_version}
+use Rattle.replay_tree.specs.Area.{area_bytes, texts_up_to}
+use Rattle.replay_tree.specs.Paths.{checked_texts, number_in, path_in, ram_renewed, renewed, renewed_texts, torn_at}
+use Rattle.replay_tree.specs.Tree.{digest_of, root_of}
+
+-- the level of the one block without a parent, in a tree over 32,768 lines
+abbrev pub top_level : ℕ
+top_level = 4
+
+-- a store of this area, and this root
+abbrev pub in_area : Option ℕ → List ℕ → Store
+in_area area root = record { numbers = []; area = area; root = root }
+
+-- what a check finds, if it is torn, or the answer
+abbrev pub torn_or : {A : Type 0} → Option ℕ → A → Result A Torn
+torn_or (Some level) answer = Err (record { level = level })
+torn_or None answer = Ok answer
+
+-- ---- A store with an area
+
+abbrev pub torn_in : ℕ → List ℕ → ℕ → ℕ → List ℕ → Option ℕ
+torn_in top root area line ram = torn_at (path_in top area ram line) line top root
+
+abbrev pub version_in : ℕ → ℕ → ℕ → List ℕ → ℕ
+version_in top area line ram = number_in (path_in top area ram line) line
+
+abbrev pub raised_in : ℕ → ℕ → ℕ → List ℕ → ℕ
+raised_in top area line ram = next_version (version_in top area line ram)
+
+abbrev pub version_texts : ℕ → List ℕ → ℕ → ℕ → List ℕ → List (List ℕ)
+version_texts top root area line ram = checked_texts (path_in top area ram line) line top root
+
+-- what a raise hashes beside what it checks, if the check isn't torn
+abbrev pub new_texts : ℕ → Option ℕ → ℕ → ℕ → List ℕ → List (List ℕ)
+new_texts top (Some level) area line ram = []
+new_texts top None area line ram = renewed_texts (path_in top area ram line) line (raised_in top area line ram) top
+
+abbrev pub new_root : ℕ → Option ℕ → List ℕ → ℕ → ℕ → List ℕ → List ℕ
+new_root top (Some level) root area line ram = root
+new_root top None root area line ram = digest_of top (renewed (path_in top area ram line) line (raised_in top area line ram) top)
+
+abbrev pub new_ram : ℕ → Option ℕ → ℕ → ℕ → List ℕ → List ℕ
+new_ram top (Some level) area line ram = ram
+new_ram top None area line ram = ram_renewed top area (path_in top area ram line) line (raised_in top area line ram) top ram
+
+-- ---- Any store: one without an area is torn at the top, with nothing hashed
+
+abbrev pub answer_of : ℕ → (ℕ → ℕ → List ℕ → ℕ) → Option ℕ → List ℕ → ℕ → List ℕ → Result ℕ Torn
+answer_of top number None root line ram = Err (record { level = top })
+answer_of top number (Some area) root line ram = torn_or (torn_in top root area line ram) (number area line ram)
+
+abbrev pub texts_of_check : ℕ → Option ℕ → List ℕ → ℕ → List ℕ → List (List ℕ)
+texts_of_check top None root line ram = []
+texts_of_check top (Some area) root line ram = version_texts top root area line ram
+
+abbrev pub texts_of_raise_in : ℕ → Option ℕ → List ℕ → ℕ → List ℕ → List (List ℕ)
+texts_of_raise_in top None root line ram = []
+texts_of_raise_in top (Some area) root line ram = version_texts top root area line ram ++ new_texts top (torn_in top root area line ram) area line ram
+
+abbrev pub root_after_raise : ℕ → Option ℕ → List ℕ → ℕ → List ℕ → List ℕ
+root_after_raise top None root line ram = root
+root_after_raise top (Some area) root line ram = new_root top (torn_in top root area line ram) root area line ram
+
+abbrev pub ram_after_raise_in : ℕ → Option ℕ → List ℕ → ℕ → List ℕ → List ℕ
+ram_after_raise_in top None root line ram = ram
+ram_after_raise_in top (Some area) root line ram = new_ram top (torn_in top root area line ram) area line ram
+
+-- the calls of a tree whose one block without a parent is at this level
+abbrev pub tree_of : ℕ → Versions
+tree_of top = record {
+  blank_store = in_area None (replicate 32 0);
+  store_after_build = λ area lines ram. in_area (Some area) (root_of top (start_version lines));
+  ram_after_build = λ area lines ram. stored ram area (area_bytes top (start_version lines));
+  texts_of_build = λ area lines ram. texts_up_to top (start_version lines) top;
+  answer_of_version = λ store line ram. answer_of top (version_in top) store.area store.root line ram;
+  texts_of_version = λ store line ram. texts_of_check top store.area store.root line ram;
+  answer_of_raise = λ store line ram. answer_of top (raised_in top) store.area store.root line ram;
+  store_after_raise = λ store line ram. record store { root = root_after_raise top store.area store.root line ram };
+  ram_after_raise = λ store line ram. ram_after_raise_in top store.area store.root line ram;
+  texts_of_raise = λ store line ram. texts_of_raise_in top store.area store.root line ram;
+}
+
+-- the calls of the tree over a guest's 32,768 lines
+abbrev pub tree : Versions
+tree = tree_of top_level

@@ -1,0 +1,13 @@
+pub mod Tree
+pub mod Area
+pub mod Paths
+pub mod Calls
+pub mod Build
+pub mod TreeLaw
+pub mod PartLaws
+pub mod NodeLaws
+pub mod CheckLaws
+pub mod RaiseLaws
+pub mod BuildLaws
+pub mod PlaceLaws
+pub mod CallLaws

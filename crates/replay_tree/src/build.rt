@@ -1,0 +1,87 @@
+ghost use Rattle.std.specs.Prelude.{◌≡◌, ◌≤◌, ◌<◌, ◌+◌, ◌*◌, ◌++◌, length, map};
+ghost use Rattle.line_ram.specs.Bytes.{HoldsRange, stored};
+ghost use Rattle.xom_versions.specs.Store.{area_size, build_room, hash_entry, line_limit};
+ghost use Rattle.xom_versions.specs.Versions.{start_version};
+ghost use Rattle.replay_tree.specs.Tree.{joined, root_of};
+ghost use Rattle.replay_tree.specs.Area.{area_bytes, block_size as size_of_block, level_bytes, level_offset as offset_of_level, texts_below, texts_up_to, width as width_of};
+ghost use Rattle.replay_tree.specs.Build.{digests_in, room_below, texts_in, versions_to};
+ghost use Rattle.replay_tree.specs.Calls.{top_level};
+
+use crate::hashing::hash_block;
+use crate::place::{TOP, digest_at, width};
+use line_ram::LineRam;
+use xom_journal::Journal;
+
+/// Builds the tree of a new guest, whose image has so many lines, in an area: its root. Each block is
+/// written and hashed once.
+#[tactic(auto, using(crate::proofs::Built::built_root, crate::proofs::Built::built_texts, crate::proofs::Built::room_of_all))]
+pub fn build_in(area: u32, lines: u32, ram: &mut LineRam, journal: &mut Journal) -> [u8; 32]
+    requires area { HoldsRange ram.old area area_size }
+    requires lines { lines ≤ line_limit }
+    requires room { build_room ≤ journal.old.spare }
+    ensures root { result ≡ root_of top_level (start_version lines) }
+    ensures ram { ram.new ≡ stored ram.old area (area_bytes top_level (start_version lines)) }
+    ensures entries { journal.new.entries ≡ journal.old.entries ++ map hash_entry (texts_up_to top_level (start_version lines) top_level) }
+    ensures spare { journal.old.spare ≤ journal.new.spare + build_room }
+{
+    fill_up_to(TOP, area, lines, ram, journal);
+    hash_block(TOP, area, 0, ram, journal)
+}
+
+/// Writes the blocks of the levels up to this one, and hashes those below it.
+#[tactic(auto, unfolding(crate::specs::Build::room_below), using(crate::proofs::Built::leaves_written, crate::proofs::Built::filled_more, crate::proofs::Built::texts_more, crate::proofs::Built::room_above))]
+fn fill_up_to(level: u8, area: u32, lines: u32, ram: &mut LineRam, journal: &mut Journal)
+    requires level { level ≤ top_level }
+    requires area { HoldsRange ram.old area area_size }
+    requires lines { lines ≤ line_limit }
+    requires room { room_below level ≤ journal.old.spare }
+    ensures ram { ram.new ≡ stored ram.old area (joined (level_bytes top_level (start_version lines)) (level + 1)) }
+    ensures size { length ram.new ≡ length ram.old }
+    ensures entries { journal.new.entries ≡ journal.old.entries ++ map hash_entry (texts_below top_level (start_version lines) level) }
+    ensures spare { journal.old.spare ≤ journal.new.spare + room_below level }
+{
+    if level == 0 {
+        write_versions(area, lines, ram);
+    } else {
+        fill_up_to(level - 1, area, lines, ram, journal);
+        hash_level(level - 1, area, ram, journal);
+    }
+}
+
+/// Hashes each block of a level below the top, and puts the digests where the next level begins.
+#[tactic(auto, using(crate::proofs::Built::room_left))]
+fn hash_level(level: u8, area: u32, ram: &mut LineRam, journal: &mut Journal)
+    requires level { level < top_level }
+    requires area { HoldsRange ram.old area area_size }
+    requires room { (81 + size_of_block level) * width_of top_level level ≤ journal.old.spare }
+    ensures ram { ram.new ≡ stored ram.old (area + offset_of_level top_level (level + 1)) (digests_in area ram.old level (width_of top_level level)) }
+    ensures size { length ram.new ≡ length ram.old }
+    ensures entries { journal.new.entries ≡ journal.old.entries ++ map hash_entry (texts_in area ram.old level (width_of top_level level)) }
+    ensures spare { journal.old.spare ≤ journal.new.spare + (81 + size_of_block level) * width_of top_level level }
+{
+    let _size = ram.size();
+    for index in 0..width(level) {
+        let digest = hash_block(level, area, index, ram, journal);
+        ram.write(digest_at(level, area, index), &digest);
+    }
+}
+
+/// Writes the start versions: 1 for the image's lines, 0 for all others.
+#[tactic(auto, using(crate::proofs::Built::versions_none, crate::proofs::Built::versions_more))]
+fn write_versions(area: u32, lines: u32, ram: &mut LineRam)
+    requires area { HoldsRange ram.old area area_size }
+    ensures ram { ram.new ≡ stored ram.old area (versions_to lines line_limit) }
+    ensures size { length ram.new ≡ length ram.old }
+{
+    let _size = ram.size();
+    for line in 0..32_768u32 {
+        ram.write(area + 8 * line, &first_version(lines, line).to_be_bytes());
+    }
+}
+
+/// The version that a line begins with.
+fn first_version(lines: u32, line: u32) -> u64
+    ensures { result ≡ start_version lines line }
+{
+    if line < lines { 1 } else { 0 }
+}

@@ -1,0 +1,67 @@
+ghost use Rattle.replay_tree.specs.Tree.{TreeStands};
+ghost use Rattle.replay_tree.specs.Calls.{top_level, tree};
+ghost use Rattle.replay_tree.specs.TreeLaw.{tree_law};
+
+use crate::answers::{raise_in, version_in};
+use crate::build::build_in;
+use crate::place::TOP;
+use line_ram::LineRam;
+use std::alloc::Global;
+use std::marker::Model;
+use xom_base::NoMemory;
+use xom_journal::Journal;
+use xom_versions::{Torn, VersionStore};
+
+/// Versions in an area of hostile RAM, below a root on chip. A call hashes the five blocks on the line's
+/// path, and `raise` hashes as many new ones. `build` hashes each block of the tree once. No call takes
+/// memory. A store that wasn't built yet is torn.
+#[derive(Drop)]
+pub struct TreeVersions {
+    area: Option<u32>,
+    root: [u8; 32],
+}
+
+impl Model for TreeVersions {
+    ghost use Rattle.xom_versions.specs.Store.{Store};
+    ghost use Rattle.replay_tree.specs.Calls.{in_area};
+
+    ghost Value = { Store };
+
+    ghost view = { λ store. in_area store.area store.root };
+}
+
+impl VersionStore for TreeVersions {
+    ghost as_store = { λ store. store };
+
+    ghost versions = { tree };
+
+    ghost Stands = { TreeStands top_level };
+
+    fn blank(alloc: Global) -> Result<TreeVersions, NoMemory> {
+        Ok(TreeVersions {
+            area: None,
+            root: [0; 32],
+        })
+    }
+
+    fn build(&mut self, area: u32, lines: u32, ram: &mut LineRam, journal: &mut Journal) {
+        self.area = Some(area);
+        self.root = build_in(area, lines, ram, journal);
+    }
+
+    fn version(&self, line: u32, ram: &LineRam, journal: &mut Journal) -> Result<u64, Torn> {
+        match self.area {
+            Some(area) => version_in(area, &self.root, line, ram, journal),
+            None => Err(Torn { level: TOP }),
+        }
+    }
+
+    fn raise(&mut self, line: u32, ram: &mut LineRam, journal: &mut Journal) -> Result<u64, Torn> {
+        match self.area {
+            Some(area) => raise_in(area, &mut self.root, line, ram, journal),
+            None => Err(Torn { level: TOP }),
+        }
+    }
+
+    ghost law = { tree_law };
+}
