@@ -12,14 +12,19 @@ pub struct SlotKeys {
     image: LineSealer,
     run: LineSealer,
     registers: RegisterSealer,
+    run_tag: Key256,
 }
 
 impl Model for SlotKeys {
+    ghost use Rattle.std.specs.Prelude.{◌≡◌};
     ghost use Rattle.slot_keys.specs.GuestKeys.{GuestKeys};
 
     ghost Value = { GuestKeys };
 
     ghost view = { λ s. record { image = s.image; run = s.run; registers = s.registers } };
+
+    // The tag key of the install's lines stands beside the sealer, which doesn't give it back.
+    ghost invariant = { λ s. s.run_tag ≡ s.run.tag };
 }
 
 impl SlotKeys {
@@ -28,10 +33,12 @@ impl SlotKeys {
     pub fn new(key: &Key256, id: &ImageId, boot: u64, install: u64) -> SlotKeys
         ensures { result ≡ keys_of_install key.now id.now boot install 0 }
     {
+        let run = run_keys(key, boot, install);
         SlotKeys {
             image: LineSealer::new(&image_keys(key, id)),
-            run: LineSealer::new(&run_keys(key, boot, install)),
+            run: LineSealer::new(&run),
             registers: RegisterSealer::new(&register_keys(key, boot, install, 0)),
+            run_tag: run.tag,
         }
     }
 
@@ -61,6 +68,13 @@ impl SlotKeys {
         ensures { result.now ≡ self.now.run }
     {
         &self.run
+    }
+
+    /// The tag key of the lines that the machine writes back, as the journal names it.
+    pub fn run_tag(&self) -> &Key256
+        ensures { result.now ≡ self.now.run.tag }
+    {
+        &self.run_tag
     }
 
     /// The keys of saved registers under the current epoch.

@@ -1,0 +1,62 @@
+-- The core in code as the record that the model speaks of, and what its type keeps.
+use Rattle.std.specs.Prelude.{◌≡◌, ◌≢◌, ℕ, true, false, List, Option, Some, None, Result, Ok, Err, replicate, slice_index_or}
+use Rattle.xom_base.specs.declared.event.Rule.{Rule}
+use Rattle.line_cache.specs.declared.way.Way.{Way}
+use Rattle.line_cache.specs.Ways.{way_at}
+use Rattle.page_map.specs.Pages.{Pages, frame_of}
+use Rattle.session_table.specs.declared.session.Session.{Session}
+use Rattle.session_table.specs.Sessions.{is_live, session_at}
+use Rattle.slot_keys.specs.GuestKeys.{GuestKeys, keys_at}
+use Rattle.xom_seal.specs.Keys.{image_keys, run_keys}
+use Rattle.xom_versions.specs.Store.{HoldsArea, Store}
+use Rattle.xom_versions.specs.Versions.{Versions}
+use Rattle.xom_model.specs.Holds.{FramesFit}
+use Rattle.xom_model.specs.State.{CoreState, no_store, page_of}
+
+-- the core's record, and the bytes that the journal has to spare
+pub record Whole : Type 0 where
+  pub core : CoreState
+  pub spare : ℕ
+
+-- a blank store in each place
+abbrev pub blank_stores : Versions → List Store
+blank_stores v = replicate 17 v.blank_store
+
+abbrev pub store_at : List Store → ℕ → Store
+store_at stores slot = slice_index_or stores slot no_store
+
+-- the rule that an answer tells, if it tells one
+abbrev pub rule_in : Result Unit Rule → Option Rule
+rule_in (Ok done) = None
+rule_in (Err why) = Some why
+
+-- ---- What the type keeps
+
+abbrev pub IsLiveIn : List Session → ℕ → Type 0
+IsLiveIn sessions slot = is_live (session_at sessions slot).state ≡ true
+
+-- the page has a frame
+abbrev pub IsMapped : Pages → ℕ → ℕ → Type 0
+IsMapped pages slot page = (frame : ℕ) × (frame_of pages slot page ≡ Some frame)
+
+-- nothing is to be written back from a free way
+abbrev pub FreeAreClean : List Way → Type 0
+FreeAreClean ways = (place : ℕ) → (way_at ways place).slot ≡ 0 → (way_at ways place).dirty ≡ false
+
+-- the keys that are made ready for a slot are those of its guest's lines
+pub record Serves (keys : GuestKeys) (boot : ℕ) (s : Session) : Type 0 where
+  pub image : keys.image ≡ image_keys s.key s.id
+  pub run : keys.run ≡ run_keys s.key boot s.install
+
+pub record Fits (sessions : List Session) (pages : Pages) (ways : List Way) (ram : List ℕ) (stores : List Store) (keys : List GuestKeys) (boot : ℕ) : Type 0 where
+  -- each mapped frame lies in RAM
+  pub frames : FramesFit pages ram
+  -- a page is mapped only where its slot is live
+  pub owned : (slot page frame : ℕ) → frame_of pages slot page ≡ Some frame → IsLiveIn sessions slot
+  -- the page of each cached line is mapped
+  pub mapped : (place : ℕ) → (way_at ways place).slot ≢ 0 → IsMapped pages (way_at ways place).slot (page_of (way_at ways place).line)
+  pub clean : FreeAreClean ways
+  -- RAM holds the area of each live slot's store
+  pub areas : (slot : ℕ) → IsLiveIn sessions slot → HoldsArea ram (store_at stores slot)
+  -- the keys of each live slot's guest are ready
+  pub ready : (slot : ℕ) → IsLiveIn sessions slot → Serves (keys_at keys slot) boot (session_at sessions slot)
