@@ -1,0 +1,215 @@
+-- An event of a guest shows what it changed by its entries and its outcome.
+use Rattle.std.proofs.Common.{◌≡◌, ℕ, ◌+◌, ◌/◌, ◌<◌, ◌==◌, Bool, false, List, [], ◌∷◌, ◌++◌, length, map, refl, sym, ◌∙◌, ap, subst, slice_set, Option, Some, None, Result, Ok, Err}
+use Rattle.std.proofs.lemmas.List.{map-set, get_or-set_same, length-set, append_assoc, append-nil}
+use Rattle.std.proofs.lemmas.List.Elements.{filter_map-append}
+use Rattle.std.proofs.lemmas.Bool.{cond_both}
+use Rattle.xom_base.specs.declared.entry.Entry.{Entry}
+use Rattle.xom_base.specs.declared.entry.Entry.TheVariants as entry
+use Rattle.xom_base.specs.declared.event.Cause.{Cause}
+use Rattle.xom_base.specs.declared.event.Cause.TheVariants as cause
+use Rattle.xom_base.specs.declared.event.OwnFault.{OwnFault}
+use Rattle.xom_base.specs.declared.event.OwnFault.TheVariants as own_fault
+use Rattle.xom_base.specs.declared.event.Rule.{Rule}
+use Rattle.xom_base.specs.declared.step.Step.{Step}
+use Rattle.xom_base.specs.declared.step.StepEnd.{StepEnd}
+use Rattle.xom_base.specs.declared.step.StepEnd.TheVariants as ended
+use Rattle.mips_effect.specs.declared.effects.Effect.{Effect}
+use Rattle.mips_plain.specs.Instruction.{is_code, step_made}
+use Rattle.line_cache.specs.Ways.{way_at}
+use Rattle.session_table.specs.declared.session.Session.{Session}
+use Rattle.session_table.specs.declared.session.SlotState.TheVariants as state
+use Rattle.session_table.specs.declared.session.SlotView.{SlotView}
+use Rattle.session_table.specs.Sessions.{free, is_live, left, paused}
+use Rattle.xom_versions.specs.Versions.{Versions}
+use Rattle.xom_model.specs.declared.outcome.Outcome.{Outcome}
+use Rattle.xom_model.specs.declared.outcome.Outcome.TheVariants as outcome
+use Rattle.xom_model.specs.declared.reach.Reach.{Reach}
+use Rattle.xom_model.specs.declared.reach.Reach.TheVariants as reach
+use Rattle.xom_model.specs.State.{CoreState, session_of}
+use Rattle.xom_model.specs.Access.{access, dropped}
+use Rattle.xom_model.specs.Guest.{address_in, after_step, code_reached, data_of, data_reached, finished, guest, mask_after, moved, ran, received_by, retired, retires, trapped, word_in, word_loaded, word_tried}
+use Rattle.xom_model.specs.Holds.{IsLive}
+use Rattle.xom_model.specs.Seen.{shown_cell, shown_slot}
+use Rattle.xom_seen.specs.Emission.{NoImageSeal, Signal, is_ready, signal_of}
+use Rattle.xom_seen.specs.SeenNext.{Raised, Sight, after_signals, left_seen, slot_at, with_slot}
+use Rattle.xom_seen.specs.NoWayOut.{RaisesInTheOpen}
+use Rattle.xom_seen.proofs.Sights.{after_signals-append, areas-session, areas_of, live_within, sight_of, slot_at-is}
+use Rattle.xom_seen.proofs.Shows.{Knows, Reaches, Shows, Tells, dropped-is, no_image-both, reaches_access, shown_by, shows_same, tells_stepped, told}
+
+-- how a guest event comes out
+abbrev pub outcome_by : Option Cause → Outcome
+outcome_by None = outcome.Went
+outcome_by (Some why) = outcome.Left why
+
+module _ (v : Versions) (raised : Raised) (law : RaisesInTheOpen v raised) (slot_of : ℕ → ℕ) (ready : Bool) (slot : ℕ) (some : (slot == 0) ≡ false) (low : slot < 17) where
+  abbrev Knew : CoreState → Type 0
+  Knew core = Knows v raised law slot_of ready slot 0 core
+
+  abbrev Shown : CoreState → CoreState → Type 0
+  Shown base new = Shows v raised law slot_of ready slot 0 base new
+
+  abbrev signals : List Entry → List Signal
+  signals entries = told v raised law slot_of ready slot 0 entries
+
+  abbrev by_entries : Sight → List Entry → Sight
+  by_entries s entries = shown_by v raised law slot_of ready slot 0 s entries
+
+  -- how a guest leaves, or goes on: no further signal
+  pub record Closes (core new : CoreState) (why : Option Cause) : Type 0 where
+    pub added : List Entry
+    pub entries : new.entries ≡ core.entries ++ added
+    pub quiet : signals added ≡ []
+    pub sight : sight_of new ≡ left_seen (sight_of core) slot (outcome_by why)
+
+  -- the new core looks as the entries and the outcome tell
+  pub record Ends (base new : CoreState) (why : Option Cause) : Type 0 where
+    pub added : List Entry
+    pub entries : new.entries ≡ base.entries ++ added
+    pub sight : Knew base → NoImageSeal added → sight_of new ≡ left_seen (by_entries (sight_of base) added) slot (outcome_by why)
+
+  ends_close : (base mid new : CoreState) (why : Option Cause) → Tells v raised law slot_of ready slot 0 base mid → Closes mid new why → Ends base new why
+  ends_close base mid new why first last =
+      let one = first.added in
+      let two = last.added in
+      let same : signals (one ++ two) ≡ signals one = filter_map-append (signal_of slot_of ready) one two ∙ ap (λ more. signals one ++ more) last.quiet ∙ append-nil (signals one) in
+      record {
+        added = one ++ two;
+        entries = last.entries ∙ ap (λ es. es ++ two) first.entries ∙ append_assoc base.entries one two;
+        sight = λ knows none.
+            last.sight ∙ ap (λ s. left_seen s slot (outcome_by why))
+            (first.sight knows (no_image-both one two none).0 ∙ ap (after_signals v raised slot 0 (sight_of base)) (sym same));
+      }
+
+  ends_then : (base mid new : CoreState) (why : Option Cause) → Shown base mid → Ends mid new why → Ends base new why
+  ends_then base mid new why first second =
+      let one = first.tells.added in
+      let two = second.added in
+      record {
+        added = one ++ two;
+        entries = second.entries ∙ ap (λ es. es ++ two) first.tells.entries ∙ append_assoc base.entries one two;
+        sight = λ knows none.
+            let parts = no_image-both one two none in
+            second.sight (first.knows knows) parts.1
+            ∙ ap (λ s. left_seen (by_entries s two) slot (outcome_by why)) (first.tells.sight knows parts.0)
+            ∙ ap (λ s. left_seen s slot (outcome_by why))
+            (sym (after_signals-append v raised slot 0 (sight_of base) (signals one) (signals two))
+            ∙ ap (after_signals v raised slot 0 (sight_of base)) (sym (filter_map-append (signal_of slot_of ready) one two)));
+      }
+
+  ends_only : (core new : CoreState) (why : Option Cause) → Closes core new why → Ends core new why
+  ends_only core new why closes = ends_close core core new why (shows_same v raised law slot_of ready slot 0 core).tells closes
+
+  -- it was stopped
+  ends_stopped : (base new : CoreState) (why : Rule) → Shown base new → Ends base new (Some (cause.Stopped why))
+  ends_stopped base new why shows = record { added = shows.tells.added; entries = shows.tells.entries; sight = shows.tells.sight }
+
+  -- a trap: a cause that leaves the slot paused
+  paused-is : (core : CoreState) (why : Cause) → IsLive core slot
+      → sight_of (trapped core slot why).0 ≡ with_slot (sight_of core) slot (record (slot_at (sight_of core) slot) { epoch = (slot_at (sight_of core) slot).epoch + 1; state = state.Paused })
+  unfolding sight_of
+  paused-is core why live =
+      let new = (trapped core slot why).0 in
+      let sight : List SlotView → List (Option ℕ) → Sight = λ ss areas. record { cells = map shown_cell core.cells; slots = ss; pages = core.pages; areas = areas; ram = core.ram; installs = core.installs } in
+      let slots = slice_set (map shown_slot core.sessions) slot (record (slot_at (sight_of core) slot) { epoch = (slot_at (sight_of core) slot).epoch + 1; state = state.Paused }) in
+      ap (λ ss. sight ss (areas_of new)) (map-set shown_slot core.sessions slot (paused (session_of core slot))
+      ∙ ap (λ (s : SlotView). slice_set (map shown_slot core.sessions) slot (record s { epoch = s.epoch + 1; state = state.Paused })) (sym (slot_at-is core slot)))
+      ∙ ap (λ areas. sight slots areas) (areas-session core new slot (paused (session_of core slot)) refl refl (live_within core slot live) (sym live))
+
+  closes_trapped : (core : CoreState) (why : Cause) → IsLive core slot
+      → ((s : Sight) → left_seen s slot (outcome.Left why) ≡ with_slot s slot (record (slot_at s slot) { epoch = (slot_at s slot).epoch + 1; state = state.Paused }))
+      → Closes core (trapped core slot why).0 (Some why)
+  closes_trapped core why live is = record {
+    added = entry.Trap (session_of core slot).install why ∷ [];
+    entries = refl;
+    quiet = refl;
+    sight = paused-is core why live ∙ sym (is (sight_of core));
+  }
+
+  closes_finished : (core : CoreState) → IsLive core slot → Closes core (finished core slot).0 (Some cause.Exit)
+  unfolding dropped
+  closes_finished core live = record {
+    added = [];
+    entries = sym (append-nil core.entries);
+    quiet = refl;
+    sight = dropped-is v raised law slot_of ready slot 0 core slot state.Ended (live_within core slot live) low refl;
+  }
+
+  closes_same : (core : CoreState) → Closes core core None
+  closes_same core = record { added = []; entries = sym (append-nil core.entries); quiet = refl; sight = refl }
+
+  module _ (interrupt : Bool) where
+    -- what follows a step
+    closes_after : (core : CoreState) (end : StepEnd) → IsLive core slot → Closes core (after_step core slot interrupt end).0 (after_step core slot interrupt end).1
+    closes_after core (ended.Call code) live = closes_trapped core (cause.Call code) live (λ s. refl)
+    closes_after core ended.Exit live = closes_finished core live
+    closes_after core ended.Goes live =
+        cond_both interrupt (trapped core slot cause.Interrupt) (core, None) (λ (r : CoreState × Option Cause). Closes core r.0 r.1)
+        (λ _. closes_trapped core cause.Interrupt live (λ s. refl)) (λ _. closes_same core)
+
+    -- it leaves the slot as ready as it was
+    ready_after : (core : CoreState) (end : StepEnd) → slot < length core.sessions → is_ready (session_of (after_step core slot interrupt end).0 slot) ≡ is_ready (session_of core slot)
+    unfolding dropped
+    ready_after core (ended.Call code) within = ap is_ready (get_or-set_same core.sessions slot (paused (session_of core slot)) free within)
+    ready_after core ended.Exit within = ap is_ready (get_or-set_same core.sessions slot (left (session_of core slot) state.Ended) free within)
+    ready_after core ended.Goes within =
+        cond_both interrupt (trapped core slot cause.Interrupt) (core, None) (λ (r : CoreState × Option Cause). is_ready (session_of r.0 slot) ≡ is_ready (session_of core slot))
+        (λ _. ap is_ready (get_or-set_same core.sessions slot (paused (session_of core slot)) free within)) (λ _. refl)
+
+    -- the event that came out so leaves the slot so ready
+    abbrev IsReady : CoreState × Option Cause → Type 0
+    IsReady result = ready ≡ is_ready (session_of result.0 slot)
+
+    -- what is shown of an event that came out so
+    abbrev Comes : CoreState → CoreState × Option Cause → Type 0
+    Comes base result = IsReady result → Ends base result.0 result.1
+
+    module _ (core : CoreState) (effect : Effect) (word place : ℕ) (live : IsLive core slot) where
+      abbrev made_step : Step
+      made_step = step_made (session_of core slot).pc (session_of core slot).npc effect word (received_by core.cells core.ram effect.wish)
+
+      abbrev new_session : Session
+      new_session = moved (session_of core slot) effect made_step
+
+      abbrev after : CoreState
+      after = retired core slot place effect made_step
+
+      here : session_of after slot ≡ new_session
+      here = get_or-set_same core.sessions slot new_session free (live_within core slot live)
+
+      comes_retires : Comes core (retires core slot interrupt effect word place)
+      comes_retires is =
+          let within : slot < length after.sessions = subst (λ n. slot < n) (sym (length-set core.sessions slot new_session)) (live_within core slot live) in
+          let now : ready ≡ is_ready new_session = is ∙ ready_after after made_step.end within ∙ ap is_ready here in
+          ends_close core after _ _
+          (tells_stepped v raised law slot_of ready slot 0 core place new_session made_step some live refl
+          (ap (λ b. let s : SlotView = record (shown_slot (session_of core slot)) { mask = mask_after (session_of core slot).mask made_step; signal_ready = b } in s) (sym now)))
+          (closes_after after made_step.end (ap (λ (s : Session). is_live s.state) here ∙ live))
+
+    comes_data : (core : CoreState) (effect : Effect) (result : CoreState × Reach) → Reaches v raised law slot_of ready slot 0 core result → Comes core (data_reached slot interrupt effect result)
+    comes_data core effect (new, reach.PageFault page) came is = ends_then core new _ _ came.shows (ends_only new _ _ (closes_trapped new (cause.Page page) came.live (λ s. refl)))
+    comes_data core effect (new, reach.Stopped why) came is = ends_stopped core new why came.shows
+    comes_data core effect (new, reach.Ready place) came is =
+        ends_then core new _ _ came.shows (comes_retires new effect (word_loaded (way_at new.ways place).bytes effect.wish) place came.live is)
+
+    comes_wish : (core : CoreState) (effect : Effect) (address : Option ℕ) → IsLive core slot → Comes core (data_of v core slot interrupt effect address)
+    comes_wish core effect None live = comes_retires core effect 0 0 live
+    comes_wish core effect (Some address) live = comes_data core effect (access v core slot (address / 32)) (reaches_access v raised law slot_of ready slot 0 core (address / 32) live)
+
+    comes_ran : (core : CoreState) (result : Result Effect OwnFault) → IsLive core slot → Comes core (ran v core slot interrupt result)
+    comes_ran core (Err why) live is = ends_only core _ _ (closes_trapped core (cause.Fault why) live (λ s. refl))
+    comes_ran core (Ok effect) live is = comes_wish core effect (address_in effect.wish) live is
+
+    comes_code : (core : CoreState) (result : CoreState × Reach) → Reaches v raised law slot_of ready slot 0 core result → Comes core (code_reached v slot interrupt result)
+    comes_code core (new, reach.PageFault page) came is = ends_then core new _ _ came.shows (ends_only new _ _ (closes_trapped new (cause.Page page) came.live (λ s. refl)))
+    comes_code core (new, reach.Stopped why) came is = ends_stopped core new why came.shows
+    comes_code core (new, reach.Ready place) came is =
+        ends_then core new _ _ came.shows (comes_ran new (word_tried v new slot (word_in (way_at new.ways place).bytes (session_of new slot).pc)) came.live is)
+
+    -- an event of the guest in the slot
+    pub ends_guest : (core : CoreState) → IsLive core slot → Comes core (guest v core slot interrupt)
+    unfolding guest
+    ends_guest core live =
+        let pc = (session_of core slot).pc in
+        cond_both (is_code pc) (code_reached v slot interrupt (access v core slot (pc / 32))) (trapped core slot (cause.Fault own_fault.Address)) (λ (r : CoreState × Option Cause). Comes core r)
+        (λ _. comes_code core (access v core slot (pc / 32)) (reaches_access v raised law slot_of ready slot 0 core (pc / 32) live))
+        (λ _ is. ends_only core _ _ (closes_trapped core (cause.Fault own_fault.Address) live (λ s. refl)))

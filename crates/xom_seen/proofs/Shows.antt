@@ -1,0 +1,497 @@
+-- A part of an event shows what it changed by its entries alone: a relation between cores that is reflexive and transitive.
+use Rattle.std.proofs.Common.{◌≡◌, ◌≢◌, inl, inr, ℕ, zero, suc, ◌+◌, ◌<◌, ◌≤◌, ◌^◌, ◌==◌, Bool, true, false, if◌then◌else◌, List, [], ◌∷◌, ◌++◌, length, map, refl, sym, ◌∙◌, ap, subst, arith, slice_set, slice_index_or, replicate, Option, Some, None, Result, Ok, Err, ◌⊎◌}
+use Rattle.std.specs.List.{filter_map}
+use Rattle.std.proofs.lemmas.List.{map-set, get_or-set_same, get_or-set_other, get_or_past, length-set, append_assoc, append-nil}
+use Rattle.std.proofs.lemmas.List.Elements.{filter_map-append}
+use Rattle.std.proofs.lemmas.Bool.{cond_both}
+use Rattle.std.proofs.lemmas.Bool.Decides.{eqb_tells}
+use Rattle.xom_base.specs.declared.entry.Entry.{Entry}
+use Rattle.xom_base.specs.declared.entry.Entry.TheVariants as entry
+use Rattle.xom_base.specs.declared.event.Rule.{Rule}
+use Rattle.xom_base.specs.declared.event.Rule.TheVariants as rule
+use Rattle.xom_base.specs.declared.step.Step.{Step}
+use Rattle.keyed_mac.specs.Hmac.{hmac_sha256}
+use Rattle.xom_seal.specs.declared.names.LineName.TheVariants.{Image}
+use Rattle.xom_seal.specs.Messages.{line_message}
+use Rattle.xom_seal.specs.Readers.{line_in}
+use Rattle.xom_seal.specs.Keys.{image_keys, run_keys}
+use Rattle.xom_seal.specs.Sealing.{line_masked, line_tag, unsealed_line}
+use Rattle.xom_seal.specs.declared.keys.LineKeys.{LineKeys}
+use Rattle.xom_seal.specs.declared.line.SealedLine.{SealedLine}
+use Rattle.xom_seal.specs.declared.names.LineName.{LineName}
+use Rattle.xom_seal.proofs.NamingLaws.{run_fields_are_told}
+use Rattle.page_map.specs.Pages.{frame_of, without_pages}
+use Rattle.line_cache.specs.declared.way.Way.{Way}
+use Rattle.line_cache.specs.Ways.{found, free_if, free_way, new_way, place_for, pointers_after, way_at}
+use Rattle.tag_regs.specs.declared.cell.Cell.{Cell}
+use Rattle.tag_regs.specs.TaggedCells.{scrubbed}
+use Rattle.session_table.specs.declared.session.Session.{Session}
+use Rattle.session_table.specs.declared.session.SlotState.{SlotState}
+use Rattle.session_table.specs.declared.session.SlotState.TheVariants as state
+use Rattle.session_table.specs.declared.session.SlotView.{SlotView}
+use Rattle.session_table.specs.Sessions.{free, is_live, left}
+use Rattle.xom_versions.specs.declared.store.Torn.{Torn}
+use Rattle.xom_model.specs.declared.reach.Reach.{Reach}
+use Rattle.xom_model.specs.declared.reach.Reach.TheVariants as reach
+use Rattle.xom_versions.specs.Store.{hash_entry}
+use Rattle.xom_versions.specs.Versions.{Versions}
+use Rattle.xom_model.specs.State.{CoreState, hashed, noted, page_of, session_of, store_of, with_session, with_way}
+use Rattle.xom_model.specs.Lines.{Who, accept_entry, ct_place, is_image_at, keys_of, name_of, run_name, seal_entry, sealed_as, sealed_at, who_of, with_sealed}
+use Rattle.xom_model.specs.Access.{access, and_then, brought, cleared, cleared_at, dropped, flushed, gone, looked, mapped, opened, or_stopped, placed, put, raising, read_from, sealed_by_raise, sealing, stopped, taken, taken_out, with_pointers}
+use Rattle.xom_model.specs.Guest.{cells_after, given_out, mask_after, mask_released, stepped, tagged, untagged}
+use Rattle.xom_model.specs.Holds.{IsLive}
+use Rattle.xom_model.specs.Seen.{shown_cell, shown_slot}
+use Rattle.xom_model.proofs.Gone.{less, way-without}
+use Rattle.xom_model.proofs.Naming.{HasOne-before, HasOne-behind}
+use Rattle.xom_model.proofs.Walk.{raised_for, torn_off, written_back}
+use Rattle.xom_seen.specs.Emission.{Broke, LineSealed, Made, NoImageSeal, Signal, SealsImage, names_of, signal_of}
+use Rattle.xom_seen.specs.SeenNext.{Raised, Sight, after_signal, after_signals, dropped_seen, mask_named, named, slot_at}
+use Rattle.xom_seen.specs.NoWayOut.{RaisesInTheOpen}
+use Rattle.xom_seen.proofs.Sights.{after_signals-append, area-stored, area_at-is, areas-gone, areas-same, areas-session, areas_of, live_within, mask_named-is, shown_scrubbed, shown_tagged, shown_untagged, sight_of, slot_at-is}
+
+-- Seals of no image, in two parts
+pub no_image-both : (xs ys : List Entry) → NoImageSeal (xs ++ ys) → NoImageSeal xs × NoImageSeal ys
+no_image-both xs ys none = (λ has. none (HasOne-before SealsImage xs ys has), λ has. none (HasOne-behind SealsImage xs ys has))
+
+module _ (v : Versions) (raised : Raised) (law : RaisesInTheOpen v raised) (slot_of : ℕ → ℕ) (ready : Bool) (slot address : ℕ) where
+  -- what entries show
+  abbrev pub told : List Entry → List Signal
+  told entries = filter_map (signal_of slot_of ready) entries
+
+  -- what is seen after these entries
+  abbrev pub shown_by : Sight → List Entry → Sight
+  shown_by s entries = after_signals v raised slot address s (told entries)
+
+  -- a live slot's install tells it, and what has still to be sealed is of a live slot
+  pub record Knows (core : CoreState) : Type 0 where
+    pub found : (k : ℕ) → IsLive core k → slot_of (session_of core k).install ≡ k
+    pub low : (k : ℕ) → (session_of core k).install < 2 ^ 64
+    pub dirty : (place : ℕ) → (way_at core.ways place).dirty ≡ true → IsLive core (way_at core.ways place).slot × ((way_at core.ways place).line < 2 ^ 32)
+    pub places : length core.sessions ≡ 17
+
+  -- the new core looks as the entries that were added tell
+  pub record Tells (base new : CoreState) : Type 0 where
+    pub added : List Entry
+    pub entries : new.entries ≡ base.entries ++ added
+    pub sight : Knows base → NoImageSeal added → sight_of new ≡ shown_by (sight_of base) added
+
+  -- and a further part may follow
+  pub record Shows (base new : CoreState) : Type 0 where
+    pub tells : Tells base new
+    pub knows : Knows base → Knows new
+
+  pub tells_then : (base mid new : CoreState) → Shows base mid → Tells mid new → Tells base new
+  tells_then base mid new first second =
+      let one = first.tells.added in
+      let two = second.added in
+      record {
+        added = one ++ two;
+        entries = second.entries ∙ ap (λ es. es ++ two) first.tells.entries ∙ append_assoc base.entries one two;
+        sight = λ knows none.
+            let parts = no_image-both one two none in
+            second.sight (first.knows knows) parts.1
+            ∙ ap (λ s. shown_by s two) (first.tells.sight knows parts.0)
+            ∙ sym (after_signals-append v raised slot address (sight_of base) (told one) (told two))
+            ∙ ap (after_signals v raised slot address (sight_of base)) (sym (filter_map-append (signal_of slot_of ready) one two));
+      }
+
+  pub shows_then : (base mid new : CoreState) → Shows base mid → Shows mid new → Shows base new
+  shows_then base mid new first second = record { tells = tells_then base mid new first second.tells; knows = λ knows. second.knows (first.knows knows) }
+
+  -- nothing was done
+  pub shows_same : (core : CoreState) → Shows core core
+  shows_same core = record { tells = record { added = []; entries = sym (append-nil core.entries); sight = λ knows none. refl }; knows = λ knows. knows }
+
+  -- ---- Entries that show nothing
+
+  pub told-hashes : (texts : List (List ℕ)) → told (map hash_entry texts) ≡ []
+  told-hashes [] = refl
+  told-hashes (text ∷ texts) = told-hashes texts
+
+  -- nothing that is seen was changed
+  pub shows_quiet : (base new : CoreState) (added : List Entry) → new.entries ≡ base.entries ++ added → told added ≡ [] → sight_of new ≡ sight_of base → (Knows base → Knows new) → Shows base new
+  shows_quiet base new added entries quiet sight knows = record {
+    tells = record { added = added; entries = entries; sight = λ _ _. sight ∙ ap (after_signals v raised slot address (sight_of base)) (sym quiet) };
+    knows = knows;
+  }
+
+  knows_as : (core new : CoreState) → new.sessions ≡ core.sessions → new.ways ≡ core.ways → Knows core → Knows new
+  knows_as core new sessions ways knows = record {
+    found = subst (λ list. (k : ℕ) → is_live (slice_index_or list k free).state ≡ true → slot_of (slice_index_or list k free).install ≡ k) (sym sessions) knows.found;
+    low = subst (λ list. (k : ℕ) → (slice_index_or list k free).install < 2 ^ 64) (sym sessions) knows.low;
+    dirty = subst (λ list. (place : ℕ) → (way_at new.ways place).dirty ≡ true → (is_live (slice_index_or list (way_at new.ways place).slot free).state ≡ true) × ((way_at new.ways place).line < 2 ^ 32)) (sym sessions)
+        (subst (λ ways. (place : ℕ) → (way_at ways place).dirty ≡ true → IsLive core (way_at ways place).slot × ((way_at ways place).line < 2 ^ 32)) (sym ways) knows.dirty);
+    places = ap (λ list. length list) sessions ∙ knows.places;
+  }
+
+  pub shows_hashed : (core : CoreState) (texts : List (List ℕ)) → Shows core (hashed core texts)
+  unfolding sight_of
+  shows_hashed core texts = shows_quiet core (hashed core texts) (map hash_entry texts) refl (told-hashes texts) refl (knows_as core (hashed core texts) refl refl)
+
+  pub shows_accepted : (core : CoreState) (key message : List ℕ) (place : ℕ) → Shows core (noted core (entry.Accept key message place))
+  unfolding sight_of
+  shows_accepted core key message place =
+      let new = noted core (entry.Accept key message place) in
+      shows_quiet core new (entry.Accept key message place ∷ []) refl refl refl (knows_as core new refl refl)
+
+  -- the pointers of the cache aren't seen
+  pub shows_pointed : (core : CoreState) (pointers : List ℕ) → Shows core (record core { pointers = pointers })
+  unfolding sight_of
+  shows_pointed core pointers =
+      let new = record core { pointers = pointers } in
+      shows_quiet core new [] (sym (append-nil core.entries)) refl refl (knows_as core new refl refl)
+
+  -- nor are its lines, where no line becomes dirty
+  pub shows_put : (core : CoreState) (place : ℕ) (way : Way) → way.dirty ≡ false → Shows core (record core { ways = slice_set core.ways place way })
+  unfolding sight_of
+  shows_put core place way clean =
+      let new = record core { ways = slice_set core.ways place way } in
+      shows_quiet core new [] (sym (append-nil core.entries)) refl refl (λ knows. record {
+        found = knows.found;
+        low = knows.low;
+        dirty = λ at dirty. elim (eqb_tells at place) [
+          | inl is ↦ absurd (let none = clean-there at is.1 dirty in cc)
+          | inr other ↦
+              let same : way_at new.ways at ≡ way_at core.ways at = get_or-set_other core.ways place at way _ other.1 in
+              subst (λ w. IsLive core w.slot × (w.line < 2 ^ 32)) (sym same) (knows.dirty at (sym (ap (λ w. w.dirty) same) ∙ dirty))
+        ];
+        places = knows.places;
+      })
+    where
+      clean-there : (at : ℕ) → at ≡ place → (way_at (slice_set core.ways place way) at).dirty ≡ true → true ≡ false
+      clean-there at is dirty = each (less at (length core.ways))
+        where
+          each : (at < length core.ways) ⊎ (length core.ways ≤ at) → true ≡ false
+          each (inl within) =
+              sym dirty ∙ ap (λ j. (way_at (slice_set core.ways place way) j).dirty) is
+              ∙ ap (λ w. w.dirty) (get_or-set_same core.ways place way free_way (subst (λ j. j < length core.ways) is within)) ∙ clean
+          each (inr past) = sym dirty ∙ ap (λ w. w.dirty) (get_or_past (slice_set core.ways place way) at free_way (let sized = length-set core.ways place way in omega arith))
+
+  -- ---- A slot leaves for good
+
+  -- how that looks
+  pub removed-is : (core : CoreState) (k : ℕ) (session : Session) → k < length core.sessions → k < 17 → is_live session.state ≡ false
+      → sight_of (with_session (dropped core k) k session) ≡ dropped_seen (sight_of core) k (shown_slot session)
+  unfolding sight_of dropped
+  removed-is core k session within low dead =
+      let new = with_session (dropped core k) k session in
+      let sight : List Cell → List SlotView → List (Option ℕ) → Sight = λ cs ss areas. record { cells = cs; slots = ss; pages = without_pages core.pages k; areas = areas; ram = core.ram; installs = core.installs } in
+      ap (λ cs. sight cs (map shown_slot (slice_set core.sessions k session)) (areas_of new)) (shown_scrubbed k core.cells)
+      ∙ ap (λ ss. sight (scrubbed k (map shown_cell core.cells)) ss (areas_of new)) (map-set shown_slot core.sessions k session)
+      ∙ ap (λ areas. sight (scrubbed k (map shown_cell core.cells)) (slice_set (map shown_slot core.sessions) k (shown_slot session)) areas)
+      (areas-gone core new k session refl refl within low dead)
+
+  pub dropped-is : (core : CoreState) (k : ℕ) (final : SlotState) → k < length core.sessions → k < 17 → is_live final ≡ false
+      → sight_of (gone core k final) ≡ dropped_seen (sight_of core) k (record (slot_at (sight_of core) k) { state = final })
+  dropped-is core k final within low dead =
+      removed-is core k (left (session_of core k) final) within low dead
+      ∙ ap (λ (s : SlotView). dropped_seen (sight_of core) k (record s { state = final })) (sym (slot_at-is core k))
+
+  stopped-is : (core : CoreState) (k : ℕ) (why : Rule) → k < length core.sessions → k < 17
+      → sight_of (stopped core k why) ≡ dropped_seen (sight_of core) k (record (slot_at (sight_of core) k) { state = state.Stopped why })
+  unfolding sight_of dropped
+  stopped-is core k why within low = dropped-is core k (state.Stopped why) within low refl
+
+  -- what is known stays so, of the slots that are left
+  knows_stopped : (core : CoreState) (k : ℕ) (why : Rule) → k < length core.sessions → Knows core → Knows (stopped core k why)
+  unfolding dropped
+  knows_stopped core k why within knows = record {
+    found = λ other live. elim (eqb_tells other k) [
+      | inl is ↦ absurd (let dead : is_live (session_of new k).state ≡ false = ap (λ (s : Session). is_live s.state) here in let alive = subst (λ j. is_live (session_of new j).state ≡ true) is.1 live in cc)
+      | inr differs ↦ let same = there other differs.1 in ap (λ (s : Session). slot_of s.install) same ∙ knows.found other (sym (ap (λ (s : Session). is_live s.state) same) ∙ live)
+    ];
+    low = λ other. elim (eqb_tells other k) [
+      | inl is ↦ subst (λ j. (session_of new j).install < 2 ^ 64) (sym is.1) (subst (λ n. n < 2 ^ 64) (sym (ap (λ (s : Session). s.install) here)) (knows.low k))
+      | inr differs ↦ subst (λ n. n < 2 ^ 64) (sym (ap (λ (s : Session). s.install) (there other differs.1))) (knows.low other)
+    ];
+    dirty = λ place dirty.
+        let is : way_at new.ways place ≡ free_if k (way_at core.ways place) = way-without k core.ways place in
+        let its = stays (way_at core.ways place) (sym (ap (λ w. w.dirty) is) ∙ dirty) in
+        let was = knows.dirty place (sym (ap (λ w. w.dirty) its.0) ∙ sym (ap (λ w. w.dirty) is) ∙ dirty) in
+        subst (λ w. IsLive new w.slot × (w.line < 2 ^ 32)) (sym (is ∙ its.0)) (ap (λ (s : Session). is_live s.state) (there (way_at core.ways place).slot its.1) ∙ was.0, was.1);
+    places = length-set core.sessions k session ∙ knows.places;
+  }
+    where
+      session : Session
+      session = left (session_of core k) (state.Stopped why)
+
+      new : CoreState
+      new = stopped core k why
+
+      here : session_of new k ≡ session
+      here = get_or-set_same core.sessions k session free within
+
+      there : (other : ℕ) → other ≢ k → session_of new other ≡ session_of core other
+      there other differs = get_or-set_other core.sessions k other session free differs
+
+      stays : (w : Way) → (free_if k w).dirty ≡ true → (free_if k w ≡ w) × (w.slot ≢ k)
+      stays w dirty = elim (eqb_tells w.slot k) [ inl is ↦ absurd (let none : (free_if k w).dirty ≡ false = rw is.0 refl in cc) | inr other ↦ (rw other.0 refl, other.1) ]
+
+  -- a stop shows the slot and the rule
+  pub shows_stop : (core : CoreState) (k : ℕ) (why : Rule) → (Knows core → IsLive core k) → Shows core (stopped core k why)
+  unfolding dropped
+  shows_stop core k why live = record {
+    tells = record {
+      added = entry.Stop (session_of core k).install why ∷ [];
+      entries = refl;
+      sight = λ knows _.
+          let within = live_within core k (live knows) in
+          subst (λ n. sight_of (stopped core k why) ≡ after_signals v raised slot address (sight_of core) (Broke n why ∷ [])) (sym (knows.found k (live knows)))
+          (stopped-is core k why within (let places = knows.places in omega arith));
+    };
+    knows = λ knows. knows_stopped core k why (live_within core k (live knows)) knows;
+  }
+
+  -- ---- A write-back
+
+  -- each area stays
+  raising-areas : (core : CoreState) (k line : ℕ) → areas_of (raising v core k line) ≡ areas_of core
+  unfolding raising
+  raising-areas core k line = areas-same core (raising v core k line) (λ other.
+      ap (λ area. if is_live (session_of core other).state then area else None)
+      (area-stored core.stores k (v.store_after_raise (store_of core k) line core.ram) other (law.area (store_of core k) line core.ram)))
+
+  -- a torn raise shows nothing
+  pub shows_torn : (core : CoreState) (k line : ℕ) (torn : Torn) → v.answer_of_raise (store_of core k) line core.ram ≡ Err torn → Shows core (raising v core k line)
+  unfolding raising sight_of
+  shows_torn core k line torn is =
+      let new = raising v core k line in
+      let texts = v.texts_of_raise (store_of core k) line core.ram in
+      shows_quiet core new (map hash_entry texts) refl (told-hashes texts)
+      (ap (λ ram. let s : Sight = record { cells = map shown_cell core.cells; slots = map shown_slot core.sessions; pages = core.pages; areas = areas_of new; ram = ram; installs = core.installs } in s) (law.torn (store_of core k) line core.ram torn is)
+      ∙ ap (λ areas. let s : Sight = record { cells = map shown_cell core.cells; slots = map shown_slot core.sessions; pages = core.pages; areas = areas; ram = core.ram; installs = core.installs } in s) (raising-areas core k line))
+      (knows_as core new refl refl)
+
+  -- the signal of a line's Seal, where it isn't one of an image line
+  abbrev TellsSeal : Who → ℕ → LineName → LineKeys → List ℕ → Type 0
+  TellsSeal who line name keys ct =
+      ¬ SealsImage (entry.Seal keys.tag.0 (line_message name ct))
+      → told (entry.Seal keys.tag.0 (line_message name ct) ∷ []) ≡ LineSealed (slot_of who.install) line ct (line_tag name keys ct) ∷ []
+
+  image-tells : (who : Who) (line : ℕ) (keys : LineKeys) (ct : List ℕ) → TellsSeal who line (Image who.id line) keys ct
+  image-tells who line keys ct none = absurd (none (who.id, line, ct, refl))
+
+  run-tells : (who : Who) (line version : ℕ) (keys : LineKeys) (ct : List ℕ) → who.install < 2 ^ 64 → line < 2 ^ 32 → TellsSeal who line (run_name who line version) keys ct
+  unfolding line_message line_tag
+  run-tells who line version keys ct few low _ =
+      let message = line_message (run_name who line version) ct in
+      ap (λ n. LineSealed (slot_of n) (line_in message) ct (hmac_sha256 keys.tag.0 message) ∷ []) (run_fields_are_told.install who.boot who.install line version ct few)
+      ∙ ap (λ n. LineSealed (slot_of who.install) n ct (hmac_sha256 keys.tag.0 message) ∷ []) (run_fields_are_told.line who.boot who.install line version ct low)
+
+  sealed-told : (who : Who) (line version : ℕ) (bytes : List ℕ) → who.install < 2 ^ 64 → line < 2 ^ 32 → ¬ SealsImage (seal_entry who line version bytes)
+      → told (seal_entry who line version bytes ∷ []) ≡ LineSealed (slot_of who.install) line (sealed_as who line version bytes).ct (sealed_as who line version bytes).tag ∷ []
+  sealed-told who line version bytes few low =
+      let name : Bool → LineName = λ b. if b then Image who.id line else run_name who line version in
+      let keys : Bool → LineKeys = λ b. if b then image_keys who.key who.id else run_keys who.key who.boot who.install in
+      elim (is_image_at who line version) as (λ b. TellsSeal who line (name b) (keys b) (line_masked (name b) (keys b) bytes)) [
+        | true ↦ image-tells who line (keys true) _
+        | false ↦ run-tells who line version (keys false) _ few low
+      ]
+
+  -- a line that is written back shows its ciphertext and tag, which then lie in its frame
+  module _ (core : CoreState) (k line version : ℕ) (bytes : List ℕ) (is : v.answer_of_raise (store_of core k) line core.ram ≡ Ok version) where
+    abbrev after : CoreState
+    after = sealing v (raising v core k line) k line bytes version
+
+    abbrev sealed : SealedLine
+    sealed = sealed_as (who_of core k) line version bytes
+
+    abbrev hashes : List Entry
+    hashes = map hash_entry (v.texts_of_raise (store_of core k) line core.ram)
+
+    abbrev seal : Entry
+    seal = seal_entry (who_of core k) line version bytes
+
+    sealed-sight : IsLive core k → k < 17 → sight_of after ≡ after_signal v raised slot address (sight_of core) (LineSealed k line sealed.ct sealed.tag)
+    unfolding raising sealing sight_of
+    sealed-sight live low =
+        let sight : List (Option ℕ) → List ℕ → Sight = λ areas ram. record { cells = map shown_cell core.cells; slots = map shown_slot core.sessions; pages = core.pages; areas = areas; ram = ram; installs = core.installs } in
+        let frame = frame_of core.pages k (page_of line) in
+        ap (λ areas. sight areas after.ram) (raising-areas core k line)
+        ∙ ap (λ ram. sight (areas_of core) (with_sealed ram frame line sealed)) (law.done (store_of core k) line version core.ram is)
+        ∙ ap (λ area. sight (areas_of core) (with_sealed (raised area line core.ram) frame line sealed)) (sym (area_at-is core k low live))
+
+    pub shows_sealed : (Knows core → IsLive core k × (line < 2 ^ 32)) → Shows core after
+    unfolding raising sealing
+    shows_sealed holds = record {
+      tells = record {
+        added = hashes ++ seal ∷ [];
+        entries = append_assoc core.entries hashes (seal ∷ []);
+        sight = λ knows none.
+            let live = (holds knows).0 in
+            let low : k < 17 = (let within = live_within core k live in let places = knows.places in omega arith) in
+            let alone : ¬ SealsImage seal = λ its. (no_image-both hashes (seal ∷ []) none).1 (inl its) in
+            let signals : told (hashes ++ seal ∷ []) ≡ LineSealed k line sealed.ct sealed.tag ∷ [] =
+            filter_map-append (signal_of slot_of ready) hashes (seal ∷ [])
+            ∙ ap (λ front. front ++ told (seal ∷ [])) (told-hashes (v.texts_of_raise (store_of core k) line core.ram))
+            ∙ sealed-told (who_of core k) line version bytes (knows.low k) (holds knows).1 alone
+            ∙ ap (λ n. LineSealed n line sealed.ct sealed.tag ∷ []) (knows.found k live) in
+            sealed-sight live low ∙ ap (after_signals v raised slot address (sight_of core)) (sym signals);
+      };
+      knows = knows_as core after refl refl;
+    }
+
+  -- ---- A private access of the slot: where it doesn't stop the slot, the slot is live still
+
+  abbrev IfGoing : CoreState × Reach → Type 0
+  IfGoing (core, reach.Ready place) = IsLive core slot
+  IfGoing (core, reach.PageFault page) = IsLive core slot
+  IfGoing (core, reach.Stopped why) = Unit {0}
+
+  -- an access shows what it changed
+  pub record Reaches (base : CoreState) (after : CoreState × Reach) : Type 0 where
+    pub shows : Shows base after.0
+    pub live : IfGoing after
+
+  reaches_then : (base mid : CoreState) (after : CoreState × Reach) → Shows base mid → Reaches mid after → Reaches base after
+  reaches_then base mid after first rest = record { shows = shows_then base mid after.0 first rest.shows; live = rest.live }
+
+  -- a torn tree shows its slot and level
+  shows_tear : (core : CoreState) (place : ℕ) (torn : Torn) → (way_at core.ways place).dirty ≡ true → raised_for v core (way_at core.ways place) ≡ Err torn
+      → Shows core (torn_off v core (way_at core.ways place) torn)
+  unfolding raising
+  shows_tear core place torn dirty is =
+      let way = way_at core.ways place in
+      shows_then core (raising v core way.slot way.line) _ (shows_torn core way.slot way.line torn is)
+      (shows_stop (raising v core way.slot way.line) way.slot (rule.TreeNode torn.level) (λ knows. (knows.dirty place dirty).0))
+
+  -- a line is put in its place, after what stood dirty there was written back
+  module _ (core : CoreState) (line : ℕ) (bytes : List ℕ) (live : IsLive core slot) where
+    abbrev pointed : CoreState
+    pointed = with_pointers core line
+
+    abbrev place : ℕ
+    place = place_for core.ways core.pointers line
+
+    abbrev victim : Way
+    victim = way_at core.ways place
+
+    abbrev fresh_way : Way
+    fresh_way = new_way slot line bytes
+
+    filled : (mid : CoreState) → IsLive mid slot → Shows pointed mid → Reaches core (with_way mid place fresh_way, reach.Ready place)
+    filled mid alive shows = record {
+      shows = shows_then core pointed _ (shows_pointed core (pointers_after core.ways core.pointers line)) (shows_then pointed mid _ shows (shows_put mid place fresh_way refl));
+      live = alive;
+    }
+
+    by_answer : victim.dirty ≡ true → (answer : Result ℕ Torn) → raised_for v pointed victim ≡ answer
+        → Reaches core (put v victim.slot place slot line bytes (or_stopped v victim.slot (sealed_by_raise v (raising v pointed victim.slot victim.line) victim.slot victim.line victim.bytes answer)))
+    unfolding dropped raising sealing
+    by_answer dirty (Ok version) is = filled (written_back v pointed victim version) live (shows_sealed pointed victim.slot victim.line version victim.bytes is (λ knows. knows.dirty place dirty))
+    by_answer dirty (Err torn) is =
+        let off = torn_off v pointed victim torn in
+        let shows : Shows pointed off = shows_tear pointed place torn dirty is in
+        elim (eqb_tells victim.slot slot) [
+          | inl own ↦ rw own.0 (record { shows = shows_then core pointed off (shows_pointed core (pointers_after core.ways core.pointers line)) shows; live = tt })
+          | inr other ↦
+              let same : session_of off slot ≡ session_of core slot = get_or-set_other core.sessions victim.slot slot (left (session_of core victim.slot) (state.Stopped (rule.TreeNode torn.level))) free (λ is_own. other.1 (sym is_own)) in
+              rw other.0 (filled off (ap (λ (s : Session). is_live s.state) same ∙ live) shows)
+        ]
+
+    by_dirty : (dirty : Bool) → victim.dirty ≡ dirty → Reaches core (put v victim.slot place slot line bytes (cleared v pointed victim dirty))
+    by_dirty false clean = filled pointed live (shows_same pointed)
+    by_dirty true dirty = by_answer dirty (raised_for v pointed victim) refl
+
+    reaches_placed : Reaches core (placed v core slot line bytes)
+    unfolding placed cleared_at
+    reaches_placed = by_dirty victim.dirty refl
+
+  reaches_stopped : (core : CoreState) (why : Rule) → IsLive core slot → Reaches core (stopped core slot why, reach.Stopped why)
+  reaches_stopped core why live = record { shows = shows_stop core slot why (λ _. live); live = tt }
+
+  reaches_opened : (core : CoreState) (line version place : ℕ) (ct : List ℕ) (bytes : Option (List ℕ)) → IsLive core slot → Reaches core (opened v core slot line version place ct bytes)
+  reaches_opened core line version from ct None live = reaches_stopped core (rule.LineTag line) live
+  reaches_opened core line version from ct (Some bytes) live =
+      let accepted = noted core (accept_entry (who_of core slot) line version ct from) in
+      reaches_then core accepted _ (shows_accepted core _ _ from) (reaches_placed accepted line bytes live)
+
+  reaches_brought : (core : CoreState) (line frame : ℕ) (answer : Result ℕ Torn) → IsLive core slot → Reaches core (brought v core slot line frame answer)
+  reaches_brought core line frame (Err torn) live = reaches_stopped core (rule.TreeNode torn.level) live
+  reaches_brought core line frame (Ok version) live =
+      cond_both (version == 0) (placed v core slot line (replicate 32 0)) (read_from v core slot line frame version) (λ result. Reaches core result)
+      (λ _. reaches_placed core line (replicate 32 0) live)
+      (λ _. reaches_opened core line version (ct_place frame line) (sealed_at core.ram frame line).ct
+      (unsealed_line (name_of (who_of core slot) line version) (keys_of (who_of core slot) line version) (sealed_at core.ram frame line)) live)
+
+  reaches_looked : (core : CoreState) (line frame : ℕ) (at : Option ℕ) → IsLive core slot → Reaches core (looked v core slot line frame at)
+  reaches_looked core line frame (Some at) live = record { shows = shows_same core; live = live }
+  reaches_looked core line frame None live =
+      let asked = hashed core (v.texts_of_version (store_of core slot) line core.ram) in
+      reaches_then core asked _ (shows_hashed core (v.texts_of_version (store_of core slot) line core.ram)) (reaches_brought asked line frame (v.answer_of_version (store_of core slot) line core.ram) live)
+
+  reaches_mapped : (core : CoreState) (line : ℕ) (frame : Option ℕ) → IsLive core slot → Reaches core (mapped v core slot line frame)
+  reaches_mapped core line None live = record { shows = shows_same core; live = live }
+  reaches_mapped core line (Some frame) live = reaches_looked core line frame (found core.ways slot line) live
+
+  pub reaches_access : (core : CoreState) (line : ℕ) → IsLive core slot → Reaches core (access v core slot line)
+  unfolding access
+  reaches_access core line live = reaches_mapped core line (frame_of core.pages slot (page_of line)) live
+
+  -- ---- A flush
+
+  module _ (core : CoreState) (place : ℕ) where
+    abbrev its_way : Way
+    its_way = way_at core.ways place
+
+    taken_answer : its_way.dirty ≡ true → (answer : Result ℕ Torn) → raised_for v core its_way ≡ answer
+        → Shows core (taken place (or_stopped v its_way.slot (sealed_by_raise v (raising v core its_way.slot its_way.line) its_way.slot its_way.line its_way.bytes answer))).0
+    taken_answer dirty (Ok version) is =
+        let mid = written_back v core its_way version in
+        shows_then core mid _ (shows_sealed core its_way.slot its_way.line version its_way.bytes is (λ knows. knows.dirty place dirty)) (shows_put mid place free_way refl)
+    taken_answer dirty (Err torn) is = shows_tear core place torn dirty is
+
+    taken_dirty : (dirty : Bool) → its_way.dirty ≡ dirty → Shows core (taken place (cleared v core its_way dirty)).0
+    taken_dirty false clean = shows_put core place free_way refl
+    taken_dirty true dirty = taken_answer dirty (raised_for v core its_way) refl
+
+    shows_taken_at : Shows core (taken place (cleared_at v core place)).0
+    unfolding cleared_at
+    shows_taken_at = taken_dirty its_way.dirty refl
+
+  shows_taken : (core : CoreState) (at : Option ℕ) → Shows core (taken_out v core at).0
+  shows_taken core None = shows_same core
+  shows_taken core (Some at) = shows_taken_at core at
+
+  then_shows : (core : CoreState) (first : CoreState × Option Rule) (rest : CoreState → CoreState × Option Rule) → Shows core first.0 → ((mid : CoreState) → Shows mid (rest mid).0) → Shows core (and_then first rest).0
+  then_shows core (mid, None) rest shows more = shows_then core mid (rest mid).0 shows (more mid)
+  then_shows core (mid, Some why) rest shows more = shows
+
+  pub shows_flushed : (count line : ℕ) (core : CoreState) → Shows core (flushed v slot count line core).0
+  unfolding flushed
+  shows_flushed zero line core = shows_same core
+  shows_flushed (suc count) line core =
+      then_shows core (taken_out v core (found core.ways slot line)) (flushed v slot count (line + 1)) (shows_taken core (found core.ways slot line)) (λ mid. shows_flushed count (line + 1) mid)
+
+  -- ---- A step
+
+  -- a step shows the names of what it wrote, what it released and its end
+  module _ (core : CoreState) (place : ℕ) (session : Session) (step : Step) (some : (slot == 0) ≡ false) (live : IsLive core slot) (same : is_live session.state ≡ is_live (session_of core slot).state)
+      (is : shown_slot session ≡ record (shown_slot (session_of core slot)) { mask = mask_after (session_of core slot).mask step; signal_ready = ready }) where
+    abbrev signal : Signal
+    signal = Made (names_of step.writes) step.released step.end ready
+
+    stepped_cells : map shown_cell (cells_after slot core.cells step) ≡ untagged (named slot (map shown_cell core.cells) (names_of step.writes)) step.released
+    stepped_cells = shown_untagged (tagged slot core.cells step.writes) step.released ∙ ap (λ cs. untagged cs step.released) (shown_tagged slot core.cells step.writes some)
+
+    abbrev stepped_view : SlotView
+    stepped_view = record (slot_at (sight_of core) slot) { mask = mask_released (mask_named (slot_at (sight_of core) slot).mask (names_of step.writes)) step.released; signal_ready = ready }
+
+    stepped_slot : shown_slot session ≡ stepped_view
+    stepped_slot =
+        is
+        ∙ ap (λ m. record (shown_slot (session_of core slot)) { mask = mask_released m step.released; signal_ready = ready }) (sym (mask_named-is (session_of core slot).mask step.writes))
+        ∙ ap (λ (s : SlotView). record s { mask = mask_released (mask_named s.mask (names_of step.writes)) step.released; signal_ready = ready }) (sym (slot_at-is core slot))
+
+    pub stepped-is : sight_of (stepped core slot place session step) ≡ after_signal v raised slot address (sight_of core) signal
+    unfolding sight_of
+    stepped-is =
+        let new = stepped core slot place session step in
+        let sight : List Cell → List SlotView → List (Option ℕ) → Sight = λ cs ss areas. record { cells = cs; slots = ss; pages = core.pages; areas = areas; ram = given_out core.ram step.released; installs = core.installs } in
+        let cells = untagged (named slot (map shown_cell core.cells) (names_of step.writes)) step.released in
+        ap (λ cs. sight cs (map shown_slot (slice_set core.sessions slot session)) (areas_of new)) stepped_cells
+        ∙ ap (λ ss. sight cells ss (areas_of new)) (map-set shown_slot core.sessions slot session ∙ ap (λ s. slice_set (map shown_slot core.sessions) slot s) stepped_slot)
+        ∙ ap (λ areas. sight cells (slice_set (map shown_slot core.sessions) slot stepped_view) areas) (areas-session core new slot session refl refl (live_within core slot live) same)
+
+    pub tells_stepped : Tells core (stepped core slot place session step)
+    tells_stepped = record { added = entry.Step (session_of core slot).install step ∷ []; entries = refl; sight = λ _ _. stepped-is }

@@ -1,0 +1,44 @@
+-- Small rows, computed from the definitions.
+use Rattle.std.proofs.Common.{◌≡◌, true, [], Some, refl}
+use Rattle.xom_base.specs.declared.entry.Entry.TheVariants as entry
+use Rattle.xom_base.specs.declared.event.Event.TheVariants as event
+use Rattle.xom_base.specs.declared.event.Op.TheVariants.{SetReg}
+use Rattle.xom_base.specs.declared.step.Received.TheVariants as received
+use Rattle.xom_base.specs.declared.step.Released.TheVariants as released
+use Rattle.xom_base.specs.declared.step.StepEnd.TheVariants as ended
+use Rattle.xom_base.specs.declared.step.Stored.TheVariants as stored
+use Rattle.xom_base.specs.declared.step.Writes.TheVariants as writes
+use Rattle.tag_regs.specs.TaggedCells.{all_empty, cell_at}
+use Rattle.session_table.specs.Masks.{with_cell}
+use Rattle.session_table.specs.Sessions.{none_held}
+use Rattle.page_map.specs.Pages.{nothing_mapped}
+use Rattle.xom_versions.specs.Chip.{chip}
+use Rattle.xom_model.specs.declared.outcome.Outcome.TheVariants as outcome
+use Rattle.xom_model.specs.State.{power_on}
+use Rattle.xom_model.specs.Seen.{Seen, seen_of, view_of}
+use Rattle.xom_seen.specs.Emission.{Made, OneCell, signal_of}
+use Rattle.xom_seen.specs.SeenNext.{after_signal, seen_next, sight_in, slot_at}
+use Rattle.xom_seen.specs.Premises.{chip_raised}
+
+-- an instruction that writes 77 to $3 and stores it shows the name of $3 and no value
+made : signal_of (λ install. 1) true (entry.Step 5 (record { pc = 64; npc = 68; writes = writes.One 3 77; stored = stored.Bytes 8 4 77; received = received.Cell 77; released = released.Nothing; end = ended.Goes }))
+    ≡ Some (Made (OneCell 3) released.Nothing ended.Goes true)
+made = refl
+
+-- what is seen at power-on, with no RAM
+abbrev dark : Seen
+dark = seen_of (power_on chip (record { 0 = [] }) 1 [] 0)
+
+-- the cell is seen as slot 1's, with the value 0, and the slot owns it: bit 3 of its mask
+owned : cell_at (after_signal chip chip_raised 1 0 (sight_in dark) (Made (OneCell 3) released.Nothing ended.Goes true)).cells 3 ≡ record { value = 0; tag = 1 }
+unfolding seen_of view_of all_empty none_held nothing_mapped
+owned = refl
+
+mask : (slot_at (after_signal chip chip_raised 1 0 (sight_in dark) (Made (OneCell 3) released.Nothing ended.Goes true)) 1).mask ≡ 8
+unfolding seen_of view_of all_empty none_held nothing_mapped with_cell
+mask = refl
+
+-- a register that the kernel sets is seen
+lent : cell_at (seen_next chip chip_raised dark (event.Do (SetReg 5 7)) [] (record { status = 0; outcome = outcome.Went; signals = [] })).view.cells 5 ≡ record { value = 7; tag = 0 }
+unfolding seen_next seen_of view_of all_empty none_held nothing_mapped
+lent = refl

@@ -1,0 +1,211 @@
+-- What is seen of the machine after an event, as a function of what was seen before it, the event, its bytes and its emission.
+use Rattle.std.specs.Prelude.{ℕ, ◌+◌, ◌==◌, List, [], ◌∷◌, take, position, Option, Some, None, Result, Ok, Err, slice_index_or, slice_set, false, if◌then◌else◌}
+use Rattle.xom_base.specs.declared.event.Cause.TheVariants as cause
+use Rattle.xom_base.specs.declared.event.Event.{Event}
+use Rattle.xom_base.specs.declared.event.Event.TheVariants as event
+use Rattle.xom_base.specs.declared.event.Op.{Op}
+use Rattle.xom_base.specs.declared.event.Op.TheVariants.{Install, Enter, Resume, Save, Restore, Map, Unmap, SetReg, Kill, Out, Halt}
+use Rattle.xom_seal.specs.Envelopes.{entry_in, id_in, lines_in}
+use Rattle.line_ram.specs.Bytes.{bytes_at}
+use Rattle.page_map.specs.Pages.{Pages, frame_of, with_page, without_pages}
+use Rattle.tag_regs.specs.declared.cell.Cell.{Cell}
+use Rattle.tag_regs.specs.TaggedCells.{scrubbed, with_cell}
+use Rattle.session_table.specs.declared.session.SlotState.TheVariants as state
+use Rattle.session_table.specs.declared.session.SlotView.{SlotView}
+use Rattle.session_table.specs.Masks.{with_cell as mask_with}
+use Rattle.session_table.specs.Sessions.{free, is_running}
+use Rattle.xom_versions.specs.Versions.{Versions}
+use Rattle.xom_model.specs.declared.outcome.NullFault.{NullFault}
+use Rattle.xom_model.specs.declared.outcome.Outcome.{Outcome}
+use Rattle.xom_model.specs.declared.outcome.Outcome.TheVariants as outcome
+use Rattle.xom_model.specs.State.{page_of}
+use Rattle.xom_model.specs.Lines.{with_sealed}
+use Rattle.xom_model.specs.Saves.{with_saved}
+use Rattle.xom_model.specs.Guest.{given_out, mask_released, untagged}
+use Rattle.xom_model.specs.Null.{Answer, Open, Told, null_step, poked}
+use Rattle.xom_model.specs.Operation.{envelope_size}
+use Rattle.xom_model.specs.Touched.{named as slot_named, slot_or_none}
+use Rattle.xom_model.specs.Seen.{Seen, shown_slot}
+use Rattle.xom_seen.specs.Emission.{Emission, Names, NoCell, OneCell, Halves, Signal, Made, LineSealed, RegisterSealed, Broke}
+
+-- what is seen of the core
+pub record Sight : Type 0 where
+  pub cells : List Cell
+  pub slots : List SlotView
+  pub pages : Pages
+  pub areas : List (Option ℕ)
+  pub ram : List ℕ
+  pub installs : ℕ
+
+abbrev pub sight_in : Seen → Sight
+sight_in s = record { cells = s.view.cells; slots = s.view.slots; pages = s.pages; areas = s.areas; ram = s.view.ram; installs = s.installs }
+
+abbrev pub with_sight : Seen → Sight → Seen
+with_sight s new = record s { view = record s.view { cells = new.cells; slots = new.slots; ram = new.ram }; pages = new.pages; installs = new.installs; areas = new.areas }
+
+abbrev pub slot_at : Sight → ℕ → SlotView
+slot_at s slot = slice_index_or s.slots slot (shown_slot free)
+
+abbrev pub with_slot : Sight → ℕ → SlotView → Sight
+with_slot s slot new = record s { slots = slice_set s.slots slot new }
+
+-- a cell of a slot, whose value isn't seen
+abbrev pub hidden : ℕ → Cell
+hidden slot = record { value = 0; tag = slot }
+
+-- the named cells belong to the slot now
+abbrev pub named : ℕ → List Cell → Names → List Cell
+named slot cells NoCell = cells
+named slot cells (OneCell reg) = slice_set cells reg (hidden slot)
+named slot cells Halves = slice_set (slice_set cells 32 (hidden slot)) 33 (hidden slot)
+
+abbrev pub mask_named : ℕ → Names → ℕ
+mask_named mask NoCell = mask
+mask_named mask (OneCell reg) = mask_with mask reg
+mask_named mask Halves = mask_with (mask_with mask 32) 33
+
+-- cells, pages and area of a slot that leaves for good are dropped
+abbrev pub dropped_seen : Sight → ℕ → SlotView → Sight
+dropped_seen s slot new =
+    record s { cells = scrubbed slot s.cells; slots = slice_set s.slots slot new; pages = without_pages s.pages slot; areas = slice_set s.areas slot None }
+
+-- ---- Guests
+
+-- a guest that leaves does so for good by its end, or to come back; what a stop leaves is told by its signal
+abbrev pub left_seen : Sight → ℕ → Outcome → Sight
+left_seen s slot (outcome.Left cause.Exit) = dropped_seen s slot (record (slot_at s slot) { state = state.Ended })
+left_seen s slot (outcome.Left (cause.Stopped why)) = s
+left_seen s slot (outcome.Left other) = with_slot s slot (record (slot_at s slot) { epoch = (slot_at s slot).epoch + 1; state = state.Paused })
+left_seen s slot other = s
+
+-- the slot whose guest runs
+abbrev pub running_seen : Seen → ℕ
+running_seen s = slot_or_none (position (λ (k : SlotView). is_running k.state) s.view.slots)
+
+abbrev pub told_by : Seen → ℕ → Outcome → Seen
+told_by s slot (outcome.Left why) = record s { view = record s.view { cause = why; who = slot } }
+told_by s slot other = s
+
+-- ---- Operations
+
+-- where a register is sealed
+abbrev pub address_of : Op → ℕ
+address_of (Save slot reg address) = address
+address_of other = 0
+
+-- the guest of an envelope, under the next install number
+abbrev pub installed_slot : ℕ → List ℕ → SlotView
+installed_slot install text = record {
+  state = state.Fresh;
+  install = install;
+  id = record { 0 = id_in text };
+  entry = entry_in text;
+  lines = lines_in text;
+  mask = 0;
+  epoch = 0;
+  signal_ready = false;
+}
+
+-- ---- Null code: it runs over what is seen, and sees no more than the kernel does
+
+abbrev pub told_seen : Seen → Told
+told_seen s = record { status = s.view.status; cause = s.view.cause; who = s.view.who }
+
+abbrev pub open_seen : Seen → Open
+open_seen s = record { cells = s.view.cells; ram = s.view.ram; pc = s.pc; npc = s.npc }
+
+abbrev pub with_open_seen : Seen → Open → Seen
+with_open_seen s new = record s { view = record s.view { cells = new.cells; ram = new.ram }; pc = new.pc; npc = new.npc }
+
+-- ---- Writes and counts
+
+abbrev pub poked_seen : Seen → ℕ → List ℕ → Seen
+poked_seen s address bytes = record s { view = record s.view { ram = poked s.view.ram address bytes } }
+
+abbrev pub counted_seen : Seen → ℕ → Seen
+counted_seen s status = record s { view = record s.view { status = status; events = s.view.events + 1 } }
+
+-- ---- Signals, and whole events
+
+-- RAM after a raise that was answered: a function of the store's area, the line and RAM
+abbrev pub Raised : Type 0
+Raised = Option ℕ → ℕ → List ℕ → List ℕ
+
+module _ (v : Versions) (raised : Raised) where
+  -- ---- Signals
+
+  -- a line's version is raised in its area, and what was sealed goes to its frame
+  abbrev pub line_seen : Sight → ℕ → ℕ → List ℕ → List ℕ → List ℕ
+  line_seen s slot line ct tag =
+      with_sealed (raised (slice_index_or s.areas slot None) line s.ram) (frame_of s.pages slot (page_of line)) line (record { ct = ct; tag = tag })
+
+  -- after one signal of an event that runs or names this slot; a register is sealed at this address
+  abbrev pub after_signal : ℕ → ℕ → Sight → Signal → Sight
+  after_signal slot address s (Made names given end ready) =
+      record s {
+        cells = untagged (named slot s.cells names) given;
+        slots = slice_set s.slots slot (record (slot_at s slot) { mask = mask_released (mask_named (slot_at s slot).mask names) given; signal_ready = ready });
+        ram = given_out s.ram given;
+      }
+  after_signal slot address s (LineSealed k line ct tag) = record s { ram = line_seen s k line ct tag }
+  after_signal slot address s (RegisterSealed k reg ct tag) = record s { ram = with_saved s.ram address (record { ct = ct; tag = tag }) }
+  after_signal slot address s (Broke k why) = dropped_seen s k (record (slot_at s k) { state = state.Stopped why })
+
+  abbrev pub after_signals : ℕ → ℕ → Sight → List Signal → Sight
+  after_signals slot address s [] = s
+  after_signals slot address s (first ∷ signals) = after_signals slot address (after_signal slot address s first) signals
+
+  -- ---- Guests
+
+  abbrev pub guest_seen : Seen → ℕ → Emission → Seen
+  guest_seen s slot m = told_by (with_sight s (left_seen (after_signals slot 0 (sight_in s) m.signals) slot m.outcome)) slot m.outcome
+
+  -- ---- Operations
+
+  -- what an operation that was done changes beside what it signals
+  abbrev pub done_seen : Sight → Op → Sight
+  done_seen s (Install slot place area) =
+      let text = bytes_at s.ram place envelope_size in
+      record s {
+        slots = slice_set s.slots slot (installed_slot (s.installs + 1) text);
+        areas = slice_set s.areas slot (v.store_after_build area (lines_in text) s.ram).area;
+        ram = v.ram_after_build area (lines_in text) s.ram;
+        installs = s.installs + 1;
+      }
+  done_seen s (Enter slot) = with_slot s slot (record (slot_at s slot) { state = state.Running })
+  done_seen s (Resume slot signal) = with_slot s slot (record (slot_at s slot) { state = state.Running })
+  done_seen s (Save slot reg address) = s
+  done_seen s (Restore slot reg address) = record s { cells = slice_set s.cells reg (hidden slot) }
+  done_seen s (Map slot page frame) = record s { pages = with_page s.pages slot page (Some frame) }
+  done_seen s (Unmap slot page) = record s { pages = with_page s.pages slot page None }
+  done_seen s (SetReg reg value) = record s { cells = with_cell s.cells reg value 0 }
+  done_seen s (Kill slot) = dropped_seen s slot (shown_slot free)
+  done_seen s (Out byte) = s
+  done_seen s Halt = s
+
+  -- an operation: what it signals, and with status 0 what it does
+  abbrev pub operated_seen : Sight → Op → Emission → Sight
+  operated_seen s op m =
+      let after = after_signals (slot_named op) (address_of op) s m.signals in
+      if m.status == 0 then done_seen after op else after
+
+  -- ---- Every event
+
+  abbrev pub asked_seen : Seen → Result (Option Op) NullFault → Emission → Seen
+  asked_seen s (Err why) m = s
+  asked_seen s (Ok None) m = s
+  asked_seen s (Ok (Some op)) m = with_sight s (operated_seen (sight_in s) op m)
+
+  abbrev pub null_seen : Seen → Answer → Emission → Seen
+  null_seen s answer m = asked_seen (with_open_seen s answer.0) answer.1 m
+
+  abbrev pub turn_seen : Seen → Event → List ℕ → Emission → Seen
+  turn_seen s (event.Do op) chunk m = with_sight s (operated_seen (sight_in s) op m)
+  turn_seen s (event.Guest interrupt) chunk m = guest_seen s (running_seen s) m
+  turn_seen s event.Null chunk m = null_seen s (null_step (told_seen s) (open_seen s)) m
+  turn_seen s (event.Write address count) chunk m = poked_seen s address (take count chunk)
+  turn_seen s (event.Poke address count) chunk m = poked_seen s address (take count chunk)
+
+  -- what is seen after an event, of what was seen before it, the event, the chunk with its bytes, and its emission
+  unfoldable pub seen_next : Seen → Event → List ℕ → Emission → Seen
+  seen_next s e chunk m = counted_seen (turn_seen s e chunk m) m.status
