@@ -6,7 +6,7 @@
 //! one number, each behind a step of it. The benchmark of judging times them.
 #![tactic(auto)]
 
-use journal_text::{print_journal, read_journal};
+use journal_text::{LineReader, print_journal};
 use keyed_mac::digest;
 use std::alloc::Global;
 use std::process::ExitCode;
@@ -14,7 +14,7 @@ use std::{env, io};
 use trace_judge::{Judge, Report, judge};
 use xom_base::{
     Block, ByteList, Entry, ImageId, Key256, NoMemory, PlainImage, Received, Released, Short, Step,
-    StepEnd, Stored, Writes, number,
+    StepEnd, Stored, Writes, first_line, number,
 };
 use xom_journal::{Journal, cost};
 use xom_owners::{Owner, OwnerList};
@@ -91,7 +91,7 @@ fn done(alloc: Global, work: Work, count: u64) -> Result<u64, NoMemory> {
         Work::Judged => judged(alloc, Work::Mixed, count),
         Work::Strays => judged(alloc, Work::Strays, count),
         Work::Texts => Ok(text(alloc, count)?.len() as u64),
-        Work::Lines => entries_read(alloc, &text(alloc, count)?),
+        Work::Lines => entries_read(&text(alloc, count)?),
         _ => lines_of_report(alloc, work, count),
     }
 }
@@ -122,11 +122,24 @@ fn text(alloc: Global, count: u64) -> Result<ByteList, NoMemory> {
 }
 
 /// How many entries a text gives.
-fn entries_read(alloc: Global, text: &ByteList) -> Result<u64, NoMemory> {
-    match read_journal(alloc, text) {
-        Ok(journal) => Ok(journal.len()),
-        Err(_) => Err(NoMemory),
+fn entries_read(text: &ByteList) -> Result<u64, NoMemory> {
+    let mut reader = LineReader::new();
+    let mut rest = text.as_slice();
+    let mut count: u64 = 0;
+    // each line takes a byte at least
+    for _ in 0..text.len() {
+        if rest.is_empty() {
+            break;
+        }
+        let (line, after) = first_line(rest);
+        match reader.next(line) {
+            Ok(Some(_)) => count = count.wrapping_add(1),
+            Ok(None) => {}
+            Err(_) => return Err(NoMemory),
+        }
+        rest = after;
     }
+    Ok(count)
 }
 
 /// How many lines the report has of entries that are fed one by one, where it finds nothing.

@@ -1,5 +1,5 @@
 -- Filling a way first and writing back what it held then gives what the model's order gives.
-use Rattle.std.proofs.Common.{◌≡◌, ◌≢◌, inl, inr, ℕ, ◌+◌, ◌-◌, ◌<◌, Bool, true, false, List, Option, Some, None, Result, Ok, Err, get_or, drop, map, set, refl, sym, ◌∙◌, ap, subst, arith}
+use Rattle.std.proofs.Common.{◌≡◌, ◌≢◌, inl, inr, ℕ, ◌+◌, ◌-◌, ◌<◌, ◌≤◌, Bool, true, false, List, Option, Some, None, Result, Ok, Err, get_or, drop, map, set, refl, sym, ◌∙◌, ap, subst, arith}
 use Rattle.std.proofs.lemmas.List.{get_or-drop, get_or-take, length-take, map-set}
 use Rattle.std.proofs.lemmas.List.Quantifiers.{position-Some}
 use Rattle.std.proofs.lemmas.Bool.Decides.{eqb_tells}
@@ -8,13 +8,18 @@ use Rattle.xom_base.specs.declared.event.Rule.TheVariants as rule
 use Rattle.line_cache.specs.declared.way.Victim.{Victim}
 use Rattle.line_cache.specs.declared.way.Way.{Way}
 use Rattle.line_cache.specs.Ways.{first_place, free_if, free_in_set, free_way, is_free, new_way, place_for, set_of, victim_for, victim_of, way_at, without_slot}
+use Rattle.page_map.specs.Pages.{Pages}
+use Rattle.session_table.specs.declared.session.Session.{Session}
+use Rattle.slot_keys.specs.GuestKeys.{GuestKeys}
 use Rattle.xom_versions.specs.declared.store.Torn.{Torn}
+use Rattle.xom_versions.specs.Store.{Store}
 use Rattle.xom_versions.specs.Versions.{Versions}
 use Rattle.xom_model.specs.declared.reach.Reach.TheVariants as reach
 use Rattle.xom_model.specs.Access.{cleared, cleared_at, dropped, or_stopped, placed, put, raising, sealed_by_raise, sealing, stopped, with_pointers}
-use Rattle.xom_model.specs.State.{CoreState, store_of, with_way}
+use Rattle.xom_model.specs.State.{CoreState, page_of, store_of, with_way}
 use Rattle.xom_model.proofs.Gone.{free_if-other}
-use Rattle.xom_private.specs.Cores.{FreeAreClean}
+use Rattle.xom_model.proofs.WayPuts.{each_put}
+use Rattle.xom_private.specs.Cores.{Fits, FreeAreClean, IsMapped}
 use Rattle.xom_private.specs.Settling.{cache_of, filled, if_dirty, settled, settled_by, to_write}
 
 -- ---- What is pushed out
@@ -44,7 +49,7 @@ pushed core line clean = elim (free_in_set core.ways line) as (λ free. free_in_
 new_gone : (slot line : ℕ) (bytes : List ℕ) → free_if slot (new_way slot line bytes) ≡ free_way
 new_gone slot line bytes = elim (eqb_tells slot slot) [ inl is ↦ rw is.0 refl | inr not ↦ absurd (not.1 refl) ]
 
-pub gone_way : (slot : ℕ) (way : Way) → way.slot ≡ slot → free_if slot way ≡ free_way
+gone_way : (slot : ℕ) (way : Way) → way.slot ≡ slot → free_if slot way ≡ free_way
 gone_way slot way its = elim (eqb_tells way.slot slot) [ inl is ↦ rw is.0 refl | inr not ↦ absurd (not.1 its) ]
 
 -- the stopped slot's new line goes with its others
@@ -105,3 +110,17 @@ pub settles : (v : Versions) (core now : CoreState) (slot line at : ℕ) (bytes 
     → settled v now slot at victim ≡ placed v core slot line bytes
 settles v core now slot line at bytes victim now_is at_is victim_is clean =
     rw (now_is, at_is, victim_is ∙ pushed core line clean) (sym (placed_settles v core slot line bytes))
+
+-- ---- What the type keeps
+
+pub fits_filled : (sessions : List Session) (pages : Pages) (ways new_ways : List Way) (ram : List ℕ) (stores : List Store) (keys : List GuestKeys) (boot place slot line : ℕ) (bytes : List ℕ)
+    → 1 ≤ slot → IsMapped pages slot (page_of line) → new_ways ≡ set ways place (new_way slot line bytes)
+    → Fits sessions pages ways ram stores keys boot → Fits sessions pages new_ways ram stores keys boot
+fits_filled sessions pages ways new_ways ram stores keys boot place slot line bytes some mapped ways_are fits = rw ways_are (record {
+  frames = fits.frames;
+  owned = fits.owned;
+  mapped = each_put (λ at way. way.slot ≢ 0 → IsMapped pages way.slot (page_of way.line)) ways place (new_way slot line bytes) (λ _ _. mapped) fits.mapped;
+  clean = each_put (λ at way. way.slot ≡ 0 → way.dirty ≡ false) ways place (new_way slot line bytes) (λ _ _. refl) fits.clean;
+  areas = fits.areas;
+  ready = fits.ready;
+})

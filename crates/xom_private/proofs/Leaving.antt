@@ -1,9 +1,9 @@
 -- Where a slot's guest is gone for good, the rest fits as before.
 use Rattle.std.proofs.Common.{◌≡◌, ◌≢◌, inl, inr, ℕ, List, Some, length, set, refl, sym, ◌∙◌, ap, subst, arith, false, length-set}
-use Rattle.std.proofs.lemmas.List.{get_or-set_same, get_or-set_other, get_or_past, length-map}
+use Rattle.std.proofs.lemmas.List.{get_or-set_same, get_or-set_other, get_or_past}
 use Rattle.std.proofs.lemmas.Bool.Decides.{eqb_tells}
 use Rattle.line_cache.specs.declared.way.Way.{Way}
-use Rattle.line_cache.specs.Ways.{free_if, way_at, without_slot}
+use Rattle.line_cache.specs.Ways.{way_at, without_slot}
 use Rattle.page_map.specs.Pages.{Pages, frame_of, without_pages}
 use Rattle.session_table.specs.declared.session.Session.{Session}
 use Rattle.session_table.specs.Sessions.{free, is_live, session_at}
@@ -59,7 +59,6 @@ module _ (sessions : List Session) (pages : Pages) (ways : List Way) (ram : List
         let before = fits.mapped place (λ none. filled (ap (λ w. w.slot) kept.0 ∙ none)) in
         (before.0, subst (λ w. frame_of (without_pages pages slot) w.slot (page_of w.line) ≡ Some before.0) (sym kept.0) (pages-other pages slot _ _ kept.1 ∙ before.1));
     clean = clean_out;
-    places = length-map ways (free_if slot) ∙ fits.places;
     areas = λ k live. fits.areas k (was k live);
     ready = λ k live. subst (λ t. Serves (keys_at keys k) boot t) (sym (there k (another k live))) (fits.ready k (was k live));
   }

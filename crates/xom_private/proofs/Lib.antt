@@ -3,4 +3,3 @@ pub mod Leaving
 pub mod Places
 pub mod Raised
 pub mod Filling
-pub mod Flushing

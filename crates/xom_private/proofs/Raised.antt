@@ -37,7 +37,6 @@ fits_raised v law sessions pages ways ram new_ram stores new_stores keys boot sl
       owned = fits.owned;
       mapped = fits.mapped;
       clean = fits.clean;
-      places = fits.places;
       areas = λ k alive.
           let area : (store_at new_stores k).area ≡ (store_at stores k).area = ap (λ list. (store_at list k).area) stores_are ∙ same_area stores slot k _ (law.area_after_raise (store_at stores slot) line ram) in
           subst (λ a. IfSome a (λ at. HoldsRange new_ram at area_size)) (sym area) (area_stays (store_at stores k).area ram new_ram size (fits.areas k alive));

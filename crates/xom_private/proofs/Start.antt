@@ -1,6 +1,6 @@
 -- At power-on no slot is live, no page is mapped and no line is cached.
-use Rattle.std.proofs.Common.{◌≡◌, inl, inr, ℕ, List, None, length, replicate, ◌∙◌, ap, get_or}
-use Rattle.std.proofs.lemmas.List.{get_or-replicate, get_or_past, length-replicate}
+use Rattle.std.proofs.Common.{◌≡◌, inl, inr, ℕ, List, None, replicate, ◌∙◌, ap, get_or}
+use Rattle.std.proofs.lemmas.List.{get_or-replicate, get_or_past}
 use Rattle.line_cache.specs.declared.way.Way.{Way}
 use Rattle.line_cache.specs.Ways.{free_way, no_ways, way_at}
 use Rattle.page_map.specs.Pages.{Pages, frame_of, no_pages, nothing_mapped}
@@ -25,10 +25,6 @@ way_free place = elim (less place 128) [
   | inr past ↦ get_or_past (replicate 128 free_way) place free_way past
 ]
 
-ways_made : length no_ways ≡ 128
-unfolding no_ways
-ways_made = length-replicate 128 free_way
-
 none_mapped : (slot page : ℕ) → frame_of nothing_mapped slot page ≡ None
 unfolding nothing_mapped
 none_mapped slot page = elim (less slot 17) [
@@ -42,7 +38,6 @@ fits_at_start ram stores keys boot = record {
   owned = λ slot page frame is. absurd (let none = none_mapped slot page in cc);
   mapped = λ place filled. absurd (filled (ap (λ w. w.slot) (way_free place)));
   clean = λ place none. ap (λ w. w.dirty) (way_free place);
-  places = ways_made;
   areas = λ slot live. absurd (let none = free_at slot in cc);
   ready = λ slot live. absurd (let none = free_at slot in cc);
 }

@@ -1,5 +1,5 @@
 -- The core in code as the record that the model speaks of, and what its type keeps.
-use Rattle.std.specs.Prelude.{◌≡◌, ◌≢◌, ℕ, true, false, List, Option, Some, None, Result, Ok, Err, length, replicate, slice_index_or}
+use Rattle.std.specs.Prelude.{◌≡◌, ◌≢◌, ℕ, true, false, List, Option, Some, None, Result, Ok, Err, replicate, slice_index_or}
 use Rattle.xom_base.specs.declared.event.Rule.{Rule}
 use Rattle.line_cache.specs.declared.way.Way.{Way}
 use Rattle.line_cache.specs.Ways.{way_at}
@@ -7,7 +7,7 @@ use Rattle.page_map.specs.Pages.{Pages, frame_of}
 use Rattle.session_table.specs.declared.session.Session.{Session}
 use Rattle.session_table.specs.Sessions.{is_live, session_at}
 use Rattle.slot_keys.specs.GuestKeys.{GuestKeys, keys_at}
-use Rattle.xom_seal.specs.Keys.{image_keys, register_keys, run_keys}
+use Rattle.xom_seal.specs.Keys.{image_keys, run_keys}
 use Rattle.xom_versions.specs.Store.{HoldsArea, Store}
 use Rattle.xom_versions.specs.Versions.{Versions}
 use Rattle.xom_model.specs.Holds.{FramesFit}
@@ -43,11 +43,10 @@ IsMapped pages slot page = (frame : ℕ) × (frame_of pages slot page ≡ Some f
 abbrev pub FreeAreClean : List Way → Type 0
 FreeAreClean ways = (place : ℕ) → (way_at ways place).slot ≡ 0 → (way_at ways place).dirty ≡ false
 
--- the keys that are made ready for a slot are those of its guest's lines, and of its registers under its epoch
+-- the keys that are made ready for a slot are those of its guest's lines
 pub record Serves (keys : GuestKeys) (boot : ℕ) (s : Session) : Type 0 where
   pub image : keys.image ≡ image_keys s.key s.id
   pub run : keys.run ≡ run_keys s.key boot s.install
-  pub registers : keys.registers ≡ register_keys s.key boot s.install s.epoch
 
 pub record Fits (sessions : List Session) (pages : Pages) (ways : List Way) (ram : List ℕ) (stores : List Store) (keys : List GuestKeys) (boot : ℕ) : Type 0 where
   -- each mapped frame lies in RAM
@@ -57,8 +56,6 @@ pub record Fits (sessions : List Session) (pages : Pages) (ways : List Way) (ram
   -- the page of each cached line is mapped
   pub mapped : (place : ℕ) → (way_at ways place).slot ≢ 0 → IsMapped pages (way_at ways place).slot (page_of (way_at ways place).line)
   pub clean : FreeAreClean ways
-  -- the cache has all its places
-  pub places : length ways ≡ 128
   -- RAM holds the area of each live slot's store
   pub areas : (slot : ℕ) → IsLiveIn sessions slot → HoldsArea ram (store_at stores slot)
   -- the keys of each live slot's guest are ready

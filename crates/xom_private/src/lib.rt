@@ -4,7 +4,6 @@
 #![tactic(auto)]
 
 mod access;
-mod flush;
 mod lines;
 mod parts;
 mod place;

@@ -1,7 +1,6 @@
-ghost use Rattle.std.specs.Prelude.{◌≡◌, ◌≤◌, ◌+◌, ◌*◌, IfOk, false, replicate};
+ghost use Rattle.std.specs.Prelude.{◌≡◌, ◌≤◌, ◌+◌, ◌*◌, IfOk, replicate};
 ghost use Rattle.line_ram.specs.Bytes.{frame_size};
-ghost use Rattle.session_table.specs.Sessions.{is_live};
-ghost use Rattle.xom_model.specs.Access.{gone, stopped};
+ghost use Rattle.xom_model.specs.Access.{stopped};
 ghost use Rattle.xom_model.specs.State.{core_at_start};
 
 use crate::StoreList;
@@ -75,25 +74,9 @@ impl<V: VersionStore> Core<V> {
         })
     }
 
-    /// The guest of a slot, 1 to 16, leaves for good, ended or stopped: no cell, no cached line and no
-    /// page is left of it.
-    #[tactic(auto, unfolding(xom_model::specs::Access::dropped))]
-    pub fn leave(&mut self, slot: u8, last: SlotState)
-        requires some { 1 ≤ slot }
-        requires known { slot ≤ 16 }
-        requires dead { is_live last ≡ false }
-        ensures core { self.new.core ≡ gone self.old.core slot last }
-        ensures room { self.new.spare ≡ self.old.spare }
-    {
-        let session = *self.table.session(slot);
-        self.cells.scrub(slot);
-        self.cache.drop_slot(slot);
-        self.pages.drop_slot(slot);
-        *self.table.session_mut(slot) = session.left(last);
-    }
-
     /// Stops the guest of a slot, 1 to 16, for good by a rule: no cell, no cached line and no page is
     /// left of it, and a Stop is recorded. Uses at most 100 bytes of spare.
+    #[tactic(auto, unfolding(xom_model::specs::Access::dropped))]
     pub fn stop(&mut self, slot: u8, rule: Rule)
         requires some { 1 ≤ slot }
         requires known { slot ≤ 16 }
@@ -101,8 +84,15 @@ impl<V: VersionStore> Core<V> {
         ensures core { self.new.core ≡ stopped self.old.core slot rule }
         ensures room { self.old.spare ≤ self.new.spare + 100 }
     {
-        let install = self.table.session(slot).install;
-        self.leave(slot, SlotState::Stopped(rule));
-        self.journal.push(&Entry::Stop { install, rule });
+        let session = *self.table.session(slot);
+        self.cells.scrub(slot);
+        self.cache.drop_slot(slot);
+        self.pages.drop_slot(slot);
+        *self.table.session_mut(slot) = session.left(SlotState::Stopped(rule));
+        let stop = Entry::Stop {
+            install: session.install,
+            rule,
+        };
+        self.journal.push(&stop);
     }
 }

@@ -1,6 +1,0 @@
-pub mod Runs
-pub mod ShortForms
-pub mod Replaced
-pub mod Texts
-pub mod Guests
-pub mod Sizes

@@ -1,8 +1,0 @@
-pub mod Sights
-pub mod Shows
-pub mod Guests
-pub mod Operations
-pub mod Sameness
-pub mod Next
-pub mod Premises
-pub mod WorkedRows
