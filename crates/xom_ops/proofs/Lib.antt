@@ -1,0 +1,4 @@
+pub mod Least
+pub mod Fitting
+pub mod Tested
+pub mod Moving
