@@ -105,14 +105,14 @@ ended_next (Stopped rule) n e more = refl
 ended_next Killed n e more = refl
 
 -- the line of the guest that takes the entry
-line_next : (m : ℕ) (g : Guest) (e : Entry) (more : List Entry) → m + 1 < 2 ^ 64 → IsCounted m g.watch → line_after (next_guest g e) more ≡ line_after g (e ∷ more)
+pub line_next : (m : ℕ) (g : Guest) (e : Entry) (more : List Entry) → m + 1 < 2 ^ 64 → IsCounted m g.watch → line_after (next_guest g e) more ≡ line_after g (e ∷ more)
 line_next m g e more small counted =
     same_at_both (λ v x. let line : GuestLine = record { install = g.install; slot = g.slot; id = g.id; verdict = v; end = x } in line)
     (watched_by m g.watch (step_in g.install e) (steps_of g.install more) small counted)
     (ended_next g.end g.install e more)
 
 -- an entry that tells nothing of an install
-abbrev IsOther : ℕ → Entry → Type 0
+abbrev pub IsOther : ℕ → Entry → Type 0
 IsOther n e = (step_in n e ≡ None) × (end_in n e ≡ None)
 
 ended_other : (x : GuestEnd) (n : ℕ) (e : Entry) (more : List Entry) → end_in n e ≡ None → end_after x n more ≡ end_after x n (e ∷ more)
@@ -172,7 +172,7 @@ counted_if : (b : Bool) (m : ℕ) (p : State) (n place : ℕ) → n ≤ m → Is
 counted_if true m p n place le = counted_in p.over m p n le
 counted_if false m p n place le = tt
 
-counted_by : (m : ℕ) (w : Watch) (found : Option Step) → IsCounted m w → IsCounted (m + 1) (watch_after w found)
+pub counted_by : (m : ℕ) (w : Watch) (found : Option Step) → IsCounted m w → IsCounted (m + 1) (watch_after w found)
 counted_by m w None counted = counted_more m w counted
 counted_by m NoOwner (Some step) counted = tt
 counted_by m (Departed place) (Some step) counted = tt
@@ -263,15 +263,15 @@ same_number : (n m : ℕ) → (n == m) ≡ true → n ≡ m
 same_number n m same = Prim.grind (arith)
 
 -- an entry of another install
-if_other : {A : Type 0} (j n : ℕ) (x : Option A) → (j ≡ n → ⊥) → (if n == j then x else None) ≡ None
+pub if_other : {A : Type 0} (j n : ℕ) (x : Option A) → (j ≡ n → ⊥) → (if n == j then x else None) ≡ None
 if_other j n x apart = ap (λ b. if b then x else None) (false_from_ne_true _ (λ same. apart (eqb_same n j same)))
 
 -- the verdict of a new install
-watched_of : (o : Option Owner) (steps : List Step) → verdict_after (watch_of o) steps ≡ verdict_by o steps
+pub watched_of : (o : Option Owner) (steps : List Step) → verdict_after (watch_of o) steps ≡ verdict_by o steps
 watched_of None steps = refl
 watched_of (Some owner) steps = refl
 
-counted_of : (m : ℕ) (o : Option Owner) → IsCounted m (watch_of o)
+pub counted_of : (m : ℕ) (o : Option Owner) → IsCounted m (watch_of o)
 counted_of m None = tt
 counted_of m (Some owner) = let z : 0 ≤ m = omega arith in z
 

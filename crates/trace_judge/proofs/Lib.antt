@@ -6,3 +6,4 @@ pub mod CollisionLaws
 pub mod ForgeryLaws
 pub mod GuestLaws
 pub mod JudgeLaws
+pub mod TableLaws

@@ -8,3 +8,4 @@ pub mod SealSearch
 pub mod GuestWatch
 pub mod Judging
 pub mod Suspicion
+pub mod Tables

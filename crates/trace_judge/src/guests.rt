@@ -93,7 +93,7 @@ impl Guest {
     ghost use Rattle.trace_judge.specs.GuestWatch.{new_guest};
 
     /// An install before its first step. Makes its plain machine, where it has an owner.
-    fn new(
+    pub fn new(
         alloc: Global,
         owners: &OwnerList,
         install: u64,
@@ -119,7 +119,7 @@ impl Guest {
     }
 
     /// Takes the next entry. Wants no memory.
-    fn take(self, entry: &Entry) -> Guest
+    pub fn take(self, entry: &Entry) -> Guest
         ensures { result ≡ next_guest self entry.now }
     {
         let Guest {
@@ -143,7 +143,7 @@ impl Guest {
     }
 
     /// The line of the report.
-    fn line(&self) -> GuestLine
+    pub fn line(&self) -> GuestLine
         ensures { result ≡ line_after self.now [] }
     {
         GuestLine {

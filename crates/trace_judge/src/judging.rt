@@ -19,7 +19,8 @@ struct Findings {
 
 /// Judges a journal by the owners' programs, which were sealed for the machine of this key. Takes any
 /// journal. One that keeps the rule of install numbers costs constant time an entry, beside a
-/// look-up among earlier Seals or Hashes; another one is gone over once for each install.
+/// look-up among earlier Seals or Hashes; another one is gone over twice for each owner, and costs a look-up
+/// among its installs for each entry.
 pub fn judge(
     alloc: Global,
     machine: &Key256,

@@ -14,6 +14,7 @@ mod judging;
 mod laws;
 mod listed;
 mod names;
+mod numbered;
 mod quiet;
 mod report;
 mod sealings;
@@ -21,6 +22,7 @@ mod searches;
 mod steps;
 mod stream;
 mod suspicion;
+mod tables;
 mod text;
 
 pub use judging::judge;
