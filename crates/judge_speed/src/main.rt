@@ -2,8 +2,8 @@
 //! hash and three steps that follow; `steps N` steps alone; `owned N` accepts of lines that the owner
 //! sealed; `installs N` so many installs and kills of a guest of one line. `sealings N` seals so many lines and
 //! judges none: the cryptography of `owned`. `journals N` makes a journal of mixed entries, `judged N` judges it
-//! in one call, `texts N` prints it, and `lines N` reads that text again; `strays N` judges so many installs of
-//! one number, each behind a step of it. The benchmark of judging times them.
+//! in one call, `texts N` prints it, and `lines N` reads that text again. `strays N` judges steps and installs
+//! of one number in turn, and `skips N` those of the numbers from 2 on. The benchmark of judging times them.
 #![tactic(auto)]
 
 use journal_text::{print_journal, read_journal};
@@ -42,6 +42,7 @@ enum Work {
     Texts,
     Lines,
     Strays,
+    Skips,
 }
 
 fn main(rt: HostRuntime) -> io::Result<ExitCode> {
@@ -79,6 +80,7 @@ fn work_of(word: &str) -> Option<Work> {
         "texts" => Some(Work::Texts),
         "lines" => Some(Work::Lines),
         "strays" => Some(Work::Strays),
+        "skips" => Some(Work::Skips),
         _ => None,
     }
 }
@@ -89,7 +91,7 @@ fn done(alloc: Global, work: Work, count: u64) -> Result<u64, NoMemory> {
         Work::Sealings => Ok(sealed(count)),
         Work::Journals => Ok(journal(alloc, Work::Mixed, count)?.len()),
         Work::Judged => judged(alloc, Work::Mixed, count),
-        Work::Strays => judged(alloc, Work::Strays, count),
+        Work::Strays | Work::Skips => judged(alloc, work, count),
         Work::Texts => Ok(text(alloc, count)?.len() as u64),
         Work::Lines => entries_read(alloc, &text(alloc, count)?),
         _ => lines_of_report(alloc, work, count),
@@ -185,6 +187,8 @@ fn entry(work: Work, i: u64, accept: &Entry) -> Entry {
         Work::Installs => Entry::Kill { install: i / 2 + 1 },
         Work::Strays if i % 2 == 0 => step(i / 2),
         Work::Strays => install(1),
+        Work::Skips if i % 2 == 0 => step_of(i / 2 + 2, 0),
+        Work::Skips => install(i / 2 + 2),
         _ if i == 0 => install(1),
         Work::Steps => step(i - 1),
         Work::Owned => *accept,
@@ -203,8 +207,13 @@ fn install(install: u64) -> Entry {
     }
 }
 
-/// The step at a place of the loop's run.
+/// The step of install 1 at a place of the loop's run.
 fn step(i: u64) -> Entry {
+    step_of(1, i)
+}
+
+/// The step of an install at a place of the loop's run.
+fn step_of(install: u64, i: u64) -> Entry {
     let (pc, npc, writes) = match i % 3 {
         0 => (0, 4, Writes::One { reg: 8, value: 7 }),
         1 => (4, 8, Writes::Nothing),
@@ -219,7 +228,7 @@ fn step(i: u64) -> Entry {
         released: Released::Nothing,
         end: StepEnd::Goes,
     };
-    Entry::Step { install: 1, step }
+    Entry::Step { install, step }
 }
 
 /// An accept of the loop's line.

@@ -87,7 +87,7 @@ never_exit ends.Exit is = let e : Some Ended ≡ Some Running = is in cc
 never_exit ends.Goes is = let e : None ≡ Some Running = is in cc
 never_exit (ends.Call n) is = let e : None ≡ Some Running = is in cc
 
-never_running : (n : ℕ) (e : Entry) → end_in n e ≡ Some Running → ⊥
+pub never_running : (n : ℕ) (e : Entry) → end_in n e ≡ Some Running → ⊥
 never_running n (entry.Step m step) is = never_if (m == n) (exit_of step.end) (never_exit step.end) is
 never_running n (entry.Stop m rule) is = never_if (m == n) (Some (Stopped rule)) (λ x. let e : Some (Stopped rule) ≡ Some Running = x in cc) is
 never_running n (entry.Kill m) is = never_if (m == n) (Some Killed) (λ x. let e : Some Killed ≡ Some Running = x in cc) is

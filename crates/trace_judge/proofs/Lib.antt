@@ -6,3 +6,5 @@ pub mod CollisionLaws
 pub mod ForgeryLaws
 pub mod GuestLaws
 pub mod JudgeLaws
+pub mod TrailLaws
+pub mod VerdictLaws

@@ -6,5 +6,7 @@ pub mod Maps
 pub mod HashSearch
 pub mod SealSearch
 pub mod GuestWatch
+pub mod Trails
+pub mod Verdicts
 pub mod Judging
 pub mod Suspicion

@@ -157,7 +157,7 @@ impl Guest {
 }
 
 /// The end after an entry.
-fn next_end(end: GuestEnd, install: u64, entry: &Entry) -> GuestEnd
+pub fn next_end(end: GuestEnd, install: u64, entry: &Entry) -> GuestEnd
     ensures { result ≡ end_after_of end install entry.now }
 {
     match end {

@@ -19,7 +19,9 @@ struct Findings {
 
 /// Judges a journal by the owners' programs, which were sealed for the machine of this key. Takes any
 /// journal. One that keeps the rule of install numbers costs constant time an entry, beside a
-/// look-up among earlier Seals or Hashes; another one is gone over once for each install.
+/// look-up among earlier Seals or Hashes. Another one is copied, and costs a look-up among its install
+/// numbers an entry besides; where a number is installed several times, its steps are followed once for
+/// each owner's id among those Installs.
 pub fn judge(
     alloc: Global,
     machine: &Key256,

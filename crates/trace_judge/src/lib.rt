@@ -22,6 +22,8 @@ mod steps;
 mod stream;
 mod suspicion;
 mod text;
+mod trails;
+mod verdicts;
 
 pub use judging::judge;
 pub use laws::runs_are_followed;

@@ -1,0 +1,7 @@
+-- The trails tell of the entries so far.
+use Rattle.std.proofs.Common.{◌≡◌, ℕ, take}
+use Rattle.trace_judge.specs.Trails.{told, told_of}
+use Rattle.trace_judge.proofs.trails.trails_of.Given as goal
+
+abbrev pub invariant-loop-entry : goal.invariant-loop-entry
+invariant-loop-entry l = (n : ℕ) → told l.trails n ≡ told_of (take l.entry-index l.entries) n
