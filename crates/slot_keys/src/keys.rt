@@ -3,7 +3,7 @@ ghost use Rattle.slot_keys.specs.GuestKeys.{keys_of_install, no_keys, with_regis
 ghost use Rattle.xom_seal.specs.Keys.{register_keys as register_keys_of};
 
 use std::marker::Model;
-use xom_base::{ImageId, Key256};
+use xom_base::{ImageId, Key128, Key256};
 use xom_seal::{LineSealer, RegisterSealer, image_keys, register_keys, run_keys};
 
 /// The keys of a guest, made ready for any number of lines and registers. They are seen as the keys.
@@ -13,6 +13,7 @@ pub struct SlotKeys {
     run: LineSealer,
     registers: RegisterSealer,
     run_tag: Key256,
+    registers_tag: Key128,
 }
 
 impl Model for SlotKeys {
@@ -23,8 +24,8 @@ impl Model for SlotKeys {
 
     ghost view = { λ s. record { image = s.image; run = s.run; registers = s.registers } };
 
-    // The tag key of the install's lines stands beside the sealer, which doesn't give it back.
-    ghost invariant = { λ s. s.run_tag ≡ s.run.tag };
+    // The tag keys stand beside the sealers, which don't give them back.
+    ghost invariant = { λ s. (s.run_tag ≡ s.run.tag) × (s.registers_tag ≡ s.registers.tag) };
 }
 
 impl SlotKeys {
@@ -34,11 +35,13 @@ impl SlotKeys {
         ensures { result ≡ keys_of_install key.now id.now boot install 0 }
     {
         let run = run_keys(key, boot, install);
+        let registers = register_keys(key, boot, install, 0);
         SlotKeys {
             image: LineSealer::new(&image_keys(key, id)),
             run: LineSealer::new(&run),
-            registers: RegisterSealer::new(&register_keys(key, boot, install, 0)),
+            registers: RegisterSealer::new(&registers),
             run_tag: run.tag,
+            registers_tag: registers.tag,
         }
     }
 
@@ -53,7 +56,9 @@ impl SlotKeys {
     pub fn renew(&mut self, key: &Key256, boot: u64, install: u64, epoch: u64)
         ensures { self.new ≡ with_registers self.old (register_keys_of key.now boot install epoch) }
     {
-        self.registers = RegisterSealer::new(&register_keys(key, boot, install, epoch));
+        let registers = register_keys(key, boot, install, epoch);
+        self.registers = RegisterSealer::new(&registers);
+        self.registers_tag = registers.tag;
     }
 
     /// The keys of the image's lines.
@@ -82,5 +87,12 @@ impl SlotKeys {
         ensures { result.now ≡ self.now.registers }
     {
         &self.registers
+    }
+
+    /// The tag key among them, as the journal names it.
+    pub fn registers_tag(&self) -> &Key128
+        ensures { result.now ≡ self.now.registers.tag }
+    {
+        &self.registers_tag
     }
 }

@@ -69,6 +69,58 @@ module _ (v : Versions) (core : CoreState) (way : Way) where
   ways_stay false none = refl
   ways_stay true none = ways_sealed (v.answer_of_raise (store_of core way.slot) way.line core.ram) none
 
+-- ---- One part after another
+
+then_rest : (first : CoreState × Option Rule) (rest : CoreState → CoreState × Option Rule) → first.1 ≡ None → and_then first rest ≡ rest first.0
+then_rest (core, None) rest none = refl
+then_rest (core, Some why) rest none = absurd (cc)
+
+then_ends : (first : CoreState × Option Rule) (rest : CoreState → CoreState × Option Rule) (why : Rule) → first.1 ≡ Some why → and_then first rest ≡ first
+then_ends (core, None) rest why is = absurd (cc)
+then_ends (core, Some other) rest why is = refl
+
+-- where no rule is told, every part came to its end
+no_rule_first : (first : CoreState × Option Rule) (rest : CoreState → CoreState × Option Rule) → (and_then first rest).1 ≡ None → first.1 ≡ None
+no_rule_first (core, None) rest none = refl
+no_rule_first (core, Some why) rest none = absurd (cc)
+
+-- ---- Pages that stay
+
+taken_pages : (place : ℕ) (first : CoreState × Option Rule) → (taken place first).1 ≡ None → (first.1 ≡ None) × ((taken place first).0.pages ≡ first.0.pages)
+taken_pages place (core, None) none = (refl, refl)
+taken_pages place (core, Some why) none = absurd (cc)
+
+module _ (v : Versions) where
+  pages_sealed : (core : CoreState) (way : Way) (answer : Result ℕ Torn) → (or_stopped v way.slot (sealed_by_raise v (raising v core way.slot way.line) way.slot way.line way.bytes answer)).1 ≡ None
+      → (or_stopped v way.slot (sealed_by_raise v (raising v core way.slot way.line) way.slot way.line way.bytes answer)).0.pages ≡ core.pages
+  unfolding raising sealing
+  pages_sealed core way (Ok version) none = refl
+  pages_sealed core way (Err torn) none = absurd (cc)
+
+  cleared_pages : (core : CoreState) (way : Way) (dirty : Bool) → (cleared v core way dirty).1 ≡ None → (cleared v core way dirty).0.pages ≡ core.pages
+  cleared_pages core way false none = refl
+  cleared_pages core way true none = pages_sealed core way (v.answer_of_raise (store_of core way.slot) way.line core.ram) none
+
+  taken_out_pages : (core : CoreState) (at : Option ℕ) → (taken_out v core at).1 ≡ None → (taken_out v core at).0.pages ≡ core.pages
+  unfolding cleared_at
+  taken_out_pages core None none = refl
+  taken_out_pages core (Some place) none =
+      let ended = taken_pages place (cleared_at v core place) none in
+      ended.1 ∙ cleared_pages core (way_at core.ways place) (way_at core.ways place).dirty ended.0
+
+  -- a flush that tells no rule leaves all pages
+  pub flushed_pages : (slot count line : ℕ) (core : CoreState) → (flushed v slot count line core).1 ≡ None → (flushed v slot count line core).0.pages ≡ core.pages
+  unfolding flushed
+  flushed_pages slot zero line core none = refl
+  flushed_pages slot (suc count) line core none =
+      let first : CoreState × Option Rule = taken_out v core (found core.ways slot line) in
+      let rest : CoreState → CoreState × Option Rule = flushed v slot count (line + 1) in
+      let ended : first.1 ≡ None = no_rule_first first rest none in
+      let whole : and_then first rest ≡ rest first.0 = then_rest first rest ended in
+      ap (λ (r : CoreState × Option Rule). r.0.pages) whole
+      ∙ flushed_pages slot count (line + 1) first.0 (sym (ap (λ (r : CoreState × Option Rule). r.1) whole) ∙ none)
+      ∙ taken_out_pages core (found core.ways slot line) ended
+
 -- ---- Lines that aren't cached
 
 -- no line from one on to another is cached
@@ -103,14 +155,6 @@ none_of_page v slot page core none = none_left v slot page core (λ line low hig
 not_found : (ways : List Way) (at : Option ℕ) → way_found ways at ≡ None → at ≡ None
 not_found ways None none = refl
 not_found ways (Some place) none = absurd (cc)
-
-then_rest : (first : CoreState × Option Rule) (rest : CoreState → CoreState × Option Rule) → first.1 ≡ None → and_then first rest ≡ rest first.0
-then_rest (core, None) rest none = refl
-then_rest (core, Some why) rest none = absurd (cc)
-
-then_ends : (first : CoreState × Option Rule) (rest : CoreState → CoreState × Option Rule) (why : Rule) → first.1 ≡ Some why → and_then first rest ≡ first
-then_ends (core, None) rest why is = absurd (cc)
-then_ends (core, Some other) rest why is = refl
 
 -- the flush of the page has come so far: no line of the page before this one is left, and the rest is flushed to the same end
 pub record Reached (v : Versions) (slot page count : ℕ) (start core : CoreState) : Type 0 where
@@ -195,9 +239,23 @@ module _ (v : Versions) (slot page count : ℕ) (start core : CoreState) (reache
   pub reached_none : (new : CoreState) → new ≡ core → HasNoLine core.ways slot page → (new, None) ≡ flushed v slot 128 (128 * page) start
   reached_none new new_is none = ap (λ c. (c, None)) new_is ∙ sym (none_of_page v slot page core none) ∙ reached.same
 
+  -- no line of the page is left where all were looked for
+  pub reached_gone : count ≡ 128 → HasNoLine core.ways slot page
+  reached_gone all line of = reached.gone line (omega arith) (omega arith)
+
   -- where all lines were looked for
   pub reached_end : count ≡ 128 → (core, None) ≡ flushed v slot 128 (128 * page) start
   reached_end all = sym (none_left v slot page core (λ line low high. reached.gone line low (omega arith))) ∙ reached.same
+
+-- no line of the page is cached in a core that is the same
+pub none_there : (slot page : ℕ) (core new : CoreState) → new ≡ core → HasNoLine core.ways slot page → HasNoLine new.ways slot page
+none_there slot page core new same none = subst (λ (c : CoreState). HasNoLine c.ways slot page) (sym same) none
+
+-- pages stay where the flush came to its end
+pub pages_left : (v : Versions) (slot page : ℕ) (start new : CoreState) → (new, None) ≡ flushed v slot 128 (128 * page) start → new.pages ≡ start.pages
+pages_left v slot page start new is =
+    ap (λ (r : CoreState × Option Rule). r.0.pages) is
+    ∙ flushed_pages v slot 128 (128 * page) start (sym (ap (λ (r : CoreState × Option Rule). r.1) is))
 
 -- the rule that an answer has is the one that it tells
 pub rule_told : (result : Result Unit Rule) (why : Rule) → IsErrAnd result (λ e. e ≡ why) → rule_in result ≡ Some why

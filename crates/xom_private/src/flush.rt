@@ -56,6 +56,8 @@ impl<V: VersionStore> Core<V> {
         ensures core { self.new.core ≡ (flushed V.versions slot frame_lines (frame_lines * page) self.old.core).0 }
         ensures rule { rule_in result ≡ (flushed V.versions slot frame_lines (frame_lines * page) self.old.core).1 }
         ensures room { self.old.spare ≤ self.new.spare + 650000 }
+        ensures pages { OnOk result (self.new.core.pages ≡ self.old.core.pages) }
+        ensures gone { OnOk result (HasNoLine self.new.core.ways slot page) }
     {
         for _line in 0..128u32 {
             let Some(victim) = self.take_out(slot, page) else {

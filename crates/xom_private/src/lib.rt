@@ -11,5 +11,5 @@ mod place;
 mod stores;
 mod write;
 
-pub use parts::Core;
+pub use parts::{Core, EVENT_ROOM};
 pub use stores::StoreList;

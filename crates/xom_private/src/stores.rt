@@ -1,5 +1,6 @@
 ghost use Rattle.std.specs.Prelude.{◌≡◌, ◌≤◌, ◌<◌, ◌+◌, IfOk, slice_set};
-ghost use Rattle.xom_versions.specs.Store.{HoldsArea, line_limit, raise_room, version_room};
+ghost use Rattle.line_ram.specs.Bytes.{HoldsRange};
+ghost use Rattle.xom_versions.specs.Store.{HoldsArea, area_size, build_room, line_limit, raise_room, version_room};
 ghost use Rattle.xom_versions.specs.Versions.{with_hashes};
 ghost use Rattle.xom_private.specs.Cores.{blank_stores, store_at};
 
@@ -38,6 +39,30 @@ impl<V: VersionStore> StoreList<V> {
             slots.push(V::blank(alloc)?)?;
         }
         Ok(StoreList { slots })
+    }
+
+    /// Sets the versions of the new guest of a slot, 1 to 16, whose image has so many lines. A store in
+    /// RAM takes the area of 411,904 bytes at this address for itself.
+    pub fn build(
+        &mut self,
+        slot: u8,
+        area: u32,
+        lines: u32,
+        ram: &mut LineRam,
+        journal: &mut Journal,
+    )
+        requires some { 1 ≤ slot }
+        requires known { slot ≤ 16 }
+        requires area { HoldsRange ram.old area area_size }
+        requires lines { lines ≤ line_limit }
+        requires room { build_room ≤ journal.old.spare }
+        ensures stores { self.new ≡ slice_set self.old slot (V.versions.store_after_build area lines ram.old) }
+        ensures ram { ram.new ≡ V.versions.ram_after_build area lines ram.old }
+        ensures entries { journal.new.entries
+            ≡ with_hashes journal.old.entries (V.versions.texts_of_build area lines ram.old) }
+        ensures spare { journal.old.spare ≤ journal.new.spare + build_room }
+    {
+        self.slots[usize::from(slot) - 1].build(area, lines, ram, journal);
     }
 
     /// The version of a line of a slot, 1 to 16.
