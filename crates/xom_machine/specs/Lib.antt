@@ -1,0 +1,4 @@
+pub mod Whole
+pub mod Shown
+pub mod Kept
+pub mod Runs
