@@ -1,0 +1,11 @@
+pub mod PlainBytes
+pub mod ShortEffects
+pub mod RuledSteps
+pub mod RuledParts
+pub mod RuledAccess
+pub mod RuledGuest
+pub mod RuledOperations
+pub mod RuledNull
+pub mod RuledEvents
+pub mod RuledRuns
+pub mod KernelRuns

@@ -1,0 +1,2 @@
+pub mod RulesOfRecord
+pub mod RulesKept
