@@ -12,4 +12,4 @@ writes text name bytes = record { text = text; file = Some (record { name = name
 
 -- a command that was carried out ends so
 abbrev pub IsDone : ℕ → Type 0
-IsDone status = (status ≡ 0) ⊎ (status ≡ 6) ⊎ (status ≡ 8) ⊎ (status ≡ 9)
+IsDone status = (status ≡ 0) ⊎ (status ≡ 6) ⊎ (status ≡ 7) ⊎ (status ≡ 8) ⊎ (status ≡ 9)

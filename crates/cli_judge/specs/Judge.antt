@@ -1,14 +1,10 @@
 -- `judge RUN JOURNAL`: what a journal shows of its guests, judged by the owners of a run file.
-use Rattle.std.specs.Prelude.{ℕ, List, [], ◌∷◌, None, Result, Ok, if◌then◌else◌}
+use Rattle.std.specs.Prelude.{ℕ, List, None, Result, Ok, if◌then◌else◌}
 use Rattle.std.specs.List.{list_any}
 use Rattle.xom_base.specs.Lines.{lines_of, made_of, read_from}
 use Rattle.xom_base.specs.declared.entry.Entry.{Entry}
-use Rattle.xom_base.specs.declared.image.PlainImage.{PlainImage}
 use Rattle.xom_base.specs.declared.key.Key256.{Key256}
 use Rattle.xom_owners.specs.declared.owner.Owner.{Owner}
-use Rattle.xom_script.specs.RunFiles.{run_file_at}
-use Rattle.xom_script.specs.declared.run_file.OwnerFile.{OwnerFile}
-use Rattle.xom_script.specs.declared.run_file.RunFile.{RunFile}
 use Rattle.journal_text.specs.JournalLines.{journal_step}
 use Rattle.journal_text.specs.Readings.{entries_alone}
 use Rattle.trace_judge.specs.declared.report.Report.{Report}
@@ -17,32 +13,15 @@ use Rattle.trace_judge.specs.ReportText.{report_text}
 use Rattle.trace_judge.specs.Suspicion.{is_stop, is_suspect}
 use Rattle.cli_base.specs.declared.answer.Answer.{Answer}
 use Rattle.cli_base.specs.declared.refusal.Refusal.{Refusal}
-use Rattle.cli_base.specs.Inputs.{◌>>=◌, Held, image_of, in_lines, input_of}
+use Rattle.cli_base.specs.Inputs.{◌>>=◌, Held, in_lines, input_of}
+use Rattle.cli_runs.specs.OwnerImages.{owners_of}
+use Rattle.cli_runs.specs.RunFiles.{run_file_of}
 
 -- ---- What is read
 
--- at most so many bytes are in a run file and in a journal
-abbrev pub run_limit : ℕ
-run_limit = 65536
-
+-- at most so many bytes are in a journal
 abbrev pub journal_limit : ℕ
 journal_limit = 268435456
-
--- a run file, by all of its lines
-unfoldable pub run_file_of : Held → List ℕ → Result RunFile Refusal
-run_file_of = input_of run_limit (λ text. in_lines (run_file_at text))
-
--- the owner of a line, with the image that the named file holds
-abbrev pub owner_with : OwnerFile → PlainImage → Owner
-owner_with line image = record { plain = image; key = line.key; id = line.id }
-
--- the owners of these lines in their order, whose images are read one after the other
-abbrev pub owners_of : Held → List OwnerFile → Result (List Owner) Refusal
-owners_of held [] = Ok []
-owners_of held (line ∷ lines) = do
-  image ← image_of held line.plain
-  owners ← owners_of held lines
-  Ok (owner_with line image ∷ owners)
 
 -- the entries of a journal's text, or the number of its first bad line
 abbrev pub entries_at : List ℕ → Result (List Entry) ℕ

@@ -6,8 +6,8 @@ ghost use Rattle.cli_judge.specs.Hearings.{judged_at};
 ghost use Rattle.cli_judge.specs.Judge.{journal_limit, judge_of};
 
 use crate::hearing::Hearing;
-use crate::reading::{owners, run_file};
 use cli_base::{Answer, InputFault, InputStop, Stop, fetch, of_file};
+use cli_runs::{owners, run_file};
 use journal_text::{BadLine, LineReader};
 use std::alloc::Global;
 use xom_base::{Key256, first_line};

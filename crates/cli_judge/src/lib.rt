@@ -5,6 +5,5 @@
 mod hearing;
 pub mod judge;
 mod law;
-mod reading;
 
 pub use law::{rows_may_stand, texts_are_read};

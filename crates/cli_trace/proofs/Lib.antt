@@ -1,7 +1,6 @@
-pub mod Building
-pub mod Runnable
+pub mod Joined
 pub mod Told
+pub mod Runnable
 pub mod Headline
 pub mod Statuses
-pub mod Stopped
 pub mod Places

@@ -3,9 +3,10 @@ use Rattle.std.specs.Prelude.{ℕ, List, None, Result, Ok}
 use Rattle.cli_base.specs.declared.answer.Answer.{Answer}
 use Rattle.cli_base.specs.declared.refusal.Refusal.{Refusal}
 use Rattle.cli_base.specs.Inputs.{◌>>=◌, Held}
-use Rattle.cli_trace.specs.declared.trace.Parts.{Parts}
+use Rattle.cli_runs.specs.declared.parts.Parts.{Parts}
+use Rattle.cli_runs.specs.Parts.{parts_of}
 use Rattle.cli_trace.specs.Console.{console_of}
-use Rattle.cli_trace.specs.Trace.{last_record, parts_of, report_of, trace_status}
+use Rattle.cli_trace.specs.Trace.{last_record, report_of, trace_status}
 
 -- the console alone, with the status of the trace
 unfoldable pub console_run : Parts → Answer

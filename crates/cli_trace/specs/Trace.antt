@@ -1,88 +1,108 @@
 -- `trace RUN` and `trace RUN JOURNAL`: the run that a run file tells, and the judgement of the journal that it made.
-use Rattle.std.specs.Prelude.{◌≡◌, ℕ, ◌^◌, ◌≤◌, ◌⊎◌, Bool, true, false, List, [], ◌∷◌, ◌++◌, All, Option, Some, None, Result, Ok, codes, unwrap_or, is_some, if◌then◌else◌}
+use Rattle.std.specs.Prelude.{◌≡◌, ℕ, ◌⊎◌, Bool, true, false, List, ◌++◌, Option, Some, None, Result, Ok, codes, unwrap_or, is_some, if◌then◌else◌}
 use Rattle.std.specs.Fmt.{decimal}
 use Rattle.std.specs.List.{list_any}
 use Rattle.xom_base.specs.declared.entry.Entry.{Entry}
-use Rattle.xom_base.specs.declared.event.Op.{Op}
-use Rattle.xom_base.specs.declared.schedule.Interrupts.{Interrupts}
-use Rattle.xom_owners.specs.declared.owner.Owner.{Owner}
-use Rattle.mips_plain.specs.declared.verdict.Verdict.TheVariants.{Follows}
+use Rattle.xom_base.specs.declared.image.PlainImage.{PlainImage}
+use Rattle.text_pieces.specs.Pieces.{hex8}
 use Rattle.trace_judge.specs.declared.report.Report.{Report}
 use Rattle.trace_judge.specs.Judgement.{judgement}
 use Rattle.trace_judge.specs.ReportText.{report_text}
 use Rattle.trace_judge.specs.Suspicion.{is_stop, is_suspect}
-use Rattle.lone_model.specs.State.{Record, power_on}
-use Rattle.lone_model.specs.Install.{given}
-use Rattle.lone_model.specs.Run.{IsSchedule, run_from}
-use Rattle.script_kernel.specs.Turns.{is_built, ops_of, script_told}
+use Rattle.xom_versions.specs.Chip.{chip}
+use Rattle.xom_model.specs.declared.outcome.NullFault.{NullFault}
+use Rattle.xom_model.specs.declared.outcome.NullFault.TheVariants as null
+use Rattle.xom_model.specs.declared.outcome.Turn.{Turn}
+use Rattle.xom_model.specs.Run.{run_from}
+use Rattle.xom_model.specs.Seen.{View}
+use Rattle.xom_model.specs.State.{Record}
+use Rattle.power_on.specs.Start.{first_record}
+use Rattle.kernels.specs.Turns.{image_told, script_told}
 use Rattle.journal_text.specs.JournalTexts.{journal_text}
 use Rattle.cli_base.specs.declared.answer.Answer.{Answer}
 use Rattle.cli_base.specs.declared.answer.OutputFile.{OutputFile}
-use Rattle.cli_trace.specs.declared.trace.Parts.{Parts}
 use Rattle.cli_base.specs.declared.refusal.Refusal.{Refusal}
-use Rattle.cli_base.specs.Inputs.{◌>>=◌, Held, image_of}
+use Rattle.cli_base.specs.Inputs.{◌>>=◌, Held}
+use Rattle.xom_script.specs.declared.run_file.RunFile.{RunFile}
+use Rattle.cli_runs.specs.declared.guest_image.GuestImage.{GuestImage}
+use Rattle.cli_runs.specs.declared.kernel_file.KernelFile.{KernelFile}
+use Rattle.cli_runs.specs.declared.kernel_file.KernelFile.TheVariants as kernel
+use Rattle.cli_runs.specs.declared.parts.Parts.{Parts}
+use Rattle.cli_runs.specs.Parts.{parts_of}
+use Rattle.headline_law.specs.Headline.{IsJudgedWell}
+use Rattle.xom_io.specs.Answers.{Told}
 use Rattle.cli_trace.specs.Console.{console_lines, console_of}
-use Rattle.cli_trace.specs.Inputs.{run_file_of, script_of}
-use Rattle.cli_trace.specs.declared.lone_run.LoneRun.{LoneRun}
-
--- ---- What is read
-
--- the run file, then the image of its owner, which its guest names again, then the script of its kernel
-unfoldable pub parts_of : Held → List ℕ → Result Parts Refusal
-parts_of held run = do
-  file ← run_file_of held run
-  image ← image_of held file.owner.plain
-  script ← script_of held file.kernel
-  Ok (record { file = file; image = image; script = script })
 
 -- ---- What is run and judged
 
--- the owner of the guest
-abbrev pub owner_in : Parts → Owner
-owner_in parts = record { plain = parts.image; key = parts.file.owner.key; id = parts.file.owner.id }
+-- the image of a kernel that is code
+abbrev pub code_of : KernelFile → Option PlainImage
+code_of (kernel.Script script) = None
+code_of (kernel.Image image) = Some image
 
--- the machine with the owner's guest, before its first event
-abbrev pub first_of : Owner → Record
-first_of owner = given power_on owner.id owner.key owner.plain
+-- the machine before its first event, with the kernel and these guests in RAM
+abbrev pub first_of : RunFile → List GuestImage → KernelFile → Record
+first_of file guests k = first_record chip file.machine file.boot file.frames (code_of k) guests
 
--- the machine after the run of these operations, under this interrupt line, within so many events
-unfoldable pub last_of : Owner → Interrupts → ℕ → List Op → Record
-last_of owner line budget ops = unwrap_or (run_from script_told line budget 0 (first_of owner) ops) (first_of owner)
+-- the machine after the run of a kernel that tells its turns, under the schedule and within the budget of a run file
+abbrev pub last_under : {K : Type 0} → (K → View → Option (Turn × (List ℕ × K))) → K → RunFile → Record → Record
+last_under told k file first = unwrap_or (run_from chip told file.schedule file.budget 0 first k) first
 
-abbrev pub last_record : Parts → Record
-last_record parts = last_of (owner_in parts) parts.file.schedule.interrupts parts.file.budget (ops_of parts.script.lines)
+abbrev pub last_by : RunFile → List GuestImage → KernelFile → Record
+last_by file guests (kernel.Script script) = last_under script_told script.lines file (first_of file guests (kernel.Script script))
+last_by file guests (kernel.Image image) = last_under image_told tt file (first_of file guests (kernel.Image image))
 
--- a run can be made of a run file: its schedule keeps the rules, without writes of the bus, and its
--- budget is small
-pub record IsRunnable (file : LoneRun) : Type 0 where
-  pub schedule : IsSchedule file.schedule.interrupts
-  pub pokes : file.schedule.pokes ≡ []
-  pub budget : file.budget ≤ 2 ^ 20
+unfoldable pub last_record : Parts → Record
+last_record parts = last_by parts.file parts.guests parts.kernel
 
--- and of all its parts: its kernel has each line of the script
-pub record CanRun (parts : Parts) : Type 0 where
-  pub file : IsRunnable parts.file
-  pub script : is_built parts.script ≡ true
-
--- the judgement of its journal, by the machine key of the run file
+-- the judgement of its journal, by the machine key and the owners of the run file
 abbrev pub report_of : Parts → Report
-report_of parts = judgement parts.file.machine (owner_in parts ∷ []) (last_record parts).core.entries
+report_of parts = judgement parts.file.machine parts.owners (last_record parts).core.entries
 
 -- ---- What is printed
 
-abbrev pub ending_text : Bool → List ℕ
-ending_text true = codes " halted\n"
-ending_text false = codes " budget\n"
+abbrev pub fault_word : NullFault → List ℕ
+fault_word null.Reserved = codes "Reserved"
+fault_word null.Overflow = codes "Overflow"
+fault_word null.Address = codes "Address"
+fault_word null.Break = codes "Break"
+fault_word null.Call = codes "Call"
+
+-- the end of a line that tells of a fault
+abbrev pub kind_text : NullFault → List ℕ
+kind_text why = codes " " ++ (fault_word why ++ codes "\n")
+
+-- the line's end for a fault of the null instruction at an address
+abbrev pub fault_text : ℕ → NullFault → List ℕ
+fault_text at why = codes " kernel fault at " ++ (hex8 at ++ kind_text why)
+
+-- how a run ended: by Halt, by a fault of the null instruction at an address, or since the budget was reached
+abbrev pub stop_text : Option (ℕ × NullFault) → List ℕ
+stop_text None = codes " halted\n"
+stop_text (Some (at, why)) = fault_text at why
+
+abbrev pub ending_text : Bool → Option (ℕ × NullFault) → List ℕ
+ending_text true fault = stop_text fault
+ending_text false fault = codes " budget\n"
 
 -- how many events there were, and how the run ended
 abbrev pub events_line : Record → List ℕ
-events_line r = codes "events " ++ (decimal r.events ++ ending_text r.halted)
+events_line r = codes "events " ++ (decimal r.events ++ ending_text r.halted r.fault)
 
 -- ---- What is answered
 
--- the first of these that holds: the report is suspect, a guest was stopped, the budget was reached before the kernel halted
+-- 0 where the kernel halted, 7 where it faulted, 6 where the budget was reached before
+abbrev pub stop_status : Option (ℕ × NullFault) → ℕ
+stop_status None = 0
+stop_status (Some fault) = 7
+
+abbrev pub ending_status : Bool → Option (ℕ × NullFault) → ℕ
+ending_status true fault = stop_status fault
+ending_status false fault = 6
+
+-- the first of these that holds: the report is suspect, a guest was stopped, the run ended by a fault or by its budget
 abbrev pub trace_status : Report → Record → ℕ
-trace_status report r = if is_suspect report then 9 else (if list_any is_stop r.core.entries then 8 else (if r.halted then 0 else 6))
+trace_status report r = if is_suspect report then 9 else (if list_any is_stop r.core.entries then 8 else ending_status r.halted r.fault)
 
 -- the console in whole lines, the report, and the line on events
 abbrev pub trace_text : Report → Record → List ℕ
@@ -107,12 +127,16 @@ trace_of held run journal = do
   parts ← parts_of held run
   Ok (traced journal parts)
 
+-- ---- The headline
+
 -- the report names a forged entry or a collision
 abbrev pub NamesFinding : Report → Type 0
 NamesFinding report = (is_some report.forged ≡ true) ⊎ (is_some report.collision ≡ true)
 
--- ---- The headline
+-- The owners' claim: unless the report names a forged entry or a collision, the guest of each of its lines follows: none departs, and each has an owner.
+abbrev pub GuestsFollow : Parts → Type 0
+GuestsFollow parts = IsJudgedWell parts.file.machine parts.owners (last_record parts).core.entries
 
--- the guest of each line follows: none departs, and each has an owner
-abbrev pub AllFollow : Report → Type 0
-AllFollow report = All (λ line. (steps : ℕ) × (line.verdict ≡ Follows steps)) report.guests
+-- so it is of the run that this run file tells, where files tell what they hold
+abbrev pub RunFollows : Told → List ℕ → Type 0
+RunFollows told run = (held : Held) → told ≡ Some held → (parts : Parts) → parts_of held run ≡ Ok parts → GuestsFollow parts

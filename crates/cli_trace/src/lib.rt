@@ -4,7 +4,6 @@
 #![tactic(auto)]
 
 mod console;
-mod lone_run;
-mod reading;
+mod made;
 pub mod run;
 pub mod trace;

@@ -1,12 +1,14 @@
 ghost use Rattle.std.specs.Prelude.{◌≡◌, IfOk, string_bytes};
 ghost use Rattle.cli_base.specs.Commands.{IsDone};
 ghost use Rattle.cli_base.specs.Readings.{Gives};
+ghost use Rattle.cli_runs.specs.Parts.{CanRun};
 ghost use Rattle.cli_trace.specs.Run.{console_run, run_of};
-ghost use Rattle.cli_trace.specs.Trace.{CanRun};
+ghost use Rattle.cli_trace.specs.Trace.{GuestsFollow, RunFollows};
 
 use crate::console::console;
-use crate::trace::{Parts, judged, read_parts, status};
+use crate::made::{judged, status};
 use cli_base::{Answer, Stop};
+use cli_runs::{Parts, read_parts};
 use std::alloc::Global;
 use xom_base::{ByteList, NoMemory};
 use xom_io::Files;
@@ -18,6 +20,7 @@ pub fn run<F: Files>(alloc: Global, files: &mut F, run: &String) -> Result<Answe
     ensures gives { Gives (F.held files.old) (λ held. run_of held (string_bytes run.now))
         (F.reads files.old) (F.reads files.new) result }
     ensures done { IfOk result (λ answer. IsDone answer.status) }
+    ensures follow { IfOk result (λ _. RunFollows (F.held files.old) (string_bytes run.now)) }
     ensures names { F.held files.new ≡ F.held files.old }
     ensures writes { F.writes files.new ≡ F.writes files.old }
 {
@@ -29,13 +32,14 @@ pub fn run<F: Files>(alloc: Global, files: &mut F, run: &String) -> Result<Answe
 #[tactic(auto, unfolding(crate::specs::Run::console_run))]
 fn console_alone(alloc: Global, parts: Parts) -> Result<Answer, NoMemory>
     requires { CanRun parts }
-    ensures { IfOk result (λ answer. answer ≡ console_run parts) }
+    ensures value { IfOk result (λ answer. answer ≡ console_run parts) }
+    ensures follow { IfOk result (λ _. GuestsFollow parts) }
 {
     let made = judged(alloc, parts)?;
     let text = console(alloc, made.machine.journal())?;
     Ok(Answer {
         text: ByteList::from_vec(text),
         file: None,
-        status: status(&made.report, &made.machine),
+        status: status(&made),
     })
 }

@@ -1,46 +1,21 @@
-ghost use Rattle.std.specs.Prelude.{◌≡◌, ◌≤◌, ◌^◌, IfOk, option_map, string_bytes, [], true};
-ghost use Rattle.std.specs.List.{list_any};
+ghost use Rattle.std.specs.Prelude.{◌≡◌, ◌++◌, IfOk, OnOk, option_map, string_bytes};
 ghost use Rattle.cli_base.specs.Commands.{IsDone};
 ghost use Rattle.cli_base.specs.Readings.{Gives};
-ghost use Rattle.cli_trace.specs.Trace.{CanRun, answer_of, ending_text, events_line, journal_file as journal_file_of, last_of, last_record, parts_of, report_of, trace_of, trace_status, traced as traced_of};
-ghost use Rattle.script_kernel.specs.Turns.{is_built, ops_of};
-ghost use Rattle.trace_judge.specs.Suspicion.{is_stop as is_stop_by};
-ghost use Rattle.lone_model.specs.Run.{IsSchedule};
+ghost use Rattle.cli_runs.specs.Parts.{CanRun};
+ghost use Rattle.cli_trace.specs.Trace.{GuestsFollow, RunFollows, answer_of, events_line, fault_text, fault_word as fault_word_of, journal_file as journal_file_of, kind_text, trace_of, traced as traced_of};
 
 use crate::console::{console, end_line};
-use crate::lone_run::LoneRun;
-use crate::reading::{run_file, script};
-use cli_base::{Answer, OutputFile, Stop, image};
+use crate::made::{ChipMachine, JudgedRun, judged, status};
+use cli_base::{Answer, OutputFile, Stop};
+use cli_runs::{Parts, read_parts};
 use journal_text::print_journal;
-use lone_machine::{Machine, run};
-use script_kernel::ScriptKernel;
 use std::alloc::Global;
-use trace_judge::{Report, is_stop, is_suspect, judge, print_report};
-use xom_base::{ByteList, NoMemory, PlainImage, RunEnd, Schedule};
+use text_pieces::{push_decimal64, push_hex8, push_text};
+use trace_judge::print_report;
+use xom_base::{ByteList, NoMemory};
 use xom_io::{Files, Name};
 use xom_journal::Journal;
-use xom_owners::{Owner, OwnerList};
-use xom_script::Script;
-
-/// All that a run is made of.
-#[derive(Drop)]
-pub struct Parts {
-    /// The run file.
-    pub file: LoneRun,
-    /// The image of its owner, which is its guest.
-    pub image: PlainImage,
-    /// What its kernel does.
-    pub script: Script,
-}
-
-/// A run that was made, with the report on its journal.
-#[derive(Drop)]
-pub struct JudgedRun {
-    /// The machine after it.
-    pub machine: Machine,
-    /// The report.
-    pub report: Report,
-}
+use xom_model::outcome::NullFault;
 
 /// `trace RUN` and `trace RUN JOURNAL`: reads what a run is made of, makes it, and prints its console
 /// and the report on its journal. Where a file is named for the journal, its text is written there.
@@ -55,6 +30,7 @@ pub fn trace<F: Files>(
         (λ held. trace_of held (string_bytes run.now) (option_map (λ name. string_bytes name.now) journal.entry))
         (F.reads files.old) (F.reads files.new) result }
     ensures done { IfOk result (λ answer. IsDone answer.status) }
+    ensures follow { IfOk result (λ _. RunFollows (F.held files.old) (string_bytes run.now)) }
     ensures names { F.held files.new ≡ F.held files.old }
     ensures writes { F.writes files.new ≡ F.writes files.old }
 {
@@ -62,103 +38,31 @@ pub fn trace<F: Files>(
     Ok(traced(alloc, parts, journal)?)
 }
 
-/// Reads the run file, the image of its owner and the script of its kernel, in this order. The
-/// first that can't be read or is off its form is refused.
-#[tactic(auto, unfolding(crate::specs::Trace::parts_of))]
-pub fn read_parts<F: Files>(alloc: Global, files: &mut F, run: &String) -> Result<Parts, Stop>
-    ensures gives { Gives (F.held files.old) (λ held. parts_of held (string_bytes run.now))
-        (F.reads files.old) (F.reads files.new) result }
-    ensures runnable { IfOk result CanRun }
-    ensures names { F.held files.new ≡ F.held files.old }
-    ensures writes { F.writes files.new ≡ F.writes files.old }
-{
-    let file = run_file(alloc, files, run)?;
-    let image = image(alloc, files, file.owner.plain.as_string())?;
-    let script = script(alloc, files, file.kernel.as_string())?;
-    Ok(Parts {
-        file,
-        image,
-        script,
-    })
-}
-
 /// Makes the run, and says what a trace has to say of it.
 #[tactic(auto, unfolding(crate::specs::Trace::traced))]
 fn traced(alloc: Global, parts: Parts, journal: Option<&String>) -> Result<Answer, NoMemory>
     requires { CanRun parts }
-    ensures { IfOk result (λ answer. answer ≡ traced_of (option_map (λ name. string_bytes name.now) journal.entry) parts) }
+    ensures value { IfOk result (λ answer. answer ≡ traced_of (option_map (λ name. string_bytes name.now) journal.entry) parts) }
+    ensures follow { IfOk result (λ _. GuestsFollow parts) }
 {
     let made = judged(alloc, parts)?;
-    answer(alloc, &made.report, &made.machine, journal)
-}
-
-/// Makes the run and judges its journal.
-pub fn judged(alloc: Global, parts: Parts) -> Result<JudgedRun, NoMemory>
-    requires { CanRun parts }
-    ensures machine { IfOk result (λ made. made.machine.state ≡ last_record parts) }
-    ensures report { IfOk result (λ made. made.report ≡ report_of parts) }
-{
-    let Parts {
-        file,
-        image,
-        script,
-    } = parts;
-    let owner = Owner {
-        plain: image,
-        key: file.owner.key,
-        id: file.owner.id,
-    };
-    let machine = ran(alloc, &owner, &file.schedule, file.budget, script)?;
-    let mut owners = OwnerList::new(alloc);
-    owners.push(owner)?;
-    let report = judge(alloc, &file.machine, &owners, machine.journal())?;
-    Ok(JudgedRun { machine, report })
-}
-
-/// The machine after the run of an owner's guest under a script.
-#[tactic(auto, unfolding(crate::specs::Trace::last_of))]
-fn ran(
-    alloc: Global,
-    owner: &Owner,
-    schedule: &Schedule,
-    budget: u64,
-    script: Script,
-) -> Result<Machine, NoMemory>
-    requires schedule { IsSchedule schedule.now.interrupts }
-    requires pokes { schedule.now.pokes ≡ [] }
-    requires built { is_built script ≡ true }
-    requires budget { budget ≤ 2 ^ 20 }
-    ensures { IfOk result (λ machine. machine.state ≡ last_of owner.now schedule.now.interrupts budget (ops_of script.lines)) }
-{
-    let mut machine = Machine::new(alloc)?;
-    machine.give(owner.id, owner.key, &owner.plain)?;
-    let mut kernel = ScriptKernel::new(script);
-    match run(&mut machine, &mut kernel, schedule, budget) {
-        RunEnd::NoMemory => Err(NoMemory),
-        _ => Ok(machine),
-    }
+    answer(alloc, &made, journal)
 }
 
 /// What the trace has to say: the console, the report, and the line of the events; and the file of the
 /// journal, where one is named.
-fn answer(
-    alloc: Global,
-    report: &Report,
-    machine: &Machine,
-    journal: Option<&String>,
-) -> Result<Answer, NoMemory>
-    ensures { IfOk result (λ answer. answer ≡ answer_of (option_map (λ name. string_bytes name.now) journal.entry) report.now machine.now.state) }
+fn answer(alloc: Global, made: &JudgedRun, journal: Option<&String>) -> Result<Answer, NoMemory>
+    ensures { IfOk result (λ answer. answer ≡ answer_of (option_map (λ name. string_bytes name.now) journal.entry) made.now.report made.now.machine.state) }
 {
-    let mut text = console(alloc, machine.journal())?;
+    let mut text = console(alloc, made.machine.journal())?;
     end_line(&mut text)?;
-    let lines = print_report(alloc, report)?;
-    let events = events_text(alloc, machine)?;
+    let lines = print_report(alloc, &made.report)?;
     text.extend_from_slice(lines.as_slice())?;
-    text.extend_from_slice(events.as_bytes())?;
+    push_events(&mut text, &made.machine)?;
     Ok(Answer {
         text: ByteList::from_vec(text),
-        file: journal_file(alloc, journal, machine.journal())?,
-        status: status(report, machine),
+        file: journal_file(alloc, journal, made.machine.journal())?,
+        status: status(made),
     })
 }
 
@@ -179,43 +83,48 @@ fn journal_file(
     }
 }
 
-/// How many events there were, and how the run ended.
-fn events_text(alloc: Global, machine: &Machine) -> Result<String, NoMemory>
-    ensures { IfOk result (λ text. string_bytes text ≡ events_line machine.now.state) }
+/// Adds how many events there were, and how the run ended.
+fn push_events(text: &mut Vec<u8>, machine: &ChipMachine) -> Result<(), NoMemory>
+    ensures { OnOk result (text.new.items ≡ text.old.items ++ events_line machine.now.state) }
 {
-    let events = machine.events();
-    if machine.is_halted() {
-        Ok(format!(in alloc; "events {events} halted\n")?)
-    } else {
-        Ok(format!(in alloc; "events {events} budget\n")?)
+    push_text(text, "events ")?;
+    push_decimal64(text, machine.events())?;
+    if !machine.is_halted() {
+        return push_text(text, " budget\n");
+    }
+    match machine.fault() {
+        None => push_text(text, " halted\n"),
+        Some((at, why)) => push_fault(text, at, why),
     }
 }
 
-/// The first status that holds: 9 for a suspect report, 8 where a guest was stopped, 0 where the
-/// kernel halted, and 6 where the budget was reached.
-pub fn status(report: &Report, machine: &Machine) -> u8
-    ensures { result ≡ trace_status report.now machine.now.state }
+/// Adds the address of the null instruction that faulted, and its fault.
+fn push_fault(text: &mut Vec<u8>, at: u32, why: NullFault) -> Result<(), NoMemory>
+    ensures { OnOk result (text.new.items ≡ text.old.items ++ fault_text at why) }
 {
-    if is_suspect(report) {
-        9
-    } else if has_stop(machine.journal()) {
-        8
-    } else if machine.is_halted() {
-        0
-    } else {
-        6
-    }
+    push_text(text, " kernel fault at ")?;
+    push_hex8(text, at)?;
+    push_kind(text, why)
 }
 
-fn has_stop(journal: &Journal) -> bool
-    ensures { result ≡ list_any is_stop_by journal.now.entries }
+/// Adds a fault of null code, and ends the line.
+fn push_kind(text: &mut Vec<u8>, why: NullFault) -> Result<(), NoMemory>
+    ensures { OnOk result (text.new.items ≡ text.old.items ++ kind_text why) }
 {
-    for i in 0..journal.len() {
-        if let Some(entry) = journal.get(i) {
-            if is_stop(&entry) {
-                return true;
-            }
-        }
+    push_text(text, " ")?;
+    push_text(text, fault_word(why))?;
+    push_text(text, "\n")
+}
+
+/// The word for a fault of null code.
+fn fault_word(why: NullFault) -> &'static str
+    ensures { result.now ≡ fault_word_of why }
+{
+    match why {
+        NullFault::Reserved => "Reserved",
+        NullFault::Overflow => "Overflow",
+        NullFault::Address => "Address",
+        NullFault::Break => "Break",
+        NullFault::Call => "Call",
     }
-    false
 }

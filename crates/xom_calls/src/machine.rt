@@ -1,20 +1,21 @@
 //! The parts of the processor, and runs of a kernel over the whole.
 
-ghost use Rattle.std.specs.Prelude.{◌≡◌, None, IfOk, false};
+ghost use Rattle.std.specs.Prelude.{◌≡◌, None, IfOk};
 
-use crate::inputs::{TWELVE, image_of};
-use lone_guest::guest_event;
-use lone_machine::{Kernel, Machine, View, next_event, run};
-use lone_ops::operate;
-use lone_private::{Core, EVENT_ROOM, Memories};
+use crate::inputs::{TWELVE, image_of, owner_of};
+use cli_runs::{GuestImage, GuestImageList, frames_of};
+use image_sealer::seal;
+use power_on::power_on;
+use replay_tree::TreeVersions;
 use session_table::{SlotState, Table, owns, with_cell, without_cell};
 use std::alloc::Global;
 use std::test::Fail;
 use tag_regs::Cells;
-use xom_base::{
-    Cause, Event, ImageId, Interrupts, Key256, NoMemory, NumberList, Op, Outcome, OwnFault,
-    PokeList, Rule, RunEnd, Schedule, Stored, Turn,
-};
+use xom_base::{Event, ImageId, Interrupts, Key256, NoMemory, NumberList, Op, PokeList, Schedule};
+use xom_machine::{Chunk, Kernel, Machine, View, next_event, run};
+use xom_model::outcome::{Outcome, RunEnd, Turn};
+use xom_private::Core;
+use xom_versions::{ChipVersions, VersionStore};
 
 const ID: ImageId = ImageId([7; 16]);
 
@@ -46,77 +47,38 @@ fn a_guest_is_installed_and_started(rt: HostRuntime) -> Result<(), Fail> {
 }
 
 #[test]
-#[tactic(auto, using(mips_plain::proofs::Sizes::private_size_is))]
-fn a_guest_is_given_and_stopped(rt: HostRuntime) -> Result<(), Fail> {
-    assert!(rt; Memories::new(rt.alloc())?.at(16).byte(0xfffff) == 0);
-    let mut core = Core::new(rt.alloc())?;
-    core.journal.reserve(200)?;
-    core.give(ID, KEY, &image_of(rt.alloc(), &TWELVE)?);
-    assert!(rt; core.table.session(1).state.is_live());
-    assert!(rt; core.memories.at(1).byte(0) == 0x24);
-    let word = Stored::Bytes {
-        address: 4,
-        count: 4,
-        value: 0x0102_0304,
-    };
-    core.memories.store(1, word);
-    assert!(rt; core.memories.at(1).byte(7) == 4);
-    core.journal.reserve(100)?;
-    let rule = Rule::RegisterMissing(5);
-    core.stop(1, rule);
-    assert!(rt; core.table.session(1).state == SlotState::Stopped(rule));
-    assert!(rt; core.journal.len() == 2);
+fn a_core_is_made(rt: HostRuntime) -> Result<(), Fail> {
+    let core: Core<TreeVersions> = Core::new(rt.alloc(), 8192, &KEY, 1)?;
+    assert!(rt; core.ram.size() == 67_108_864);
+    assert!(rt; core.table.running() == None);
     Ok(())
 }
 
-#[test]
-fn operations_answer_their_status(rt: HostRuntime) -> Result<(), Fail> {
-    let mut core = Core::new(rt.alloc())?;
-    core.table.install(2, ID, KEY, 0, 1);
-    for (op, status) in [
-        (Op::SetReg { reg: 5, value: 9 }, 0),
-        (Op::SetReg { reg: 34, value: 9 }, 7),
-        (Op::Enter { slot: 17 }, 1),
-        (Op::Enter { slot: 1 }, 1),
-        (Op::Resume { slot: 2, signal: 0 }, 2),
-        (Op::Enter { slot: 2 }, 0),
-        (Op::Enter { slot: 2 }, 2),
-        (Op::Halt, 0),
-    ] {
-        core.journal.reserve(EVENT_ROOM)?;
-        assert_eq!(rt; operate(&mut core, op), status);
-    }
-    assert!(rt; core.cells.get(5).0 == 9);
-    Ok(())
-}
-
-#[test]
-fn a_word_of_ones_is_reserved(rt: HostRuntime) -> Result<(), Fail> {
-    let mut core = Core::new(rt.alloc())?;
-    core.journal.reserve(EVENT_ROOM)?;
-    core.give(ID, KEY, &image_of(rt.alloc(), &[u32::MAX])?);
-    let entered = core.table.session(1).entered();
-    *core.table.session_mut(1) = entered;
-    core.journal.reserve(EVENT_ROOM)?;
-    let session = core.table.session(1);
-    assert!(rt; session.epoch < 9);
-    assert!(rt; matches!(session.state, SlotState::Running));
-    let cause = guest_event(&mut core, 1, false);
-    assert!(rt; cause == Some(Cause::Fault(OwnFault::Reserved)));
-    Ok(())
-}
-
-/// Enters slot 1, resumes it as often as it leaves, and halts.
+/// Installs, maps and enters guest 1, resumes it as often as it leaves, and halts.
 #[derive(Drop)]
 struct Patient {
+    mapped: bool,
     resumes: u8,
 }
 
 impl Kernel for Patient {
     ghost told = { λ k seen. None };
 
-    fn next(&mut self, view: &View) -> Turn {
+    fn next(&mut self, view: &View, _chunk: &mut Chunk) -> Turn {
         Turn::Do(match view.slot(1).state {
+            SlotState::Free => Op::Install {
+                slot: 1,
+                envelope: 131_072,
+                area: 262_144,
+            },
+            SlotState::Fresh if !self.mapped => {
+                self.mapped = true;
+                Op::Map {
+                    slot: 1,
+                    page: 0,
+                    frame: 17,
+                }
+            }
             SlotState::Fresh => Op::Enter { slot: 1 },
             SlotState::Paused if self.resumes > 0 => {
                 self.resumes -= 1;
@@ -127,28 +89,45 @@ impl Kernel for Patient {
     }
 }
 
-/// The machine with a guest in slot 1 that releases 12 in $9 and ends.
-fn machine_of_twelve(alloc: Global) -> Result<Machine, NoMemory>
-    ensures { IfOk result (λ m. (m.state.events ≡ 0) × (m.state.halted ≡ false)) }
+fn resumes_it(resumes: u8) -> Patient {
+    Patient {
+        mapped: false,
+        resumes,
+    }
+}
+
+/// The machine at power-on with a sealed guest in RAM that releases 12 in $9 and ends.
+fn machine_of_twelve<V: VersionStore>(alloc: Global) -> Result<Machine<V>, NoMemory>
+    ensures { IfOk result (λ m. m.state.events ≡ 0) }
 {
-    let mut machine = Machine::new(alloc)?;
-    machine.give(ID, KEY, &image_of(alloc, &TWELVE)?)?;
-    Ok(machine)
+    let owner = owner_of(image_of(alloc, &TWELVE)?, 1, 7);
+    let sealed = seal(alloc, &owner, &KEY)?;
+    let image = GuestImage {
+        envelope: sealed.envelope,
+        lines: sealed.lines,
+    };
+    if frames_of(&image) > 100 {
+        return Err(NoMemory);
+    }
+    let mut guests = GuestImageList::new(alloc);
+    guests.push(image)?;
+    power_on(alloc, &KEY, 1, 160, None, &guests)
 }
 
 #[test]
 fn a_guest_runs_to_its_end(rt: HostRuntime) -> Result<(), Fail> {
-    let mut machine = machine_of_twelve(rt.alloc())?;
-    machine.reserve_run(9)?;
+    let mut machine: Machine<TreeVersions> = machine_of_twelve(rt.alloc())?;
+    machine.reserve_run(8)?;
     let schedule = Schedule {
         interrupts: Interrupts::Never,
         pokes: PokeList::new(rt.alloc()),
     };
-    let end = run(&mut machine, &mut Patient { resumes: 0 }, &schedule, 100);
+    let mut chunk = Chunk::new(rt.alloc())?;
+    let end = run(&mut machine, &mut resumes_it(0), &schedule, 8, &mut chunk);
     assert!(rt; matches!(end, RunEnd::Halted));
-    assert!(rt; machine.journal().len() == 5);
+    assert!(rt; machine.journal().len() == 4693);
     let view = machine.view();
-    assert!(rt; view.events() == 6);
+    assert!(rt; view.events() == 8);
     assert!(rt; view.cell(9) == Some(12));
     assert!(rt; view.who() == 1);
     Ok(())
@@ -156,30 +135,36 @@ fn a_guest_runs_to_its_end(rt: HostRuntime) -> Result<(), Fail> {
 
 #[test]
 fn an_interrupted_guest_goes_on(rt: HostRuntime) -> Result<(), Fail> {
-    let mut machine = machine_of_twelve(rt.alloc())?;
+    let mut machine: Machine<ChipVersions> = machine_of_twelve(rt.alloc())?;
     let mut numbers = NumberList::new(rt.alloc());
     numbers.push(1)?;
     let schedule = Schedule {
         interrupts: Interrupts::At(numbers),
         pokes: PokeList::new(rt.alloc()),
     };
-    let _end = run(&mut machine, &mut Patient { resumes: 1 }, &schedule, 100);
-    assert!(rt; machine.events() == 7);
-    assert!(rt; machine.journal().len() == 6);
+    let mut chunk = Chunk::new(rt.alloc())?;
+    let _end = run(&mut machine, &mut resumes_it(1), &schedule, 100, &mut chunk);
+    assert!(rt; machine.events() == 9);
+    assert!(rt; machine.journal().len() == 8);
     Ok(())
 }
 
 #[test]
 fn an_event_is_made_by_itself(rt: HostRuntime) -> Result<(), Fail> {
-    let mut machine = machine_of_twelve(rt.alloc())?;
+    let mut machine: Machine<ChipVersions> = machine_of_twelve(rt.alloc())?;
     let schedule = Schedule {
         interrupts: Interrupts::Every(1),
         pokes: PokeList::new(rt.alloc()),
     };
-    let event = next_event(&machine, &mut Patient { resumes: 0 }, &schedule, 0);
-    assert!(rt; matches!(event, Event::Do(Op::Enter { slot: 1 })));
+    let mut chunk = Chunk::new(rt.alloc())?;
+    if machine.is_halted() {
+        return Err("it goes on".into());
+    }
+    let event = next_event(&machine, &mut resumes_it(0), &schedule, 0, &mut chunk);
+    assert!(rt; matches!(event, Event::Do(Op::Install { slot: 1, .. })));
     machine.reserve_event()?;
-    assert!(rt; matches!(machine.step(event), Outcome::Went));
-    assert!(rt; machine.is_guest_running());
+    assert!(rt; machine.fits(&event));
+    assert!(rt; matches!(machine.step(event, &chunk), Outcome::Went));
+    assert!(rt; !machine.is_guest_running());
     Ok(())
 }

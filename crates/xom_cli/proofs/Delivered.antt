@@ -19,23 +19,26 @@ use Rattle.xom_cli.proofs.Targets.{target-written}
 
 -- ---- statuses
 
-pub not_done : (n : ℕ) → (n ≢ 0) → (n ≢ 6) → (n ≢ 8) → (n ≢ 9) → ¬ IsDone n
-not_done n a b c d is = elim is [ inl e ↦ a e | inr r ↦ elim r [ inl e ↦ b e | inr q ↦ elim q [ inl e ↦ c e | inr e ↦ d e ] ] ]
+pub not_done : (n : ℕ) → (n ≢ 0) → (n < 6) → ¬ IsDone n
+not_done n some low is = elim is [
+  | inl e ↦ some e
+  | inr r ↦ elim r [ inl e ↦ omega arith | inr r ↦ elim r [ inl e ↦ omega arith | inr r ↦ elim r [ inl e ↦ omega arith | inr e ↦ omega arith ] ] ]
+]
 
 pub done_not_1 : ¬ IsDone 1
-done_not_1 = not_done 1 (λ e. omega arith) (λ e. omega arith) (λ e. omega arith) (λ e. omega arith)
+done_not_1 = not_done 1 (λ e. omega arith) (omega arith)
 
 pub done_not_2 : ¬ IsDone 2
-done_not_2 = not_done 2 (λ e. omega arith) (λ e. omega arith) (λ e. omega arith) (λ e. omega arith)
+done_not_2 = not_done 2 (λ e. omega arith) (omega arith)
 
 pub done_not_3 : ¬ IsDone 3
-done_not_3 = not_done 3 (λ e. omega arith) (λ e. omega arith) (λ e. omega arith) (λ e. omega arith)
+done_not_3 = not_done 3 (λ e. omega arith) (omega arith)
 
 pub done_not_4 : ¬ IsDone 4
-done_not_4 = not_done 4 (λ e. omega arith) (λ e. omega arith) (λ e. omega arith) (λ e. omega arith)
+done_not_4 = not_done 4 (λ e. omega arith) (omega arith)
 
 pub done_not_5 : ¬ IsDone 5
-done_not_5 = not_done 5 (λ e. omega arith) (λ e. omega arith) (λ e. omega arith) (λ e. omega arith)
+done_not_5 = not_done 5 (λ e. omega arith) (omega arith)
 
 -- ---- the sink
 

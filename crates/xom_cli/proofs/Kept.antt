@@ -1,6 +1,6 @@
 -- Every call keeps its promises, however it ends.
 use Rattle.std.proofs.Common.{◌≡◌, ◌≢◌, ◌⊎◌, inl, inr, ℕ, List, ◌++◌, Option, Some, None, Result, Ok, Err, take, refl, sym, ap, subst, ◌∙◌, arith}
-use Rattle.std.specs.Prelude.{IsSomeAnd, MatchOption, option_and_then}
+use Rattle.std.specs.Prelude.{IfOk, IsSomeAnd, MatchOption, option_and_then}
 use Rattle.xom_io.specs.declared.files.FileFault.{FileFault}
 use Rattle.xom_io.specs.declared.files.FileFault.TheVariants as file_fault
 use Rattle.xom_io.specs.declared.sink.SinkFault.{SinkFault}
@@ -13,8 +13,9 @@ use Rattle.cli_base.specs.declared.refusal.Refusal.{Refusal}
 use Rattle.cli_base.specs.declared.refusal.Refusal.TheVariants.{Unread, Bad}
 use Rattle.cli_base.specs.declared.refusal.Stop.{Stop}
 use Rattle.cli_base.specs.declared.refusal.Stop.TheVariants as stop
-use Rattle.cli_trace.specs.declared.trace.Parts.{Parts}
-use Rattle.xom_cli.specs.Endings.{Disk, Ends, EndsRow, EndsWords, Finishes, IsSilent, Outside, Output, PrintsBehind, PutsFile, ended, refused, status_of}
+use Rattle.cli_runs.specs.declared.parts.Parts.{Parts}
+use Rattle.cli_runs.specs.Parts.{parts_of}
+use Rattle.xom_cli.specs.Endings.{Disk, Ends, EndsRow, EndsWords, Finishes, IsSilent, Outside, Output, PrintsBehind, PutsFile, RowFollows, ended, refused, status_of}
 use Rattle.cli_base.specs.Commands.{IsDone}
 use Rattle.cli_base.specs.Inputs.{Held, without}
 use Rattle.xom_cli.specs.Outcome.{IsOutcome, IsPrinted, IsPrintedBy, Printed, printed, printed_words}
@@ -24,9 +25,8 @@ use Rattle.cli_base.specs.Refusals.{line_of, refusal_status, words_line}
 use Rattle.xom_cli.specs.Rows.{Row, Run, Trace, Judge, row_of, target_of}
 use Rattle.cli_trace.specs.Console.{console_of}
 use Rattle.cli_trace.specs.Run.{console_run}
-use Rattle.cli_trace.specs.Trace.{AllFollow, NamesFinding, journal_file, last_record, parts_of, report_of, trace_of, trace_text, traced}
+use Rattle.cli_trace.specs.Trace.{GuestsFollow, NamesFinding, journal_file, last_record, report_of, trace_of, trace_text, traced}
 use Rattle.xom_cli.proofs.Delivered.{done_not_1, done_not_2, done_not_3, done_not_4, done_not_5, fails-rising, lacks-count, lacks-held, never-long, puts-changes, puts-count, puts-file, puts-nothing, same-changes, same-count, takes-prefix}
-use Rattle.cli_trace.proofs.Headline.{all_follow}
 use Rattle.cli_trace.proofs.Statuses.{nine-names}
 use Rattle.xom_cli.proofs.Targets.{journal-text, judge-answer, parts-traced, run-answer, trace-answer}
 use Rattle.xom_cli.proofs.Unread.{row-unread}
@@ -158,7 +158,7 @@ module _ (words : List (List ℕ)) (before after : Outside) where
     row_target = ap (λ o. option_and_then target_of o) is_row
 
     -- ---- a command that was carried out
-    module _ (answer : Answer) (done : IsDone answer.status) (stays : after.reads ≡ before.reads) (wanted : (held : Held) → before.disk.held ≡ Some held → IsOutcome row held (Ok answer)) where
+    module _ (answer : Answer) (done : IsDone answer.status) (stays : after.reads ≡ before.reads) (wanted : (held : Held) → before.disk.held ≡ Some held → IsOutcome row held (Ok answer)) (follows : RowFollows before.disk.held row) where
       answer_printed : (held : Held) → before.disk.held ≡ Some held → IsPrinted words held (printed (Ok answer))
       answer_printed held told = row_printed held (Ok answer) (wanted held told)
 
@@ -188,9 +188,14 @@ module _ (words : List (List ℕ)) (before after : Outside) where
           let same : row ≡ asked = cc in
           subst (λ r. IsOutcome r held (Ok answer)) same (wanted held told)
 
+      as_asked : (asked : Row) → row_of words ≡ Some asked → RowFollows before.disk.held asked
+      as_asked asked named =
+          let same : row ≡ asked = cc in
+          subst (RowFollows before.disk.held) same follows
+
       headline_here : Appends before.output.written after.output.written answer.text → WritesFile before.disk after.disk answer.file → (held : Held) → before.disk.held ≡ Some held → (run : List ℕ) (journal : Option (List ℕ)) → row_of words ≡ Some (Trace run journal)
           → (parts : Parts) × (parts_of held run ≡ Ok parts) × Appends before.output.written after.output.written (trace_text (report_of parts) (last_record parts))
-          × WritesFile before.disk after.disk (journal_file journal (last_record parts).core.entries) × AllFollow (report_of parts)
+          × WritesFile before.disk after.disk (journal_file journal (last_record parts).core.entries) × GuestsFollow parts
       unfolding traced
       headline_here whole put held told run journal named =
           let found = trace-answer held run journal answer (is_wanted (Trace run journal) named held told) in (
@@ -198,12 +203,12 @@ module _ (words : List (List ℕ)) (before after : Outside) where
             found.1,
             subst (λ (a : Answer). Appends before.output.written after.output.written a.text) found.2 whole,
             subst (λ (a : Answer). WritesFile before.disk after.disk a.file) found.2 put,
-            all_follow found.0,
+            as_asked (Trace run journal) named held told found.0 found.1,
           )
 
       console_here : Appends before.output.written after.output.written answer.text → (held : Held) → before.disk.held ≡ Some held → (run : List ℕ) → row_of words ≡ Some (Run run)
           → (parts : Parts) × (parts_of held run ≡ Ok parts) × (trace_of held run None ≡ Ok (traced None parts)) × (answer.status ≡ (traced None parts).status)
-          × Appends before.output.written after.output.written (console_of (last_record parts).core.entries) × AllFollow (report_of parts)
+          × Appends before.output.written after.output.written (console_of (last_record parts).core.entries) × GuestsFollow parts
       unfolding traced console_run
       console_here whole held told run named =
           let found = run-answer held run answer (is_wanted (Run run) named held told) in (
@@ -212,17 +217,17 @@ module _ (words : List (List ℕ)) (before after : Outside) where
             parts-traced held run None found.0 found.1,
             ap (λ (a : Answer). a.status) found.2,
             subst (λ (a : Answer). Appends before.output.written after.output.written a.text) found.2 whole,
-            all_follow found.0,
+            as_asked (Run run) named held told found.0 found.1,
           )
 
       finding_here : answer.status ≡ 9 → (held : Held) → before.disk.held ≡ Some held → (run : List ℕ) → AsksForRun words run → (parts : Parts) × (parts_of held run ≡ Ok parts) × NamesFinding (report_of parts)
       unfolding traced console_run
       finding_here nine held told run (inl named) =
           let found = run-answer held run answer (is_wanted (Run run) named held told) in
-          (found.0, found.1, nine-names found.0 (sym (ap (λ (a : Answer). a.status) found.2) ∙ nine))
+          (found.0, found.1, nine-names found.0 (as_asked (Run run) named held told found.0 found.1) (sym (ap (λ (a : Answer). a.status) found.2) ∙ nine))
       finding_here nine held told run (inr (journal, named)) =
           let found = trace-answer held run journal answer (is_wanted (Trace run journal) named held told) in
-          (found.0, found.1, nine-names found.0 (sym (ap (λ (a : Answer). a.status) found.2) ∙ nine))
+          (found.0, found.1, nine-names found.0 (as_asked (Trace run journal) named held told found.0 found.1) (sym (ap (λ (a : Answer). a.status) found.2) ∙ nine))
 
       judges_here : Appends before.output.written after.output.written answer.text → (held : Held) → before.disk.held ≡ Some held → (run journal : List ℕ) → row_of words ≡ Some (Judge run journal)
           → IsJudged held before after run journal answer.status
@@ -410,18 +415,18 @@ module _ (words : List (List ℕ)) (before after : Outside) where
     refusal_end (Unread name) same why put takes = unread_end name same why.1 why.2 put takes
     refusal_end (Bad name fault) same why put takes = bad_end (Bad name fault) refl same why.0 why.1 put takes
 
-    row_end : (answered : Result Answer Stop) → Meets before.disk.held (IsOutcome row) before.reads after.reads answered → (result : Ending) → Finishes before.disk after.disk before.output after.output answered result → Promises words before after (status_of result)
-    row_end (Ok answer) gives result finishes = answer_end answer finishes.0 gives.0 gives.1 finishes.1.0 result finishes.1.1 finishes.1.2
-    row_end (Err (stop.Refused refusal)) gives result finishes = elim finishes.1 [
+    row_end : (answered : Result Answer Stop) → Meets before.disk.held (IsOutcome row) before.reads after.reads answered → (result : Ending) → Finishes before.disk after.disk before.output after.output answered result → IfOk answered (λ _. RowFollows before.disk.held row) → Promises words before after (status_of result)
+    row_end (Ok answer) gives result finishes follows = answer_end answer finishes.0 gives.0 gives.1 follows finishes.1.0 result finishes.1.1 finishes.1.2
+    row_end (Err (stop.Refused refusal)) gives result finishes follows = elim finishes.1 [
       | inl quiet ↦ silent finishes.0 result quiet
       | inr prints ↦ subst (λ e. Promises words before after (status_of e)) (sym prints.2) (refusal_end refusal finishes.0 gives prints.0 prints.1)
     ]
-    row_end (Err stop.NoMemory) gives result finishes = silent finishes.0 result finishes.1
+    row_end (Err stop.NoMemory) gives result finishes follows = silent finishes.0 result finishes.1
 
   -- ---- every call
   any_end : (at : Option Row) → row_of words ≡ at → (result : Ending) → MatchOption at (EndsWords before after result) (λ row. EndsRow before after row result) → Promises words before after (status_of result)
   any_end None is result ends = subst (λ e. Promises words before after (status_of e)) (sym ends.2.2) (words_end is ends.0 ends.1 ends.2.0 ends.2.1)
-  any_end (Some row) is result ends = row_end row is ends.0 ends.1 result ends.2
+  any_end (Some row) is result ends = row_end row is ends.0 ends.1 result ends.2 ends.3
 
   pub promises_kept : (result : Ending) → Ends words before after result → Promises words before after (status_of result)
   promises_kept result ends = any_end (row_of words) refl result ends

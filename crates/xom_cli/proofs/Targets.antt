@@ -9,7 +9,8 @@ use Rattle.cli_base.specs.declared.answer.OutputFile.{OutputFile}
 use Rattle.cli_base.specs.declared.refusal.InputFault.TheVariants.{TooLong}
 use Rattle.cli_base.specs.declared.refusal.Refusal.{Refusal}
 use Rattle.cli_base.specs.declared.refusal.Refusal.TheVariants.{Bad}
-use Rattle.cli_trace.specs.declared.trace.Parts.{Parts}
+use Rattle.cli_runs.specs.declared.parts.Parts.{Parts}
+use Rattle.cli_runs.specs.Parts.{parts_of}
 use Rattle.cli_programs.specs.Assembly.{AssemblesRead}
 use Rattle.cli_base.specs.Inputs.{◌>>=◌, Held, fetched, fetched_bytes, image_of, in_file, in_lines}
 use Rattle.cli_programs.specs.Programs.{source_limit}
@@ -18,11 +19,13 @@ use Rattle.cli_programs.specs.Programs.{disasm_of, plain_of, seal_of, values_of}
 use Rattle.xom_cli.specs.Rows.{Row, Asm, Disasm, Plain, Seal, Run, Trace, Judge, target_of}
 use Rattle.journal_text.specs.Readings.{IsJournal}
 use Rattle.cli_judge.proofs.Grammar.{entries-are}
-use Rattle.cli_judge.specs.Judge.{entries_at, journal_limit, journal_of, judge_of, judged, owners_of, run_file_of}
+use Rattle.cli_judge.specs.Judge.{entries_at, journal_limit, journal_of, judge_of, judged}
+use Rattle.cli_runs.specs.OwnerImages.{owners_of}
+use Rattle.cli_runs.specs.RunFiles.{run_file_of}
 use Rattle.cli_trace.specs.Run.{console_run, run_of}
 use Rattle.xom_owners.specs.declared.owner.Owner.{Owner}
 use Rattle.xom_script.specs.declared.run_file.RunFile.{RunFile}
-use Rattle.cli_trace.specs.Trace.{journal_file, last_record, parts_of, trace_of, traced}
+use Rattle.cli_trace.specs.Trace.{journal_file, last_record, trace_of, traced}
 
 -- where two steps answer, the first did, and the second of what it gave
 pub bind-ok : {A B : Type 0} (o : Result A Refusal) (f : A → Result B Refusal) (value : B) → (o >>= f) ≡ Ok value → (x : A) × (o ≡ Ok x) × (f x ≡ Ok value)

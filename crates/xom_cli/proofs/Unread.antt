@@ -11,50 +11,16 @@ use Rattle.cli_programs.specs.Assembly.{Assembles, AssemblesRead}
 use Rattle.cli_programs.proofs.Assembled.{said-unread}
 use Rattle.cli_base.specs.Inputs.{◌>>=◌, Held, fetched, fetched_bytes, image_of, in_file, input_of}
 use Rattle.cli_programs.specs.Programs.{received_of, source_limit}
-use Rattle.cli_trace.specs.Inputs.{run_file_of, script_of}
 use Rattle.xom_cli.specs.Outcome.{IsOutcome}
 use Rattle.cli_programs.specs.Programs.{disasm_of, plain_of, seal_of, values_of}
 use Rattle.xom_cli.specs.Rows.{Row, Asm, Disasm, Plain, Seal, Run, Trace, Judge}
-use Rattle.cli_judge.specs.Judge.{journal_of, judge_of, owners_of, run_file_of as judge_run_of}
+use Rattle.cli_judge.specs.Judge.{journal_of, judge_of}
+use Rattle.cli_runs.specs.OwnerImages.{owners_of}
+use Rattle.cli_runs.specs.Parts.{parts_of}
+use Rattle.cli_runs.specs.RunFiles.{run_file_of}
+use Rattle.cli_runs.proofs.Unread.{bind-err, fetched-unread, image-unread, input-unread, owners-unread, parts-unread, run_file-unread}
 use Rattle.cli_trace.specs.Run.{run_of}
-use Rattle.xom_script.specs.declared.run_file.OwnerFile.{OwnerFile}
-use Rattle.cli_trace.specs.Trace.{parts_of, trace_of}
-
--- where a step and what follows it are refused, one of them is
-bind-err : {A B : Type 0} (o : Result A Refusal) (f : A → Result B Refusal) (e : Refusal) → (o >>= f) ≡ Err e → (o ≡ Err e) ⊎ ((x : A) × (o ≡ Ok x) × (f x ≡ Err e))
-bind-err (Ok x) f e is = inr (x, refl, is)
-bind-err (Err other) f e is = inl (cc)
-
-bytes-unread : (n name : List ℕ) (limit : ℕ) (o : Option (List ℕ)) → fetched_bytes n limit o ≡ Err (Unread name) → (n ≡ name) × (o ≡ None)
-bytes-unread n name limit None is = (cc, refl)
-bytes-unread n name limit (Some bytes) is =
-    absurd (elim (nat_le (length bytes) limit) as (λ b. cond b (Ok bytes) (Err (Bad n TooLong)) ≡ Err (Unread name) → ⊥) [ true ↦ λ ok. cc | false ↦ λ long. cc ] is)
-
-fetched-unread : (held : Held) (n name : List ℕ) (limit : ℕ) → fetched held n limit ≡ Err (Unread name) → held name ≡ None
-unfolding fetched
-fetched-unread held n name limit is = let both = bytes-unread n name limit (held n) is in subst (λ m. held m ≡ None) both.0 both.1
-
-in_file-unread : {A : Type 0} (n name : List ℕ) (o : Result A InputFault) → in_file n o ≡ Err (Unread name) → ⊥
-in_file-unread n name (Ok value) is = cc
-in_file-unread n name (Err fault) is = cc
-
-input-unread : {A : Type 0} (limit : ℕ) (format : List ℕ → Result A InputFault) (held : Held) (n name : List ℕ) → input_of limit format held n ≡ Err (Unread name) → held name ≡ None
-input-unread limit format held n name is = elim (bind-err (fetched held n limit) (λ bytes. in_file n (format bytes)) (Unread name) is) [
-  | inl here ↦ fetched-unread held n name limit here
-  | inr later ↦ absurd (in_file-unread n name (format later.0) later.2)
-]
-
-run_file-unread : (held : Held) (n name : List ℕ) → run_file_of held n ≡ Err (Unread name) → held name ≡ None
-unfolding run_file_of
-run_file-unread held n name is = input-unread _ _ held n name is
-
-image-unread : (held : Held) (n name : List ℕ) → image_of held n ≡ Err (Unread name) → held name ≡ None
-unfolding image_of
-image-unread held n name is = input-unread _ _ held n name is
-
-script-unread : (held : Held) (n name : List ℕ) → script_of held n ≡ Err (Unread name) → held name ≡ None
-unfolding script_of
-script-unread held n name is = input-unread _ _ held n name is
+use Rattle.cli_trace.specs.Trace.{trace_of}
 
 received-unread : (held : Held) (n name : List ℕ) → received_of held n ≡ Err (Unread name) → held name ≡ None
 unfolding received_of
@@ -95,18 +61,7 @@ seal-unread held image key id machine sealed name is = elim (bind-err (image_of 
   | inr read ↦ absurd (let last = read.2 in cc)
 ]
 
-parts-unread : (held : Held) (run name : List ℕ) → parts_of held run ≡ Err (Unread name) → held name ≡ None
-unfolding parts_of
-parts-unread held run name is = elim (bind-err (run_file_of held run) _ (Unread name) is) [
-  | inl here ↦ run_file-unread held run name here
-  | inr file ↦ elim (bind-err (image_of held file.0.owner.plain) _ (Unread name) file.2) [
-    | inl here ↦ image-unread held file.0.owner.plain name here
-    | inr image ↦ elim (bind-err (script_of held file.0.kernel) _ (Unread name) image.2) [
-      | inl here ↦ script-unread held file.0.kernel name here
-      | inr ops ↦ absurd (let last = ops.2 in cc)
-    ]
-  ]
-]
+-- ---- Commands on runs
 
 trace-unread : (held : Held) (run : List ℕ) (journal : Option (List ℕ)) (name : List ℕ) → trace_of held run journal ≡ Err (Unread name) → held name ≡ None
 unfolding trace_of
@@ -122,28 +77,14 @@ run-unread held run name is = elim (bind-err (parts_of held run) _ (Unread name)
   | inr parts ↦ absurd (let last = parts.2 in cc)
 ]
 
-judge_run-unread : (held : Held) (n name : List ℕ) → judge_run_of held n ≡ Err (Unread name) → held name ≡ None
-unfolding judge_run_of
-judge_run-unread held n name is = input-unread _ _ held n name is
-
 journal-unread : (held : Held) (n name : List ℕ) → journal_of held n ≡ Err (Unread name) → held name ≡ None
 unfolding journal_of
 journal-unread held n name is = input-unread _ _ held n name is
 
-owners-unread : (held : Held) (lines : List OwnerFile) (name : List ℕ) → owners_of held lines ≡ Err (Unread name) → held name ≡ None
-owners-unread held [] name is = absurd (cc)
-owners-unread held (line ∷ lines) name is = elim (bind-err (image_of held line.plain) _ (Unread name) is) [
-  | inl here ↦ image-unread held line.plain name here
-  | inr image ↦ elim (bind-err (owners_of held lines) _ (Unread name) image.2) [
-    | inl here ↦ owners-unread held lines name here
-    | inr owners ↦ absurd (let last = owners.2 in cc)
-  ]
-]
-
 judge-unread : (held : Held) (run journal name : List ℕ) → judge_of held run journal ≡ Err (Unread name) → held name ≡ None
 unfolding judge_of
-judge-unread held run journal name is = elim (bind-err (judge_run_of held run) _ (Unread name) is) [
-  | inl here ↦ judge_run-unread held run name here
+judge-unread held run journal name is = elim (bind-err (run_file_of held run) _ (Unread name) is) [
+  | inl here ↦ run_file-unread held run name here
   | inr file ↦ elim (bind-err (owners_of held file.0.owners) _ (Unread name) file.2) [
     | inl here ↦ owners-unread held file.0.owners name here
     | inr owners ↦ elim (bind-err (journal_of held journal) _ (Unread name) owners.2) [

@@ -1,5 +1,5 @@
 -- How a call ends, and what it has done to files and sink by then.
-use Rattle.std.specs.Prelude.{◌≡◌, ◌⊎◌, ℕ, List, Option, Some, None, Result, Ok, Err, MatchOption}
+use Rattle.std.specs.Prelude.{◌≡◌, ◌⊎◌, ℕ, List, Option, Some, None, Result, Ok, Err, IfOk, MatchOption}
 use Rattle.xom_io.specs.declared.files.FileFault.{FileFault}
 use Rattle.xom_io.specs.declared.files.FileFault.TheVariants as file_fault
 use Rattle.xom_io.specs.declared.sink.SinkFault.{SinkFault}
@@ -17,7 +17,8 @@ use Rattle.cli_base.specs.declared.refusal.Stop.TheVariants as stop
 use Rattle.xom_cli.specs.Outcome.{IsOutcome}
 use Rattle.cli_base.specs.Readings.{Meets}
 use Rattle.cli_base.specs.Refusals.{line_of, words_line}
-use Rattle.xom_cli.specs.Rows.{Row, row_of}
+use Rattle.xom_cli.specs.Rows.{Row, Asm, Disasm, Plain, Seal, Run, Trace, Judge, row_of}
+use Rattle.cli_trace.specs.Trace.{RunFollows}
 
 -- what files tell, and their count of writes that failed
 pub record Disk : Type 0 where
@@ -107,10 +108,21 @@ Finishes disk_before disk_after before after (Ok answer) result = IsDone answer.
 Finishes disk_before disk_after before after (Err (stop.Refused refusal)) result = (disk_after ≡ disk_before) × PrintsRefusal before after refusal result
 Finishes disk_before disk_after before after (Err stop.NoMemory) result = (disk_after ≡ disk_before) × IsSilent before after ending.NoMemory result
 
--- the row's command answered, and what it answered is delivered
+-- what owners may believe of a row's run, where its command makes one
+abbrev pub RowFollows : Told → Row → Type 0
+RowFollows told (Asm source image) = Unit {0}
+RowFollows told (Disasm image) = Unit {0}
+RowFollows told (Plain image steps received) = Unit {0}
+RowFollows told (Seal image key id machine sealed) = Unit {0}
+RowFollows told (Run run) = RunFollows told run
+RowFollows told (Trace run journal) = RunFollows told run
+RowFollows told (Judge run journal) = Unit {0}
+
+-- The row's command answered, and what it answered is delivered. Where it was carried out, owners may believe what they may of its run.
 abbrev pub EndsRow : Outside → Outside → Row → Ending → Type 0
 EndsRow before after row result =
     (answered : Result Answer Stop) × Meets before.disk.held (IsOutcome row) before.reads after.reads answered × Finishes before.disk after.disk before.output after.output answered result
+    × IfOk answered (λ _. RowFollows before.disk.held row)
 
 -- the words matched no row, and that is printed
 abbrev pub EndsWords : Outside → Outside → Ending → Type 0

@@ -2,7 +2,8 @@
 use Rattle.std.specs.Prelude.{◌≡◌, ◌≢◌, ◌⊎◌, ℕ, ◌<◌, List, ◌++◌, Option, Some, None, Ok, Err, IsSomeAnd, MatchOption, option_and_then, take}
 use Rattle.xom_io.specs.Answers.{Appends, Holds, KeepsOthers, Rises}
 use Rattle.cli_base.specs.declared.answer.OutputFile.{OutputFile}
-use Rattle.cli_trace.specs.declared.trace.Parts.{Parts}
+use Rattle.cli_runs.specs.declared.parts.Parts.{Parts}
+use Rattle.cli_runs.specs.Parts.{parts_of}
 use Rattle.cli_base.specs.declared.refusal.Refusal.TheVariants.{Unread}
 use Rattle.xom_cli.specs.Endings.{Disk, Outside}
 use Rattle.cli_base.specs.Commands.{IsDone}
@@ -16,9 +17,11 @@ use Rattle.xom_script.specs.declared.run_file.RunFile.{RunFile}
 use Rattle.journal_text.specs.Readings.{IsJournal}
 use Rattle.trace_judge.specs.Judgement.{judgement}
 use Rattle.trace_judge.specs.ReportText.{report_text}
-use Rattle.cli_judge.specs.Judge.{judge_status, owners_of, run_file_of}
+use Rattle.cli_judge.specs.Judge.{judge_status}
+use Rattle.cli_runs.specs.OwnerImages.{owners_of}
+use Rattle.cli_runs.specs.RunFiles.{run_file_of}
 use Rattle.cli_trace.specs.Console.{console_of}
-use Rattle.cli_trace.specs.Trace.{AllFollow, NamesFinding, journal_file, last_record, parts_of, report_of, trace_of, trace_text, traced}
+use Rattle.cli_trace.specs.Trace.{GuestsFollow, NamesFinding, journal_file, last_record, report_of, trace_of, trace_text, traced}
 
 -- the statuses that there are
 abbrev pub IsStatus : ℕ → Type 0
@@ -126,17 +129,17 @@ IsUnprinted before after = before.disk.writes < after.disk.writes → after.outp
 
 -- ---- What the owner of a guest may believe
 
--- The headline: where `trace` was carried out, its text is the console of the run that the run file defines, the report on the journal that this run made, and the line of its events, and its file, where one is named, has the text of this journal; and each installed guest's recorded steps are those of its owner's program, run alone with the values that it received.
+-- The headline: where `trace` was carried out, its text is the console of the run that the run file defines, the report on the journal that this run made, and the line of its events, and its file, where one is named, has the text of this journal; and unless this report names a tag that was accepted for bytes never sealed, or two hashed texts of one digest, each installed guest's recorded steps are those of its owner's program, run alone with the values that it received.
 abbrev pub GuestsRunAlone : List (List ℕ) → Outside → Outside → ℕ → Type 0
 GuestsRunAlone words before after status = (held : Held) → before.disk.held ≡ Some held → (run : List ℕ) (journal : Option (List ℕ)) → row_of words ≡ Some (Trace run journal) → IsDone status
     → (parts : Parts) × (parts_of held run ≡ Ok parts) × Appends before.output.written after.output.written (trace_text (report_of parts) (last_record parts))
-    × WritesFile before.disk after.disk (journal_file journal (last_record parts).core.entries) × AllFollow (report_of parts)
+    × WritesFile before.disk after.disk (journal_file journal (last_record parts).core.entries) × GuestsFollow parts
 
--- Where `run` was carried out, its text is the console of the run that `trace` makes of the same run file, and its status is that of this trace; and each guest's steps are those of its owner's program too.
+-- Where `run` was carried out, its text is the console of the run that `trace` makes of the same run file, and its status is that of this trace; and the same is so of each guest's steps.
 abbrev pub PrintsConsole : List (List ℕ) → Outside → Outside → ℕ → Type 0
 PrintsConsole words before after status = (held : Held) → before.disk.held ≡ Some held → (run : List ℕ) → row_of words ≡ Some (Run run) → IsDone status
     → (parts : Parts) × (parts_of held run ≡ Ok parts) × (trace_of held run None ≡ Ok (traced None parts)) × (status ≡ (traced None parts).status)
-    × Appends before.output.written after.output.written (console_of (last_record parts).core.entries) × AllFollow (report_of parts)
+    × Appends before.output.written after.output.written (console_of (last_record parts).core.entries) × GuestsFollow parts
 
 -- the words ask for the run of this run file
 abbrev pub AsksForRun : List (List ℕ) → List ℕ → Type 0

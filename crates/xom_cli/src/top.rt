@@ -1,5 +1,5 @@
 ghost use Rattle.std.specs.Prelude.{◌≡◌, IfOk, map, string_bytes};
-ghost use Rattle.xom_cli.specs.Endings.{Ends, disk, output, outside};
+ghost use Rattle.xom_cli.specs.Endings.{Ends, RowFollows, disk, output, outside};
 ghost use Rattle.cli_base.specs.Commands.{IsDone};
 ghost use Rattle.xom_cli.specs.Outcome.{IsOutcome};
 ghost use Rattle.xom_cli.specs.Promises.{Promises};
@@ -38,7 +38,7 @@ use xom_io::{Files, Sink};
 ///
 /// 0: carried out; for a run, the kernel halted; for a journal, none of what follows. 1: the words match no command. 2: a file can't be
 /// read. 3: the output can't be written. 4: a file is too long, or off its format. 5: no memory was
-/// found. 6: the budget was reached. 8: a guest was stopped. 9: the report names a forgery, a
+/// found. 6: the budget was reached. 7: the kernel faulted. 8: a guest was stopped. 9: the report names a forgery, a
 /// collision, or a guest that departs from its program. No file is changed but the one that the
 /// command writes, and that is put before anything is printed.
 pub fn xom_main<F: Files, O: Sink>(
@@ -76,6 +76,7 @@ fn call<F: Files, O: Sink>(alloc: Global, words: &[String], files: &mut F, out: 
 fn answer<F: Files>(alloc: Global, row: Row<'_>, files: &mut F) -> Result<Answer, Stop>
     ensures meets { Meets (F.held files.old) (IsOutcome (shown row.entry)) (F.reads files.old) (F.reads files.new) result }
     ensures done { IfOk result (λ answer. IsDone answer.status) }
+    ensures follow { IfOk result (λ _. RowFollows (F.held files.old) (shown row.entry)) }
     ensures names { F.held files.new ≡ F.held files.old }
     ensures writes { F.writes files.new ≡ F.writes files.old }
 {

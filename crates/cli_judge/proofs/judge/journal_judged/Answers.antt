@@ -1,5 +1,5 @@
 use Rattle.cli_base.specs.Commands.{IsDone}
-use Rattle.cli_judge.proofs.Files.{named-keeps}
+use Rattle.cli_runs.proofs.Steps.{named-keeps}
 use Rattle.cli_judge.proofs.judge.journal_judged.Goals as goal
 
 pub returns-clause-done : goal.returns-clause-done

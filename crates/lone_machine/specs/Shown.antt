@@ -1,8 +1,0 @@
--- What is told of a slot.
-use Rattle.std.specs.Prelude.{ℕ, List, slice_index_or}
-use Rattle.session_table.specs.declared.session.SlotView.{SlotView}
-use Rattle.session_table.specs.Sessions.{free}
-use Rattle.lone_model.specs.Seen.{shown_slot}
-
-abbrev pub slot_at : List SlotView → ℕ → SlotView
-slot_at slots slot = slice_index_or slots slot (shown_slot free)

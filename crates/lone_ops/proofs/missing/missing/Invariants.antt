@@ -1,7 +1,0 @@
--- The search from this cell on finds the same.
-use Rattle.std.proofs.Common.{◌≡◌, ◌-◌}
-use Rattle.lone_model.specs.Operation.{missing, missing_from}
-use Rattle.lone_ops.proofs.missing.missing.Given as goal
-
-abbrev pub invariant-loop-reg : goal.invariant-loop-reg
-invariant-loop-reg l = missing_from l.slot l.mask l.cells (34 - l.reg) l.reg ≡ missing l.slot l.mask l.cells

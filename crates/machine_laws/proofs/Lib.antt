@@ -1,4 +1,0 @@
-pub mod ShortEffects
-pub mod RuledSteps
-pub mod RuledEvents
-pub mod RuledRuns

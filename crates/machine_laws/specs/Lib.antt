@@ -1,2 +1,0 @@
-pub mod RulesOfRecord
-pub mod RulesKept

@@ -1,0 +1,3 @@
+mod Sizes
+pub mod Reading
+pub mod Holding

@@ -1,0 +1,17 @@
+ghost use Rattle.std.specs.Prelude.{◌≡◌, length};
+ghost use Rattle.line_ram.specs.Bytes.{HoldsRange, stored};
+ghost use Rattle.power_on.specs.Start.{ram_of, with_bytes};
+
+use xom_machine::Machine;
+use xom_versions::VersionStore;
+
+/// Puts bytes into RAM before the first event.
+#[tactic(auto, unfolding(xom_model::specs::Null::poked), using(crate::proofs::Sizes::stored_size))]
+pub fn put<V: VersionStore>(machine: &mut Machine<V>, address: u32, bytes: &[u8])
+    requires first { machine.old.state.events ≡ 0 }
+    requires holds { HoldsRange (ram_of machine.old) address (length bytes.now) }
+    ensures bytes { machine.new ≡ with_bytes machine.old (stored (ram_of machine.old) address bytes.now) }
+    ensures size { length (ram_of machine.new) ≡ length (ram_of machine.old) }
+{
+    machine.load(address, bytes);
+}
