@@ -1,9 +1,16 @@
 //! How fast a journal is judged: `mixed N` feeds a judge so many entries, in turn a seal, an accept of it, a
 //! hash and three steps that follow; `steps N` steps alone; `owned N` accepts of lines that the owner
 //! sealed; `installs N` so many installs and kills of a guest of one line. `sealings N` seals so many lines and
-//! judges none: the cryptography of `owned`. `journals N` makes a journal of mixed entries, `judged N` judges it
-//! in one call, `texts N` prints it, and `lines N` reads that text again. `strays N` judges steps and installs
-//! of one number in turn, and `skips N` those of the numbers from 2 on. The benchmark of judging times them.
+//! judges none: the cryptography of `owned`. `entries N` makes mixed entries and judges none, and `digests N`
+//! takes the digests of the hashes among them: the cryptography of `mixed`. `journals N` makes a journal of
+//! mixed entries, `judged N` judges it in one call, `texts N` prints it, and `lines N` reads that text again.
+//! `strays N` judges steps and installs of one number in turn, and `skips N` those of the numbers from 2 on.
+//! The benchmark of judging times them.
+//!
+//! What the judge computes itself: as it is made, each owner's keys and envelope; for an accept under an
+//! owner's image key that names a line of the image, the sealing of that line (two blocks of AES and one HMAC);
+//! for any other entry no cryptography. In `mixed` no accept is under an owner's key, so all cryptography
+//! there is that of making the entries.
 #![tactic(auto)]
 
 use journal_text::{print_journal, read_journal};
@@ -37,6 +44,8 @@ enum Work {
     Owned,
     Installs,
     Sealings,
+    Entries,
+    Digests,
     Journals,
     Judged,
     Texts,
@@ -75,6 +84,8 @@ fn work_of(word: &str) -> Option<Work> {
         "owned" => Some(Work::Owned),
         "installs" => Some(Work::Installs),
         "sealings" => Some(Work::Sealings),
+        "entries" => Some(Work::Entries),
+        "digests" => Some(Work::Digests),
         "journals" => Some(Work::Journals),
         "judged" => Some(Work::Judged),
         "texts" => Some(Work::Texts),
@@ -89,6 +100,8 @@ fn work_of(word: &str) -> Option<Work> {
 fn done(alloc: Global, work: Work, count: u64) -> Result<u64, NoMemory> {
     match work {
         Work::Sealings => Ok(sealed(count)),
+        Work::Entries => Ok(made(count)),
+        Work::Digests => Ok(hashed(count)),
         Work::Journals => Ok(journal(alloc, Work::Mixed, count)?.len()),
         Work::Judged => judged(alloc, Work::Mixed, count),
         Work::Strays | Work::Skips => judged(alloc, work, count),
@@ -173,6 +186,27 @@ fn sealed(count: u64) -> u64 {
     last
 }
 
+/// So many mixed entries, made and let go; what they cost of a journal.
+fn made(count: u64) -> u64 {
+    let accept = owned();
+    let mut sum: u64 = 0;
+    for i in 0..count {
+        sum = sum.wrapping_add(cost(&entry(Work::Mixed, i, &accept)));
+    }
+    sum
+}
+
+/// The digests of the hashes among so many mixed entries; the sum of their first bytes.
+fn hashed(count: u64) -> u64 {
+    let mut sum: u64 = 0;
+    for i in 1..count {
+        if is_hash(i - 1) {
+            sum = sum.wrapping_add(u64::from(digest(&round(i - 1))[0]));
+        }
+    }
+    sum
+}
+
 /// The loop's line.
 fn line() -> [u8; 32] {
     let mut line = [0; 32];
@@ -244,20 +278,29 @@ fn owned() -> Entry {
 
 /// In turn a seal, an accept of it, a hash and three steps.
 fn mixed(i: u64) -> Entry {
-    let round = (i / 6).wrapping_mul(0x9e37_79b9_7f4a_7c15).to_be_bytes();
     match i % 6 {
         0 => Entry::Seal {
             key: Short::new(&[9; 32]),
-            message: message(&round),
+            message: message(&round(i)),
         },
         1 => Entry::Accept {
             key: Short::new(&[9; 32]),
-            message: message(&round),
+            message: message(&round(i)),
             place: 0,
         },
-        2 => hash(&round),
+        2 => hash(&round(i)),
         other => step(other),
     }
+}
+
+/// Whether the mixed entry at a place is a hash.
+fn is_hash(i: u64) -> bool {
+    i % 6 == 2
+}
+
+/// Eight bytes that tell the round of the mixed entry at a place.
+fn round(i: u64) -> [u8; 8] {
+    (i / 6).wrapping_mul(0x9e37_79b9_7f4a_7c15).to_be_bytes()
 }
 
 /// A message of 61 bytes that tells its round.

@@ -1,5 +1,5 @@
 -- Reports of equal parts are equal, and a judge that is fed a journal.
-use Rattle.std.proofs.Common.{◌≡◌, ℕ, ◌+◌, ◌^◌, ◌<◌, List, [], ◌∷◌, ◌++◌, Option, Some, None, true, length, min, take, ap, subst, sym, ◌∙◌, arith, length-take}
+use Rattle.std.proofs.Common.{◌≡◌, ℕ, ◌+◌, ◌^◌, ◌<◌, List, [], ◌∷◌, ◌++◌, Option, Some, None, true, length, min, take, suc, get_or, ap, subst, sym, ◌∙◌, arith, length-take, take-suc}
 use Rattle.std.specs.Prelude.{IfOk, Result, Ok, Err, slice_get}
 use Rattle.xom_base.specs.declared.entry.Entry.{Entry}
 use Rattle.xom_base.specs.declared.key.Key256.{Key256}
@@ -7,9 +7,10 @@ use Rattle.xom_base.specs.declared.list.NoMemory.{NoMemory}
 use Rattle.xom_owners.specs.declared.owner.Owner.{Owner}
 use Rattle.trace_judge.specs.declared.report.GuestLine.{GuestLine}
 use Rattle.trace_judge.specs.declared.report.Report.{Report}
+use Rattle.trace_judge.specs.declared.searches.Searches.{Searches}
 use Rattle.trace_judge.specs.declared.stream.Judge.{Judge}
 use Rattle.trace_judge.specs.Judgement.{judgement}
-use Rattle.trace_judge.specs.Judging.{HasJudged}
+use Rattle.trace_judge.specs.Judging.{HasJudged, HasSearched}
 use Rattle.trace_judge.specs.Numbers.{install_count, may_stand}
 use Rattle.trace_judge.proofs.Takes.{take_got, take_none}
 
@@ -36,3 +37,13 @@ judged_none machine owners judge entries i none judged = subst (HasJudged machin
 pub judgement-of_report : (machine : Key256) (owners : List Owner) (judge : Judge) (entries : List Entry) (result : Result Report NoMemory) → IfOk result (λ report. (m : Key256) (os : List Owner) (es : List Entry) → HasJudged m os judge es → report ≡ judgement m os es) → HasJudged machine owners judge entries → IfOk result (λ report. report ≡ judgement machine owners entries)
 judgement-of_report machine owners judge entries (Ok report) tells judged = tells machine owners entries judged
 judgement-of_report machine owners judge entries (Err e) tells judged = tt
+
+-- ---- The entries of a list, one by one
+
+-- one more entry of a list
+pub searched_next : (sealed : List (List ℕ × List ℕ)) (old new : Searches) (entries : List Entry) (i : ℕ) (e : Entry) → i < length entries → i + 1 < 2 ^ 64 → e ≡ get_or entries i e → ((s : List (List ℕ × List ℕ)) (es : List Entry) → length es + 1 < 2 ^ 64 → HasSearched s old es → HasSearched s new (es ++ e ∷ [])) → HasSearched sealed old (take i entries) → HasSearched sealed new (take (i + 1) entries)
+searched_next sealed old new entries i e inside small item feeds searched =
+    let next : suc i ≡ i + 1 = omega arith in
+    let more : take (i + 1) entries ≡ take i entries ++ e ∷ [] = subst (λ m. take m entries ≡ take i entries ++ e ∷ []) next (take-suc entries i e inside ∙ ap (λ x. take i entries ++ x ∷ []) (sym item)) in
+    let short : length (take i entries) ≡ min i (length entries) = length-take i entries in
+    subst (HasSearched sealed new) (sym more) (feeds sealed (take i entries) (omega arith) searched)

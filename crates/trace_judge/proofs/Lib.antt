@@ -1,6 +1,7 @@
 pub mod Lines
 pub mod Takes
 pub mod Puts
+pub mod Firsts
 pub mod Places
 pub mod CollisionLaws
 pub mod ForgeryLaws

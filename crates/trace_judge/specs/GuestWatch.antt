@@ -50,6 +50,13 @@ watch_after_step (Over count) step = Departed ((count + 1) % 2 ^ 64)
 watch_after_step NoOwner step = NoOwner
 watch_after_step (Departed place) step = Departed place
 
+-- what is known of a program after one more step, its `count`th, where the program doesn't go on
+abbrev pub left_after : State → ℕ → Step → Option Watch
+left_after p count step =
+    if is_step step (plain p (given_of step.received)).0
+    then (if (plain p (given_of step.received)).1.over then Some (Over count) else None)
+    else Some (Departed count)
+
 -- what is known of an install before its first step
 abbrev pub watch_of : Option Owner → Watch
 watch_of None = NoOwner

@@ -73,7 +73,7 @@ impl Collisions {
                     number,
                     preimage: *preimage,
                 };
-                self.hashes.insert(*digest, first)?;
+                self.hashes.insert(digest, &first)?;
             }
             Some(first) => {
                 if preimage.bytes() != first.preimage.bytes() {

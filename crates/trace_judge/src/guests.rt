@@ -1,8 +1,7 @@
-ghost use Rattle.std.specs.Prelude.{◌≡◌, ◌<◌, ◌+◌, ◌^◌, ◌++◌, [], ◌∷◌, List, length, map, true, OnOk, OnErr, IfOk, if◌then◌else◌};
+ghost use Rattle.std.specs.Prelude.{◌≡◌, ◌<◌, ◌+◌, ◌%◌, ◌^◌, ◌++◌, [], ◌∷◌, List, length, map, true, OnOk, OnErr, IfOk, if◌then◌else◌};
 ghost use Rattle.xom_base.specs.declared.entry.Entry.{Entry as AnEntry};
 ghost use Rattle.xom_owners.specs.declared.owner.Owner.{Owner};
-ghost use Rattle.trace_judge.specs.declared.guests.Watch.TheVariants.{Departed};
-ghost use Rattle.trace_judge.specs.GuestWatch.{end_after_entry as end_after_of, line_after, next_guest, watch_in};
+ghost use Rattle.trace_judge.specs.GuestWatch.{end_after_entry as end_after_of, left_after, line_after, next_guest};
 ghost use Rattle.mips_plain.specs.Follows.{given_of as given_by, is_step};
 ghost use Rattle.mips_plain.specs.Machine.{plain as plain_of};
 ghost use Rattle.trace_judge.specs.Judgement.{guest_lines};
@@ -12,7 +11,6 @@ use crate::steps::{does, end_in, step_in};
 use crate::{GuestEnd, GuestLine, GuestLineList, Verdict};
 use mips_plain::Plain;
 use std::alloc::Global;
-use std::mem::replace;
 use xom_base::{Entry, ImageId, NoMemory, Step};
 use xom_owners::{OwnerList, owner_of};
 
@@ -42,17 +40,21 @@ pub struct Guest {
 impl Watch {
     ghost use Rattle.trace_judge.specs.GuestWatch.{verdict_after, watch_after_step};
 
-    /// Takes the next step. Wants no memory, and lets the machine go where the step departs or is the last.
-    fn step(self, step: &Step) -> Watch
-        ensures { result ≡ watch_after_step self step.now }
+    /// Takes the next step, in place. Wants no memory, and lets the machine go where the step departs or is
+    /// the last.
+    fn step(&mut self, step: &Step)
+        ensures { self.new ≡ watch_after_step self.old step.now }
     {
-        match self {
-            Watch::Runs { plain, count } => run(plain, count.wrapping_add(1), step),
-            Watch::Over { count } => Watch::Departed {
+        let left = match self {
+            Watch::Runs { plain, count } => run(plain, count, step),
+            Watch::Over { count } => Some(Watch::Departed {
                 place: count.wrapping_add(1),
-            },
-            Watch::NoOwner => Watch::NoOwner,
-            Watch::Departed { place } => Watch::Departed { place },
+            }),
+            Watch::NoOwner => None,
+            Watch::Departed { place: _place } => None,
+        };
+        if let Some(next) = left {
+            *self = next;
         }
     }
 
@@ -72,21 +74,21 @@ impl Watch {
     }
 }
 
-/// Lets a program take a step, its `place`th.
-fn run(plain: Plain, place: u64, step: &Step) -> Watch
-    ensures { result ≡ (if is_step step.now (plain_of plain (given_by step.now.received)).0 then watch_in (plain_of plain (given_by step.now.received)).1 place else Departed place) }
+/// Lets a program take its next step, where `count` came before. Answers what is known of it then, where it
+/// doesn't go on.
+fn run(plain: &mut Plain, count: &mut u64, step: &Step) -> Option<Watch>
+    ensures plain { plain.new ≡ (plain_of plain.old (given_by step.now.received)).1 }
+    ensures count { count.new ≡ (count.old + 1) % 2 ^ 64 }
+    ensures left { result ≡ left_after plain.old count.new step.now }
 {
-    let mut machine = plain;
-    if !does(&mut machine, step) {
-        return Watch::Departed { place };
+    *count = count.wrapping_add(1);
+    if !does(plain, step) {
+        return Some(Watch::Departed { place: *count });
     }
-    if machine.is_over() {
-        return Watch::Over { count: place };
+    if plain.is_over() {
+        return Some(Watch::Over { count: *count });
     }
-    Watch::Runs {
-        plain: machine,
-        count: place,
-    }
+    None
 }
 
 impl Guest {
@@ -119,26 +121,12 @@ impl Guest {
     }
 
     /// Takes the next entry. Wants no memory.
-    fn take(self, entry: &Entry) -> Guest
-        ensures { result ≡ next_guest self entry.now }
+    fn take(&mut self, entry: &Entry)
+        ensures { self.new ≡ next_guest self.old entry.now }
     {
-        let Guest {
-            install,
-            slot,
-            id,
-            watch,
-            end,
-        } = self;
-        let next = match step_in(install, entry) {
-            None => watch,
-            Some(step) => watch.step(&step),
-        };
-        Guest {
-            install,
-            slot,
-            id,
-            watch: next,
-            end: next_end(end, install, entry),
+        self.end = next_end(self.end, self.install, entry);
+        if let Some(step) = step_in(self.install, entry) {
+            self.watch.step(&step);
         }
     }
 
@@ -266,7 +254,7 @@ impl Guests {
     {
         let place = install.saturating_sub(1) as usize;
         if place < self.items.len() {
-            advance(&mut self.items[place], entry);
+            self.items[place].take(entry);
         }
     }
 
@@ -295,19 +283,4 @@ fn lines_of(alloc: Global, guests: &[Guest]) -> Result<GuestLineList, NoMemory>
         lines.push(guest.line())?;
     }
     Ok(lines)
-}
-
-/// Lets a guest take an entry.
-fn advance(guest: &mut Guest, entry: &Entry)
-    ensures { guest.new ≡ next_guest guest.old entry.now }
-{
-    let left = Guest {
-        install: guest.install,
-        slot: guest.slot,
-        id: guest.id,
-        watch: Watch::NoOwner,
-        end: guest.end,
-    };
-    let old = replace(guest, left);
-    *guest = old.take(entry);
 }

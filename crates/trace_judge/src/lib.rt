@@ -7,6 +7,7 @@
 #![tactic(auto)]
 
 mod collisions;
+mod fingerprints;
 mod forgeries;
 mod guests;
 mod hashes;
