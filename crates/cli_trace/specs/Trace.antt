@@ -9,13 +9,13 @@ use Rattle.trace_judge.specs.declared.report.Report.{Report}
 use Rattle.trace_judge.specs.Judgement.{judgement}
 use Rattle.trace_judge.specs.ReportText.{report_text}
 use Rattle.trace_judge.specs.Suspicion.{is_stop, is_suspect}
-use Rattle.xom_versions.specs.Chip.{chip}
 use Rattle.xom_model.specs.declared.outcome.NullFault.{NullFault}
 use Rattle.xom_model.specs.declared.outcome.NullFault.TheVariants as null
 use Rattle.xom_model.specs.declared.outcome.Turn.{Turn}
 use Rattle.xom_model.specs.Run.{run_from}
 use Rattle.xom_model.specs.Seen.{View}
 use Rattle.xom_model.specs.State.{Record}
+use Rattle.power_on.specs.Shipped.{shipped}
 use Rattle.power_on.specs.Start.{first_record}
 use Rattle.kernels.specs.Turns.{image_told, script_told}
 use Rattle.journal_text.specs.JournalTexts.{journal_text}
@@ -42,11 +42,11 @@ code_of (kernel.Image image) = Some image
 
 -- the machine before its first event, with the kernel and these guests in RAM
 abbrev pub first_of : RunFile → List GuestImage → KernelFile → Record
-first_of file guests k = first_record chip file.machine file.boot file.frames (code_of k) guests
+first_of file guests k = first_record shipped file.machine file.boot file.frames (code_of k) guests
 
 -- the machine after the run of a kernel that tells its turns, under the schedule and within the budget of a run file
 abbrev pub last_under : {K : Type 0} → (K → View → Option (Turn × (List ℕ × K))) → K → RunFile → Record → Record
-last_under told k file first = unwrap_or (run_from chip told file.schedule file.budget 0 first k) first
+last_under told k file first = unwrap_or (run_from shipped told file.schedule file.budget 0 first k) first
 
 abbrev pub last_by : RunFile → List GuestImage → KernelFile → Record
 last_by file guests (kernel.Script script) = last_under script_told script.lines file (first_of file guests (kernel.Script script))

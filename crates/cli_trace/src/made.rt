@@ -8,29 +8,25 @@ ghost use Rattle.cli_runs.specs.declared.kernel_file.KernelFile.TheVariants as k
 ghost use Rattle.cli_trace.specs.Trace.{GuestsFollow, last_by, last_record, report_of, trace_status};
 ghost use Rattle.xom_model.specs.Honest.{IsBounded};
 ghost use Rattle.trace_judge.specs.Suspicion.{is_stop as is_stop_by};
-ghost use Rattle.xom_versions.specs.Chip.{chip};
+ghost use Rattle.power_on.specs.Shipped.{shipped};
 ghost use Rattle.xom_model.specs.Run.{run_from};
 
 use cli_runs::{GuestImageList, KernelFile, Parts};
 use kernels::{ImageKernel, ScriptKernel};
-use power_on::power_on;
+use power_on::{ShippedMachine, power_on};
 use std::alloc::Global;
 use trace_judge::{Report, is_stop, is_suspect, judge};
 use xom_base::{NoMemory, PlainImage};
 use xom_journal::Journal;
-use xom_machine::{Chunk, Kernel, Machine, run};
+use xom_machine::{Chunk, Kernel, run};
 use xom_model::outcome::RunEnd;
 use xom_script::{RunFile, Script};
-use xom_versions::ChipVersions;
-
-/// The machine that runs: versions of private lines stand on chip.
-pub type ChipMachine = Machine<ChipVersions>;
 
 /// A run that was made, with the report on its journal.
 #[derive(Drop)]
 pub struct JudgedRun {
     /// The machine after it.
-    pub machine: ChipMachine,
+    pub machine: ShippedMachine,
     /// The report.
     pub report: Report,
 }
@@ -71,7 +67,7 @@ fn ran(
     file: &RunFile,
     guests: &GuestImageList,
     kernel: KernelFile,
-) -> Result<ChipMachine, NoMemory>
+) -> Result<ShippedMachine, NoMemory>
     requires file { IsRunnable file.now }
     requires guests { FitsAll file.now.frames first_frame guests.now }
     requires kernel { FitsKernel file.now.frames kernel }
@@ -89,7 +85,7 @@ fn ran_script(
     file: &RunFile,
     guests: &GuestImageList,
     script: Script,
-) -> Result<ChipMachine, NoMemory>
+) -> Result<ShippedMachine, NoMemory>
     requires file { IsRunnable file.now }
     requires guests { FitsAll file.now.frames first_frame guests.now }
     ensures { IfOk result (λ last. last.state ≡ last_by file.now guests.now (kernel_file.Script script)) }
@@ -105,7 +101,7 @@ fn ran_image(
     file: &RunFile,
     guests: &GuestImageList,
     image: &PlainImage,
-) -> Result<ChipMachine, NoMemory>
+) -> Result<ShippedMachine, NoMemory>
     requires file { IsRunnable file.now }
     requires guests { FitsAll file.now.frames first_frame guests.now }
     requires kernel { FitsKernel file.now.frames (kernel_file.Image image.now) }
@@ -126,13 +122,13 @@ fn ran_image(
 /// The machine after the run of a kernel over it, under the schedule and the budget of a run file.
 fn run_under<K: Kernel + Drop>(
     alloc: Global,
-    machine: ChipMachine,
+    machine: ShippedMachine,
     kernel: K,
     file: &RunFile,
-) -> Result<ChipMachine, NoMemory>
+) -> Result<ShippedMachine, NoMemory>
     requires first { machine.state.events ≡ 0 }
     requires file { IsRunnable file.now }
-    ensures { IfOk result (λ last. IfSome (run_from chip K.told file.now.schedule file.now.budget 0 machine.state kernel) (λ r. last.state ≡ r)) }
+    ensures { IfOk result (λ last. IfSome (run_from shipped K.told file.now.schedule file.now.budget 0 machine.state kernel) (λ r. last.state ≡ r)) }
 {
     let mut machine = machine;
     let mut kernel = kernel;

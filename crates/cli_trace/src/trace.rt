@@ -5,10 +5,11 @@ ghost use Rattle.cli_runs.specs.Parts.{CanRun};
 ghost use Rattle.cli_trace.specs.Trace.{GuestsFollow, RunFollows, answer_of, events_line, fault_text, fault_word as fault_word_of, journal_file as journal_file_of, kind_text, trace_of, traced as traced_of};
 
 use crate::console::{console, end_line};
-use crate::made::{ChipMachine, JudgedRun, judged, status};
+use crate::made::{JudgedRun, judged, status};
 use cli_base::{Answer, OutputFile, Stop};
 use cli_runs::{Parts, read_parts};
 use journal_text::print_journal;
+use power_on::ShippedMachine;
 use std::alloc::Global;
 use text_pieces::{push_decimal64, push_hex8, push_text};
 use trace_judge::print_report;
@@ -84,7 +85,7 @@ fn journal_file(
 }
 
 /// Adds how many events there were, and how the run ended.
-fn push_events(text: &mut Vec<u8>, machine: &ChipMachine) -> Result<(), NoMemory>
+fn push_events(text: &mut Vec<u8>, machine: &ShippedMachine) -> Result<(), NoMemory>
     ensures { OnOk result (text.new.items ≡ text.old.items ++ events_line machine.now.state) }
 {
     push_text(text, "events ")?;

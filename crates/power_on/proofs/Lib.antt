@@ -1,3 +1,4 @@
 mod Sizes
 pub mod Reading
 pub mod Holding
+pub mod ShippedLaw

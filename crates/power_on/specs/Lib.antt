@@ -1,2 +1,3 @@
 pub mod Start
 pub mod ReadAgain
+pub mod Shipped

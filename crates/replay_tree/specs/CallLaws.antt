@@ -10,7 +10,7 @@ use Rattle.xom_versions.specs.Versions.{next_version, start_version, with_hashes
 use Rattle.replay_tree.specs.Tree.{AreHashed, TreeStands, digest_of, lines_of, node, root_of}
 use Rattle.replay_tree.specs.Area.{texts_up_to, width}
 use Rattle.replay_tree.specs.Paths.{index_at, path_in}
-use Rattle.replay_tree.specs.Calls.{answer_of, in_area, new_ram, new_root, new_texts, raised_in, ram_after_raise_in, root_after_raise, texts_of_check, texts_of_raise_in, torn_in, torn_or, version_in, version_texts}
+use Rattle.replay_tree.specs.Calls.{answer_of, in_area, new_ram, new_root, new_texts, raised_in, raised_ram_in, ram_after_raise_in, root_after_raise, texts_of_check, texts_of_raise_in, torn_in, torn_or, version_in, version_texts}
 use Rattle.replay_tree.specs.NodeLaws.{own-number, other-number, renewed-node}
 use Rattle.replay_tree.specs.CheckLaws.{AreIn, added-are_in, checked-path, in-back, in-front, number-found, top-index}
 use Rattle.replay_tree.specs.RaiseLaws.{hashed-longer, hashed-renewed}
@@ -165,3 +165,20 @@ same-ram top (Some area) root other line ram same = by_torn (torn_in top root ar
     by_torn (Some level) (Some other_level) same = refl
     by_torn None (Some level) same = absurd (cc)
     by_torn (Some level) None same = absurd (cc)
+
+-- what a raise that is answered leaves in RAM is told by area, line and RAM
+pub ram-answered : (top : ℕ) (area : Option ℕ) (root : List ℕ) (line number : ℕ) (ram : List ℕ)
+    → answer_of top (raised_in top) area root line ram ≡ Ok number → ram_after_raise_in top area root line ram ≡ raised_ram_in top area line ram
+ram-answered top None root line number ram is = refl
+ram-answered top (Some area) root line number ram is =
+    ap (λ torn. new_ram top torn area line ram) (not-torn (torn_in top root area line ram) (raised_in top area line ram) number is)
+
+-- and a torn one leaves RAM as it was
+pub ram-torn : (top : ℕ) (area : Option ℕ) (root : List ℕ) (line : ℕ) (ram : List ℕ) (fault : Torn)
+    → answer_of top (raised_in top) area root line ram ≡ Err fault → ram_after_raise_in top area root line ram ≡ ram
+ram-torn top None root line ram fault is = refl
+ram-torn top (Some area) root line ram fault is = by_torn (torn_in top root area line ram) is
+  where
+    by_torn : (torn : Option ℕ) → torn_or torn (raised_in top area line ram) ≡ Err fault → new_ram top torn area line ram ≡ ram
+    by_torn None is = absurd (cc)
+    by_torn (Some level) is = refl

@@ -3,7 +3,7 @@ use Rattle.std.specs.Prelude.{ℕ, ◌++◌, List, [], Option, Some, None, Resul
 use Rattle.line_ram.specs.Bytes.{stored}
 use Rattle.xom_versions.specs.declared.store.Torn.{Torn}
 use Rattle.xom_versions.specs.Store.{Store}
-use Rattle.xom_versions.specs.Versions.{Versions, next_version, start_version}
+use Rattle.xom_versions.specs.Versions.{Raised, Versions, next_version, start_version}
 use Rattle.replay_tree.specs.Area.{area_bytes, texts_up_to}
 use Rattle.replay_tree.specs.Paths.{checked_texts, number_in, path_in, ram_renewed, renewed, renewed_texts, torn_at}
 use Rattle.replay_tree.specs.Tree.{digest_of, root_of}
@@ -88,3 +88,11 @@ tree_of top = record {
 -- the calls of the tree over a guest's 32,768 lines
 abbrev pub tree : Versions
 tree = tree_of top_level
+
+-- RAM after a raise that was answered: the blocks of the line's path are renewed from those that stand in the area
+abbrev pub raised_ram_in : ℕ → Raised
+raised_ram_in top None line ram = ram
+raised_ram_in top (Some area) line ram = new_ram top None area line ram
+
+abbrev pub tree_raised : Raised
+tree_raised = raised_ram_in top_level

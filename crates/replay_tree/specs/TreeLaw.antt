@@ -4,12 +4,12 @@ use Rattle.std.specs.Prelude.{IfSome}
 use Rattle.line_ram.specs.Bytes.{HoldsRange}
 use Rattle.line_ram.proofs.Ranges.{length-stored}
 use Rattle.xom_versions.specs.Store.{area_size, hash_entry, line_limit}
-use Rattle.xom_versions.specs.Versions.{VersionLaw, start_version}
+use Rattle.xom_versions.specs.Versions.{RaisesInTheOpen, VersionLaw, start_version}
 use Rattle.replay_tree.specs.Tree.{TreeStands, digest_of}
 use Rattle.replay_tree.specs.Area.{area_bytes, level_offset, part_size}
 use Rattle.replay_tree.specs.Paths.{index_at}
-use Rattle.replay_tree.specs.Calls.{answer_of, raised_in, ram_after_raise_in, top_level, tree, texts_of_raise_in}
-use Rattle.replay_tree.specs.CallLaws.{build-stands, raise-told, same-ram, size-raised, torn-root, version-told}
+use Rattle.replay_tree.specs.Calls.{answer_of, raised_in, ram_after_raise_in, top_level, tree, tree_raised, texts_of_raise_in}
+use Rattle.replay_tree.specs.CallLaws.{build-stands, raise-told, ram-answered, ram-torn, same-ram, size-raised, torn-root, version-told}
 use Rattle.replay_tree.specs.PlaceLaws.{area_length, length-area}
 use Rattle.replay_tree.specs.RaiseLaws.{hashed-longer, hashed-same}
 use Rattle.replay_tree.specs.NodeLaws.{node-same}
@@ -67,4 +67,12 @@ tree_law = record {
   area_after_raise = λ store line ram. refl;
   ram_by_area = λ store other line ram same torn.
       same-area store.area other.area store.root other.root line ram same torn;
+}
+
+-- and hides nothing in RAM
+pub tree_in_the_open : RaisesInTheOpen tree tree_raised
+tree_in_the_open = record {
+  done = λ store line number ram is. ram-answered top_level store.area store.root line number ram is;
+  torn = λ store line ram fault is. ram-torn top_level store.area store.root line ram fault is;
+  area = λ store line ram. refl;
 }

@@ -48,12 +48,10 @@ pub fn raise_in(
     ensures entries { journal.new.entries ≡ journal.old.entries ++ map hash_entry (version_texts top_level root.old area line ram.old ++ new_texts top_level (torn_in top_level root.old area line ram.old) area line ram.old) }
     ensures spare { journal.old.spare ≤ journal.new.spare + raise_room }
 {
-    match check(TOP, area, line, root, ram, journal) {
-        Some(level) => Err(Torn { level }),
-        None => {
-            let number = number_at(area, line, ram).wrapping_add(1);
-            *root = renew(TOP, area, line, number, ram, journal);
-            Ok(number)
-        }
+    if let Some(level) = check(TOP, area, line, root, ram, journal) {
+        return Err(Torn { level });
     }
+    let number = number_at(area, line, ram).wrapping_add(1);
+    *root = renew(TOP, area, line, number, ram, journal);
+    Ok(number)
 }

@@ -12,6 +12,8 @@ mod build;
 mod hashing;
 mod path;
 mod place;
+mod stand;
 mod tree;
 
+pub use stand::Stand;
 pub use tree::TreeVersions;

@@ -1,10 +1,12 @@
+ghost use Rattle.std.specs.Prelude.{◌≡◌, IfSome, Some, unwrap_or};
 ghost use Rattle.replay_tree.specs.Tree.{TreeStands};
-ghost use Rattle.replay_tree.specs.Calls.{top_level, tree};
-ghost use Rattle.replay_tree.specs.TreeLaw.{tree_law};
+ghost use Rattle.replay_tree.specs.Calls.{in_area, top_level, tree, tree_raised};
+ghost use Rattle.replay_tree.specs.TreeLaw.{tree_in_the_open, tree_law};
 
 use crate::answers::{raise_in, version_in};
 use crate::build::build_in;
 use crate::place::TOP;
+use crate::stand::Stand;
 use line_ram::LineRam;
 use std::alloc::Global;
 use std::marker::Model;
@@ -30,12 +32,39 @@ impl Model for TreeVersions {
     ghost view = { λ store. in_area store.area store.root };
 }
 
+impl TreeVersions {
+    /// Area and root. A store that was never built has no area: it tells area 0 and a root of 32 zeros.
+    pub fn stand(&self) -> Stand
+        ensures area { result.area ≡ unwrap_or self.now.area 0 }
+        ensures root { result.root ≡ self.now.root }
+
+        // A store that was built is all in this: `take` makes it again.
+        ensures whole { IfSome self.now.area (λ area. self.now ≡ in_area (Some result.area) result.root) }
+    {
+        Stand {
+            area: self.area.unwrap_or(0),
+            root: self.root,
+        }
+    }
+
+    /// Sets area and root, whatever the store was before. RAM isn't looked at: where the tree in this
+    /// area isn't that of this root, the next call is torn.
+    pub fn take(&mut self, stand: &Stand)
+        ensures { self.new ≡ in_area (Some stand.now.area) stand.now.root }
+    {
+        self.area = Some(stand.area);
+        self.root = stand.root;
+    }
+}
+
 impl VersionStore for TreeVersions {
     ghost as_store = { λ store. store };
 
     ghost versions = { tree };
 
     ghost Stands = { TreeStands top_level };
+
+    ghost raised_ram = { tree_raised };
 
     fn blank(alloc: Global) -> Result<TreeVersions, NoMemory> {
         Ok(TreeVersions {
@@ -64,4 +93,6 @@ impl VersionStore for TreeVersions {
     }
 
     ghost law = { tree_law };
+
+    ghost in_the_open = { tree_in_the_open };
 }

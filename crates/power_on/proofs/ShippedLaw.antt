@@ -1,0 +1,7 @@
+-- The version stores of the program keep the law of versions.
+use Rattle.xom_versions.specs.Versions.{VersionLaw}
+use Rattle.replay_tree.specs.TreeLaw.{tree_law}
+use Rattle.power_on.specs.Shipped.{ShippedStands, shipped}
+
+pub shipped_law : VersionLaw shipped ShippedStands
+shipped_law = tree_law
