@@ -2,6 +2,7 @@
 use Rattle.std.proofs.Common.{◌≡◌, inl, inr, ◌⊎◌, ℕ, ◌+◌, ◌<◌, ◌^◌, Bool, true, false, not, List, [], length, Option, Some, None, Ok, Err, refl, sym, ◌∙◌, ap, subst, arith}
 use Rattle.std.specs.Prelude.{is_some}
 use Rattle.std.proofs.lemmas.Bool.{and_parts, cond-false}
+use Rattle.std.proofs.lemmas.List.{length-replicate}
 use Rattle.xom_base.specs.declared.event.Cause.{Cause}
 use Rattle.xom_base.specs.declared.event.Event.{Event}
 use Rattle.xom_base.specs.declared.event.Event.TheVariants as event
@@ -34,6 +35,7 @@ use Rattle.xom_model.proofs.GuestKept.{faults_are_own}
 use Rattle.xom_model.proofs.KeptLaws.{kept_holds, kept_ram}
 use Rattle.xom_model.proofs.RamSize.{length-poked}
 use Rattle.xom_model.proofs.Turns.{events_keep, ran_on-core, running-runs, running-slot}
+use Rattle.xom_seen.proofs.Settled.{stores_stay}
 use Rattle.xom_machine.specs.Kept.{FaultsAreAlone, KeepsHolding, LeavesRefused}
 use Rattle.xom_machine.specs.Runs.{bytes_of}
 use Rattle.xom_machine.specs.Whole.{InTime, Whole, with_loaded}
@@ -94,6 +96,7 @@ event-InTime v r e chunk time few = elim (on-either v r e chunk) [
     counted = events_keep_counts v r e chunk time.counted;
     few = omega (arith, more, few);
     stops = events_keep_stops v r e chunk time.few time.counted time.stops;
+    stores = stores_stay v r e chunk ∙ time.stores;
     going = λ none. absurd (omega (arith, more, none));
   }
   | inr same ↦ subst InTime (sym same) time
@@ -105,6 +108,7 @@ alike-InTime r new core events halted time = record {
   counted = subst (λ c. AreCounted c new.events) (sym core) (subst (λ n. AreCounted r.core n) (sym events) time.counted);
   few = omega (arith, events, time.few);
   stops = subst StopsHold (sym core) time.stops;
+  stores = ap (λ (c : CoreState). length c.stores) core ∙ time.stores;
   going = λ none. halted ∙ time.going (sym events ∙ none);
 }
 
@@ -114,6 +118,7 @@ later-InTime r new n core events its time = record {
   counted = subst (λ c. AreCounted c new.events) (sym core) (subst (λ m. AreCounted r.core m) (its ∙ sym events) time.counted);
   few = omega (arith, events, its, time.few);
   stops = subst StopsHold (sym core) time.stops;
+  stores = ap (λ (c : CoreState). length c.stores) core ∙ time.stores;
   going = λ none. absurd (omega (arith, events, none));
 }
 
@@ -165,6 +170,7 @@ opened-InTime r s time = record {
   counted = open-counts r.core s.cells s.ram r.events time.counted;
   few = time.few;
   stops = open-stops r.core s.cells s.ram time.stops;
+  stores = time.stores;
   going = time.going;
 }
 
@@ -174,6 +180,7 @@ open-InTime r new cells ram core events time few = record {
   counted = subst (λ c. AreCounted c new.events) (sym core) (open-counts r.core cells ram new.events (subst (λ n. AreCounted r.core n) (sym events) (more-counts r.core r.events time.counted)));
   few = omega (arith, events, few);
   stops = subst StopsHold (sym core) (open-stops r.core cells ram time.stops);
+  stores = ap (λ (c : CoreState). length c.stores) core ∙ time.stores;
   going = λ none. absurd (omega (arith, events, none));
 }
 
@@ -182,6 +189,7 @@ loaded-InTime r ram time = record {
   counted = open-counts r.core r.core.cells ram r.events time.counted;
   few = time.few;
   stops = open-stops r.core r.core.cells ram time.stops;
+  stores = time.stores;
   going = time.going;
 }
 
@@ -190,6 +198,7 @@ start-InTime v machine boot ram pc = record {
   counted = counted_at_start v machine boot ram pc;
   few = omega arith;
   stops = start_stops v machine boot ram;
+  stores = length-replicate 17 v.blank_store;
   going = λ none. refl;
 }
 

@@ -10,7 +10,7 @@ use Rattle.xom_owners.specs.declared.owner.Owner.{Owner}
 use Rattle.journal_findings.specs.Findings.{sealed_by}
 use Rattle.xom_versions.specs.Versions.{Versions}
 use Rattle.xom_model.specs.Versions.{StandsFor}
-use Rattle.xom_model.specs.Honest.{IsBounded, IsHonest}
+use Rattle.xom_model.specs.Honest.{IsBounded, IsHonest, seals_of}
 use Rattle.xom_model.specs.declared.outcome.Outcome.{Outcome}
 use Rattle.xom_model.specs.declared.outcome.Outcome.TheVariants as outcome
 use Rattle.xom_model.specs.State.{Record}
@@ -22,6 +22,7 @@ use Rattle.xom_model.specs.Others.{StaysAside}
 use Rattle.xom_model.specs.Quiet.{IsQuiet, TrapsQuietly}
 use Rattle.xom_model.specs.Touched.{touched}
 use Rattle.xom_model.specs.Refused.{IsRefusal}
+use Rattle.xom_model.specs.Saves.{IsOnce}
 use Rattle.xom_model.specs.Sequence.{RunHolds}
 
 -- For every list of owners: while the journal is honest, all that the machine keeps holds as it held before, and no name of a Seal was used twice.
@@ -53,3 +54,9 @@ TrapsAreQuiet r e new what = (why : Cause) → what ≡ outcome.Left why → IsQ
 -- A slot that the event neither runs nor names, and none of whose lines it writes back, is left alone.
 abbrev pub LeavesOthers : Record → Event → Record → Type 0
 LeavesOthers r e new = (slot : ℕ) → slot ≢ 0 → slot ≢ touched r e → StaysAside r.core new.core slot
+
+-- No pad twice: while the journal is honest, two Seals of it whose messages are equal before the ciphertext, so in kind, install, line or register, and version or epoch, are equal. These name the key and the counter block.
+abbrev pub NoPadTwice : StandsFor → Record → Record → Type 0
+NoPadTwice Stands r new =
+    (owners : List Owner) → AreOwners owners → IsBounded new.core.entries → IsHonest (sealed_by r.core.machine owners) new.core.entries
+    → Holds Stands owners r.core → IsOnce (seals_of new.core.entries)

@@ -1,5 +1,5 @@
 -- The machine as its callers see it, and what its type keeps.
-use Rattle.std.specs.Prelude.{◌≡◌, ℕ, ◌<◌, ◌^◌, false, List}
+use Rattle.std.specs.Prelude.{◌≡◌, ℕ, ◌<◌, ◌^◌, false, List, length}
 use Rattle.xom_model.specs.Null.{poked}
 use Rattle.xom_model.specs.State.{Record}
 use Rattle.xom_model.specs.Counts.{AreCounted}
@@ -17,6 +17,8 @@ pub record InTime (r : Record) : Type 0 where
   pub few : r.events < 2 ^ 63
   -- stops are last
   pub stops : StopsHold r.core
+  -- there is a version store for each compartment
+  pub stores : length r.core.stores ≡ 17
   -- before the first event nothing has ended
   pub going : r.events ≡ 0 → r.halted ≡ false
 

@@ -10,7 +10,8 @@ ghost use Rattle.xom_model.specs.Operation.{operation};
 ghost use Rattle.xom_model.specs.Seen.{view_of};
 ghost use Rattle.xom_model.specs.State.{holds as holds_in, power_on};
 ghost use Rattle.xom_model.specs.Stops.{StopsAreLast, StopsHold};
-ghost use Rattle.xom_machine.specs.Kept.{FaultsAreAlone, KeepsHolding, LeavesOthers, LeavesRefused, TrapsAreQuiet};
+ghost use Rattle.xom_seen.specs.NoWayOut.{GivesNoMoreAway};
+ghost use Rattle.xom_machine.specs.Kept.{FaultsAreAlone, KeepsHolding, LeavesOthers, LeavesRefused, NoPadTwice, TrapsAreQuiet};
 ghost use Rattle.xom_machine.specs.Whole.{with_loaded};
 
 pub mod view;
@@ -151,7 +152,12 @@ impl<V: VersionStore> Machine<V> {
 
         // What the machine keeps of each guest is kept, whatever the kernel does.
         ensures holds { KeepsHolding V.versions V.Stands self.old.state self.new.state }
+        ensures pads { NoPadTwice V.Stands self.old.state self.new.state }
         ensures faults { FaultsAreAlone V.Stands self.old.state self.new.state result }
+
+        // What is seen of the machine afterwards is told by what was seen before, the event, its
+        // bytes and what it emits, whether the journal is honest or not.
+        ensures seen { GivesNoMoreAway V.versions V.raised_ram self.old.state event chunk.now self.new.state result }
         ensures refused { LeavesRefused self.old.state event self.new.state }
         ensures traps { TrapsAreQuiet self.old.state event self.new.state result }
         ensures others { LeavesOthers self.old.state event self.new.state }
@@ -195,6 +201,7 @@ impl<V: VersionStore> Machine<V> {
         ensures few { result < 2 ^ 63 }
         ensures counts { AreCounted self.now.state.core result }
         ensures stops { StopsHold self.now.state.core }
+        ensures stores { length self.now.state.core.stores ≡ 17 }
     {
         self.events
     }

@@ -1,7 +1,6 @@
 -- An event of a guest shows what it changed by its entries and its outcome.
 use Rattle.std.proofs.Common.{◌≡◌, ℕ, ◌+◌, ◌/◌, ◌<◌, ◌==◌, Bool, false, List, [], ◌∷◌, ◌++◌, length, map, refl, sym, ◌∙◌, ap, subst, slice_set, Option, Some, None, Result, Ok, Err}
 use Rattle.std.proofs.lemmas.List.{map-set, get_or-set_same, length-set, append_assoc, append-nil}
-use Rattle.std.proofs.lemmas.List.Elements.{filter_map-append}
 use Rattle.std.proofs.lemmas.Bool.{cond_both}
 use Rattle.xom_base.specs.declared.entry.Entry.{Entry}
 use Rattle.xom_base.specs.declared.entry.Entry.TheVariants as entry
@@ -20,7 +19,7 @@ use Rattle.session_table.specs.declared.session.Session.{Session}
 use Rattle.session_table.specs.declared.session.SlotState.TheVariants as state
 use Rattle.session_table.specs.declared.session.SlotView.{SlotView}
 use Rattle.session_table.specs.Sessions.{free, is_live, left, paused}
-use Rattle.xom_versions.specs.Versions.{Versions}
+use Rattle.xom_versions.specs.Versions.{Raised, RaisesInTheOpen, Versions}
 use Rattle.xom_model.specs.declared.outcome.Outcome.{Outcome}
 use Rattle.xom_model.specs.declared.outcome.Outcome.TheVariants as outcome
 use Rattle.xom_model.specs.declared.reach.Reach.{Reach}
@@ -30,78 +29,73 @@ use Rattle.xom_model.specs.Access.{access, dropped}
 use Rattle.xom_model.specs.Guest.{address_in, after_step, code_reached, data_of, data_reached, finished, guest, mask_after, moved, ran, received_by, retired, retires, trapped, word_in, word_loaded, word_tried}
 use Rattle.xom_model.specs.Holds.{IsLive}
 use Rattle.xom_model.specs.Seen.{shown_cell, shown_slot}
-use Rattle.xom_seen.specs.Emission.{NoImageSeal, Signal, is_ready, signal_of}
-use Rattle.xom_seen.specs.SeenNext.{Raised, Sight, after_signals, left_seen, slot_at, with_slot}
-use Rattle.xom_seen.specs.NoWayOut.{RaisesInTheOpen}
+use Rattle.xom_seen.specs.Emission.{GiveAll, Signal, is_ready}
+use Rattle.xom_seen.specs.SeenNext.{Sight, left_seen, slot_at, with_slot}
 use Rattle.xom_seen.proofs.Sights.{after_signals-append, areas-session, areas_of, live_within, sight_of, slot_at-is}
-use Rattle.xom_seen.proofs.Shows.{Knows, Reaches, Shows, Tells, dropped-is, no_image-both, reaches_access, shown_by, shows_same, tells_stepped, told}
+use Rattle.xom_seen.proofs.Shows.{Knows, Reaches, Shows, Tells, dropped-is, give-append, give-one, reaches_access, shown_by, shows_same, tells_stepped}
 
 -- how a guest event comes out
 abbrev pub outcome_by : Option Cause → Outcome
 outcome_by None = outcome.Went
 outcome_by (Some why) = outcome.Left why
 
-module _ (v : Versions) (raised : Raised) (law : RaisesInTheOpen v raised) (slot_of : ℕ → ℕ) (ready : Bool) (slot : ℕ) (some : (slot == 0) ≡ false) (low : slot < 17) where
+module _ (v : Versions) (raised : Raised) (law : RaisesInTheOpen v raised) (before : CoreState) (ready : Bool) (slot : ℕ) (some : (slot == 0) ≡ false) (low : slot < 17) where
   abbrev Knew : CoreState → Type 0
-  Knew core = Knows v raised law slot_of ready slot 0 core
+  Knew core = Knows v raised law before ready slot 0 core
 
   abbrev Shown : CoreState → CoreState → Type 0
-  Shown base new = Shows v raised law slot_of ready slot 0 base new
+  Shown base new = Shows v raised law before ready slot 0 base new
 
-  abbrev signals : List Entry → List Signal
-  signals entries = told v raised law slot_of ready slot 0 entries
-
-  abbrev by_entries : Sight → List Entry → Sight
-  by_entries s entries = shown_by v raised law slot_of ready slot 0 s entries
+  abbrev by_signals : Sight → List Signal → Sight
+  by_signals s signals = shown_by v raised law before ready slot 0 s signals
 
   -- how a guest leaves, or goes on: no further signal
   pub record Closes (core new : CoreState) (why : Option Cause) : Type 0 where
     pub added : List Entry
     pub entries : new.entries ≡ core.entries ++ added
-    pub quiet : signals added ≡ []
+    pub quiet : GiveAll before.sessions ready added []
     pub sight : sight_of new ≡ left_seen (sight_of core) slot (outcome_by why)
 
   -- the new core looks as the entries and the outcome tell
   pub record Ends (base new : CoreState) (why : Option Cause) : Type 0 where
     pub added : List Entry
+    pub signals : List Signal
     pub entries : new.entries ≡ base.entries ++ added
-    pub sight : Knew base → NoImageSeal added → sight_of new ≡ left_seen (by_entries (sight_of base) added) slot (outcome_by why)
+    pub gives : Knew base → GiveAll before.sessions ready added signals
+    pub sight : Knew base → sight_of new ≡ left_seen (by_signals (sight_of base) signals) slot (outcome_by why)
 
-  ends_close : (base mid new : CoreState) (why : Option Cause) → Tells v raised law slot_of ready slot 0 base mid → Closes mid new why → Ends base new why
-  ends_close base mid new why first last =
-      let one = first.added in
-      let two = last.added in
-      let same : signals (one ++ two) ≡ signals one = filter_map-append (signal_of slot_of ready) one two ∙ ap (λ more. signals one ++ more) last.quiet ∙ append-nil (signals one) in
-      record {
-        added = one ++ two;
-        entries = last.entries ∙ ap (λ es. es ++ two) first.entries ∙ append_assoc base.entries one two;
-        sight = λ knows none.
-            last.sight ∙ ap (λ s. left_seen s slot (outcome_by why))
-            (first.sight knows (no_image-both one two none).0 ∙ ap (after_signals v raised slot 0 (sight_of base)) (sym same));
-      }
+  ends_close : (base mid new : CoreState) (why : Option Cause) → Tells v raised law before ready slot 0 base mid → Closes mid new why → Ends base new why
+  ends_close base mid new why first last = record {
+    added = first.added ++ last.added;
+    signals = first.signals;
+    entries = last.entries ∙ ap (λ es. es ++ last.added) first.entries ∙ append_assoc base.entries first.added last.added;
+    gives = λ knows.
+        subst (λ told. GiveAll before.sessions ready (first.added ++ last.added) told) (append-nil first.signals)
+        (give-append before.sessions ready first.added last.added first.signals [] (first.gives knows) last.quiet);
+    sight = λ knows. last.sight ∙ ap (λ s. left_seen s slot (outcome_by why)) (first.sight knows);
+  }
 
   ends_then : (base mid new : CoreState) (why : Option Cause) → Shown base mid → Ends mid new why → Ends base new why
   ends_then base mid new why first second =
-      let one = first.tells.added in
-      let two = second.added in
+      let one = first.tells in
       record {
-        added = one ++ two;
-        entries = second.entries ∙ ap (λ es. es ++ two) first.tells.entries ∙ append_assoc base.entries one two;
-        sight = λ knows none.
-            let parts = no_image-both one two none in
-            second.sight (first.knows knows) parts.1
-            ∙ ap (λ s. left_seen (by_entries s two) slot (outcome_by why)) (first.tells.sight knows parts.0)
-            ∙ ap (λ s. left_seen s slot (outcome_by why))
-            (sym (after_signals-append v raised slot 0 (sight_of base) (signals one) (signals two))
-            ∙ ap (after_signals v raised slot 0 (sight_of base)) (sym (filter_map-append (signal_of slot_of ready) one two)));
+        added = one.added ++ second.added;
+        signals = one.signals ++ second.signals;
+        entries = second.entries ∙ ap (λ es. es ++ second.added) one.entries ∙ append_assoc base.entries one.added second.added;
+        gives = λ knows. give-append before.sessions ready one.added second.added one.signals second.signals (one.gives knows) (second.gives (first.knows knows));
+        sight = λ knows.
+            second.sight (first.knows knows)
+            ∙ ap (λ s. left_seen (by_signals s second.signals) slot (outcome_by why)) (one.sight knows)
+            ∙ ap (λ s. left_seen s slot (outcome_by why)) (sym (after_signals-append v raised slot 0 (sight_of base) one.signals second.signals));
       }
 
   ends_only : (core new : CoreState) (why : Option Cause) → Closes core new why → Ends core new why
-  ends_only core new why closes = ends_close core core new why (shows_same v raised law slot_of ready slot 0 core).tells closes
+  ends_only core new why closes = ends_close core core new why (shows_same v raised law before ready slot 0 core).tells closes
 
   -- it was stopped
   ends_stopped : (base new : CoreState) (why : Rule) → Shown base new → Ends base new (Some (cause.Stopped why))
-  ends_stopped base new why shows = record { added = shows.tells.added; entries = shows.tells.entries; sight = shows.tells.sight }
+  ends_stopped base new why shows =
+      record { added = shows.tells.added; signals = shows.tells.signals; entries = shows.tells.entries; gives = shows.tells.gives; sight = shows.tells.sight }
 
   -- a trap: a cause that leaves the slot paused
   paused-is : (core : CoreState) (why : Cause) → IsLive core slot
@@ -121,7 +115,7 @@ module _ (v : Versions) (raised : Raised) (law : RaisesInTheOpen v raised) (slot
   closes_trapped core why live is = record {
     added = entry.Trap (session_of core slot).install why ∷ [];
     entries = refl;
-    quiet = refl;
+    quiet = give-one before.sessions ready (entry.Trap (session_of core slot).install why) [] refl;
     sight = paused-is core why live ∙ sym (is (sight_of core));
   }
 
@@ -131,7 +125,7 @@ module _ (v : Versions) (raised : Raised) (law : RaisesInTheOpen v raised) (slot
     added = [];
     entries = sym (append-nil core.entries);
     quiet = refl;
-    sight = dropped-is v raised law slot_of ready slot 0 core slot state.Ended (live_within core slot live) low refl;
+    sight = dropped-is v raised law before ready slot 0 core slot state.Ended (live_within core slot live) low refl;
   }
 
   closes_same : (core : CoreState) → Closes core core None
@@ -181,11 +175,11 @@ module _ (v : Versions) (raised : Raised) (law : RaisesInTheOpen v raised) (slot
           let within : slot < length after.sessions = subst (λ n. slot < n) (sym (length-set core.sessions slot new_session)) (live_within core slot live) in
           let now : ready ≡ is_ready new_session = is ∙ ready_after after made_step.end within ∙ ap is_ready here in
           ends_close core after _ _
-          (tells_stepped v raised law slot_of ready slot 0 core place new_session made_step some live refl
+          (tells_stepped v raised law before ready slot 0 core place new_session made_step some live refl
           (ap (λ b. let s : SlotView = record (shown_slot (session_of core slot)) { mask = mask_after (session_of core slot).mask made_step; signal_ready = b } in s) (sym now)))
           (closes_after after made_step.end (ap (λ (s : Session). is_live s.state) here ∙ live))
 
-    comes_data : (core : CoreState) (effect : Effect) (result : CoreState × Reach) → Reaches v raised law slot_of ready slot 0 core result → Comes core (data_reached slot interrupt effect result)
+    comes_data : (core : CoreState) (effect : Effect) (result : CoreState × Reach) → Reaches v raised law before ready slot 0 core result → Comes core (data_reached slot interrupt effect result)
     comes_data core effect (new, reach.PageFault page) came is = ends_then core new _ _ came.shows (ends_only new _ _ (closes_trapped new (cause.Page page) came.live (λ s. refl)))
     comes_data core effect (new, reach.Stopped why) came is = ends_stopped core new why came.shows
     comes_data core effect (new, reach.Ready place) came is =
@@ -193,13 +187,13 @@ module _ (v : Versions) (raised : Raised) (law : RaisesInTheOpen v raised) (slot
 
     comes_wish : (core : CoreState) (effect : Effect) (address : Option ℕ) → IsLive core slot → Comes core (data_of v core slot interrupt effect address)
     comes_wish core effect None live = comes_retires core effect 0 0 live
-    comes_wish core effect (Some address) live = comes_data core effect (access v core slot (address / 32)) (reaches_access v raised law slot_of ready slot 0 core (address / 32) live)
+    comes_wish core effect (Some address) live = comes_data core effect (access v core slot (address / 32)) (reaches_access v raised law before ready slot 0 core (address / 32) live)
 
     comes_ran : (core : CoreState) (result : Result Effect OwnFault) → IsLive core slot → Comes core (ran v core slot interrupt result)
     comes_ran core (Err why) live is = ends_only core _ _ (closes_trapped core (cause.Fault why) live (λ s. refl))
     comes_ran core (Ok effect) live is = comes_wish core effect (address_in effect.wish) live is
 
-    comes_code : (core : CoreState) (result : CoreState × Reach) → Reaches v raised law slot_of ready slot 0 core result → Comes core (code_reached v slot interrupt result)
+    comes_code : (core : CoreState) (result : CoreState × Reach) → Reaches v raised law before ready slot 0 core result → Comes core (code_reached v slot interrupt result)
     comes_code core (new, reach.PageFault page) came is = ends_then core new _ _ came.shows (ends_only new _ _ (closes_trapped new (cause.Page page) came.live (λ s. refl)))
     comes_code core (new, reach.Stopped why) came is = ends_stopped core new why came.shows
     comes_code core (new, reach.Ready place) came is =
@@ -211,5 +205,5 @@ module _ (v : Versions) (raised : Raised) (law : RaisesInTheOpen v raised) (slot
     ends_guest core live =
         let pc = (session_of core slot).pc in
         cond_both (is_code pc) (code_reached v slot interrupt (access v core slot (pc / 32))) (trapped core slot (cause.Fault own_fault.Address)) (λ (r : CoreState × Option Cause). Comes core r)
-        (λ _. comes_code core (access v core slot (pc / 32)) (reaches_access v raised law slot_of ready slot 0 core (pc / 32) live))
+        (λ _. comes_code core (access v core slot (pc / 32)) (reaches_access v raised law before ready slot 0 core (pc / 32) live))
         (λ _ is. ends_only core _ _ (closes_trapped core (cause.Fault own_fault.Address) live (λ s. refl)))

@@ -4,5 +4,5 @@ pub mod Guests
 pub mod Operations
 pub mod Sameness
 pub mod Next
-pub mod Premises
+pub mod Settled
 pub mod WorkedRows

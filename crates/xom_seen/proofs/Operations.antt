@@ -1,5 +1,5 @@
 -- An operation shows what it changed by its entries and its status.
-use Rattle.std.proofs.Common.{◌≡◌, ℕ, ◌+◌, ◌*◌, ◌<◌, ◌≤◌, ◌==◌, not, Bool, true, false, cond, if◌then◌else◌, List, [], ◌∷◌, ◌++◌, length, map, refl, sym, ◌∙◌, ap, subst, arith, slice_set, slice_index_or, Option, Some, None}
+use Rattle.std.proofs.Common.{◌≡◌, ℕ, ◌+◌, ◌*◌, ◌<◌, ◌≤◌, ◌==◌, not, Bool, true, false, cond, if◌then◌else◌, List, [], ◌∷◌, ◌++◌, length, map, inr, refl, sym, ◌∙◌, ap, subst, arith, slice_set, slice_index_or, Option, Some, None}
 use Rattle.std.specs.Prelude.{nat_le}
 use Rattle.std.specs.Str.{bytes_eq}
 use Rattle.std.proofs.lemmas.List.{map-set, get_or-set_same, get_or-set_other, length-map, length-set, set-set, append_assoc, append-nil}
@@ -13,8 +13,8 @@ use Rattle.xom_base.specs.declared.event.Rule.TheVariants as rule
 use Rattle.xom_base.specs.declared.step.Step.{Step}
 use Rattle.xom_seal.specs.declared.envelope.Unwrapped.{Unwrapped}
 use Rattle.xom_seal.specs.Envelopes.{contents_of, envelope_tag, lines_in, tag_in, unwrapped}
-use Rattle.xom_seal.specs.Messages.{register_message}
 use Rattle.xom_seal.specs.Sealing.{register_tag}
+use Rattle.xom_seal.specs.declared.register.SealedReg.{SealedReg}
 use Rattle.page_map.specs.Pages.{with_page}
 use Rattle.tag_regs.specs.declared.cell.Cell.{Cell}
 use Rattle.tag_regs.specs.TaggedCells.{cell_at, with_cell}
@@ -24,10 +24,10 @@ use Rattle.session_table.specs.declared.session.SlotState.TheVariants as state
 use Rattle.session_table.specs.declared.session.SlotView.{SlotView}
 use Rattle.session_table.specs.Sessions.{entered, free, is_live, resumed}
 use Rattle.xom_versions.specs.Store.{Store, hash_entry}
-use Rattle.xom_versions.specs.Versions.{Versions}
+use Rattle.xom_versions.specs.Versions.{Raised, RaisesInTheOpen, Versions}
 use Rattle.xom_model.specs.State.{CoreState, no_store, session_of, store_of, with_cells, with_session}
 use Rattle.xom_model.specs.Lines.{who_of}
-use Rattle.xom_model.specs.Saves.{reg_accept_entry, reg_seal_entry, saved_at}
+use Rattle.xom_model.specs.Saves.{reg_accept_entry, reg_name, reg_seal_entry, saved_at, sealed_reg}
 use Rattle.xom_model.specs.Access.{dropped, flushed}
 use Rattle.xom_model.specs.Guest.{delivered, mask_after, signal_of as step_of_signal, signalled}
 use Rattle.xom_model.specs.Holds.{IsLive}
@@ -35,11 +35,10 @@ use Rattle.xom_model.specs.Operation.{done, enter, envelope_at, epoch_of, go_on,
 use Rattle.xom_model.specs.Seen.{shown_cell, shown_slot}
 use Rattle.xom_model.specs.Touched.{named as slot_named}
 use Rattle.xom_model.proofs.WalkEvents.{good_slot, paused_live, slot_from}
-use Rattle.xom_seen.specs.Emission.{Made, NoImageSeal, Signal, is_ready, names_of}
-use Rattle.xom_seen.specs.SeenNext.{Raised, Sight, address_of, after_signal, after_signals, done_seen, installed_slot, slot_at, with_slot}
-use Rattle.xom_seen.specs.NoWayOut.{RaisesInTheOpen}
+use Rattle.xom_seen.specs.Emission.{GiveAll, Made, RegisterSealed, Signal, is_ready, names_of}
+use Rattle.xom_seen.specs.SeenNext.{Sight, address_of, after_signal, after_signals, done_seen, installed_slot, slot_at, with_slot}
 use Rattle.xom_seen.proofs.Sights.{area_if, areas-session, areas-set, areas_of, live_within, shown_hidden, sight_of, slot_at-is}
-use Rattle.xom_seen.proofs.Shows.{Knows, Shows, removed-is, shows_flushed, shows_stop, stepped-is, told, told-hashes}
+use Rattle.xom_seen.proofs.Shows.{Knows, Shows, give-hashes, give-one, removed-is, shows_flushed, shows_stop, stepped-is}
 
 -- none of the tests holds
 abbrev Passes : List (Bool × ℕ) → Type 0
@@ -64,19 +63,16 @@ set-swap xs i d f g within swap =
     ∙ ap (λ y. slice_set xs i y) (ap f (get_or-set_same xs i (g x) d within) ∙ swap ∙ sym (ap g (get_or-set_same xs i (f x) d within)))
     ∙ sym (set-set xs i (f x) (g (slice_index_or (slice_set xs i (f x)) i d)))
 
-module _ (v : Versions) (raised : Raised) (law : RaisesInTheOpen v raised) (slot_of : ℕ → ℕ) (ready : Bool) (op : Op) where
-  abbrev signals : List Entry → List Signal
-  signals entries = told v raised law slot_of ready (slot_named op) (address_of op) entries
-
-  -- what is seen after the signals of these entries
-  abbrev by_entries : CoreState → List Entry → Sight
-  by_entries base added = after_signals v raised (slot_named op) (address_of op) (sight_of base) (signals added)
+module _ (v : Versions) (raised : Raised) (law : RaisesInTheOpen v raised) (before : CoreState) (ready : Bool) (op : Op) where
+  -- what is seen after these signals
+  abbrev by_signals : CoreState → List Signal → Sight
+  by_signals base signals = after_signals v raised (slot_named op) (address_of op) (sight_of base) signals
 
   abbrev Knew : CoreState → Type 0
-  Knew core = Knows v raised law slot_of ready (slot_named op) (address_of op) core
+  Knew core = Knows v raised law before ready (slot_named op) (address_of op) core
 
   abbrev Shown : CoreState → CoreState → Type 0
-  Shown base new = Shows v raised law slot_of ready (slot_named op) (address_of op) base new
+  Shown base new = Shows v raised law before ready (slot_named op) (address_of op) base new
 
   abbrev after_done : Sight → Sight
   after_done s = done_seen v raised s op
@@ -84,11 +80,13 @@ module _ (v : Versions) (raised : Raised) (law : RaisesInTheOpen v raised) (slot
   -- the core after the operation looks as the entries and the status tell
   pub record Does (base : CoreState) (after : CoreState × ℕ) : Type 0 where
     pub added : List Entry
+    pub signals : List Signal
     pub entries : after.0.entries ≡ base.entries ++ added
-    pub sight : Knew base → NoImageSeal added → sight_of after.0 ≡ (if after.1 == 0 then after_done (by_entries base added) else by_entries base added)
+    pub gives : Knew base → GiveAll before.sessions ready added signals
+    pub sight : Knew base → sight_of after.0 ≡ (if after.1 == 0 then after_done (by_signals base signals) else by_signals base signals)
 
   does_refused : (core : CoreState) (status : ℕ) → (status == 0) ≡ false → Does core (refused core status)
-  does_refused core status not_done = record { added = []; entries = sym (append-nil core.entries); sight = λ _ _. rw not_done refl }
+  does_refused core status not_done = record { added = []; signals = []; entries = sym (append-nil core.entries); gives = λ _. refl; sight = λ _. rw not_done refl }
 
   -- the operation that came out so leaves its slot so ready
   abbrev pub IsReady : CoreState × ℕ → Type 0
@@ -107,19 +105,22 @@ module _ (v : Versions) (raised : Raised) (law : RaisesInTheOpen v raised) (slot
 
   -- the operation was done, after a part that shows what it changed
   does_then : (base mid new : CoreState) → Shown base mid → new.entries ≡ mid.entries → sight_of new ≡ after_done (sight_of mid) → Does base (done new)
-  does_then base mid new shows same is = record { added = shows.tells.added; entries = same ∙ shows.tells.entries; sight = λ knows none. is ∙ ap after_done (shows.tells.sight knows none) }
+  does_then base mid new shows same is = record {
+    added = shows.tells.added;
+    signals = shows.tells.signals;
+    entries = same ∙ shows.tells.entries;
+    gives = shows.tells.gives;
+    sight = λ knows. is ∙ ap after_done (shows.tells.sight knows);
+  }
 
   -- a guest was stopped
   does_stop : (base new : CoreState) → Shown base new → Does base (new, 8)
-  does_stop base new shows = record { added = shows.tells.added; entries = shows.tells.entries; sight = shows.tells.sight }
+  does_stop base new shows =
+      record { added = shows.tells.added; signals = shows.tells.signals; entries = shows.tells.entries; gives = shows.tells.gives; sight = shows.tells.sight }
 
   -- with entries that show nothing
-  does_quiet : (base new : CoreState) (added : List Entry) → new.entries ≡ base.entries ++ added → signals added ≡ [] → sight_of new ≡ after_done (sight_of base) → Does base (done new)
-  does_quiet base new added entries quiet is = record {
-    added = added;
-    entries = entries;
-    sight = λ _ _. is ∙ ap (λ signals. after_done (after_signals v raised (slot_named op) (address_of op) (sight_of base) signals)) (sym quiet);
-  }
+  does_quiet : (base new : CoreState) (added : List Entry) → new.entries ≡ base.entries ++ added → GiveAll before.sessions ready added [] → sight_of new ≡ after_done (sight_of base) → Does base (done new)
+  does_quiet base new added entries quiet is = record { added = added; signals = []; entries = entries; gives = λ _. quiet; sight = λ _. is }
 
 -- another session in a slot, as live as the one before
 set-is : (core : CoreState) (slot : ℕ) (session : Session) (new : SlotView) → slot < length core.sessions → is_live session.state ≡ is_live (session_of core slot).state → shown_slot session ≡ new
@@ -131,13 +132,13 @@ set-is core slot session new within same is =
     ap (λ ss. sight ss (areas_of after)) (map-set shown_slot core.sessions slot session ∙ ap (λ s. slice_set (map shown_slot core.sessions) slot s) is)
     ∙ ap (λ areas. sight (slice_set (map shown_slot core.sessions) slot new) areas) (areas-session core after slot session refl refl within same)
 
-module _ (v : Versions) (raised : Raised) (law : RaisesInTheOpen v raised) (slot_of : ℕ → ℕ) (ready : Bool) (core : CoreState) (places : length core.sessions ≡ 17) (store_places : length core.stores ≡ 17) where
+module _ (v : Versions) (raised : Raised) (law : RaisesInTheOpen v raised) (before : CoreState) (ready : Bool) (core : CoreState) (places : length core.sessions ≡ 17) (store_places : length core.stores ≡ 17) where
   -- what comes of an operation
   abbrev Done : Op → CoreState × ℕ → Type 0
-  Done op after = Comes v raised law slot_of ready op core after
+  Done op after = Comes v raised law before ready op core after
 
   abbrev refuse : (op : Op) (status : ℕ) → (status == 0) ≡ false → Done op (refused core status)
-  refuse op status not_done = λ _. does_refused v raised law slot_of ready op core status not_done
+  refuse op status not_done = λ _. does_refused v raised law before ready op core status not_done
 
   running-is : (slot : ℕ) (session : Session) → IsLive core slot → shown_slot session ≡ record (shown_slot (session_of core slot)) { state = state.Running } → is_live session.state ≡ true
       → sight_of (with_session core slot session) ≡ with_slot (sight_of core) slot (record (slot_at (sight_of core) slot) { state = state.Running })
@@ -149,7 +150,7 @@ module _ (v : Versions) (raised : Raised) (law : RaisesInTheOpen v raised) (slot
   does_enter : (slot : ℕ) (at : SlotState) → (session_of core slot).state ≡ at → Done (Enter slot) (enter core slot at)
   does_enter slot state.Free is = refuse (Enter slot) 1 refl
   does_enter slot state.Fresh is = λ _.
-      does_quiet v raised law slot_of ready (Enter slot) core _ [] (sym (append-nil core.entries)) refl (running-is slot (entered (session_of core slot)) (ap is_live is) refl refl)
+      does_quiet v raised law before ready (Enter slot) core _ [] (sym (append-nil core.entries)) refl (running-is slot (entered (session_of core slot)) (ap is_live is) refl refl)
   does_enter slot state.Running is = refuse (Enter slot) 2 refl
   does_enter slot state.Paused is = refuse (Enter slot) 2 refl
   does_enter slot state.Ended is = refuse (Enter slot) 2 refl
@@ -193,11 +194,13 @@ module _ (v : Versions) (raised : Raised) (law : RaisesInTheOpen v raised) (slot
     does_delivered : Done op (done (delivered now slot signal))
     does_delivered so = record {
       added = entry.Step (session_of now slot).install step ∷ [];
+      signals = shown_step ∷ [];
       entries = refl;
-      sight = λ _ _.
+      gives = λ _. give-one before.sessions ready (entry.Step (session_of now slot).install step) (shown_step ∷ []) refl;
+      sight = λ _.
           let within : slot < length now.sessions = subst (λ n. slot < n) (sym (length-set core.sessions slot (resumed (session_of core slot)))) (live_within core slot alive) in
           let is_ready_now : ready ≡ is_ready new_session = so ∙ ap is_ready (get_or-set_same now.sessions slot new_session free within) in
-          stepped-is v raised law slot_of ready slot 0 now 0 new_session step some (ap (λ (s : Session). is_live s.state) here) refl
+          stepped-is v raised law before ready slot 0 now 0 new_session step some (ap (λ (s : Session). is_live s.state) here) refl
           (ap (λ b. let s : SlotView = record (shown_slot (session_of now slot)) { mask = mask_after (session_of now slot).mask step; signal_ready = b } in s) (sym is_ready_now))
           ∙ ap (λ s. after_signal v raised slot 0 s shown_step) now-is
           ∙ swapped;
@@ -206,12 +209,12 @@ module _ (v : Versions) (raised : Raised) (law : RaisesInTheOpen v raised) (slot
     does_signal : Done op (done (with_signal now slot signal))
     does_signal =
         cond_both (signal == 0) now (delivered now slot signal) (λ new. Done op (done new))
-        (λ _ _. does_quiet v raised law slot_of ready op core now [] (sym (append-nil core.entries)) refl now-is)
+        (λ _ _. does_quiet v raised law before ready op core now [] (sym (append-nil core.entries)) refl now-is)
         (λ _. does_delivered)
 
     does_go_on : (lost : Option ℕ) → Done op (go_on core slot signal lost)
     does_go_on None = does_signal
-    does_go_on (Some reg) = λ _. does_stop v raised law slot_of ready op core _ (shows_stop v raised law slot_of ready slot 0 core slot (rule.RegisterMissing reg) (λ _. alive))
+    does_go_on (Some reg) = λ _. does_stop v raised law before ready op core _ (shows_stop v raised law before ready slot 0 core slot (rule.RegisterMissing reg) (λ _. alive))
 
     does_paused : Done op (resume_paused core slot signal)
     does_paused =
@@ -230,22 +233,53 @@ module _ (v : Versions) (raised : Raised) (law : RaisesInTheOpen v raised) (slot
 
   -- ---- Save and Restore
 
+  -- a register that is saved shows its ciphertext and tag, which then lie in RAM
+  module _ (slot reg address : ℕ) (live : IsLive core slot) where
+    abbrev sealed : SealedReg
+    sealed = sealed_reg (who_of core slot) (epoch_of core slot) reg (cell_at core.cells reg).value
+
+    abbrev seal : Entry
+    seal = reg_seal_entry (who_of core slot) (epoch_of core slot) reg (cell_at core.cells reg).value
+
+    abbrev shown_seal : Signal
+    shown_seal = RegisterSealed slot reg sealed.ct sealed.tag
+
+    does_saved : Done (Save slot reg address) (done (saved core slot reg address))
+    unfolding saved register_tag sight_of
+    does_saved _ = record {
+      added = seal ∷ [];
+      signals = shown_seal ∷ [];
+      entries = refl;
+      gives = λ knows.
+          let was = knows.live slot live in
+          give-one before.sessions ready seal (shown_seal ∷ []) (inr (record {
+            slot = slot;
+            ct = sealed.ct;
+            name = reg_name (who_of core slot) (epoch_of core slot) reg;
+            live = was.0;
+            named = was.1;
+            text = refl;
+            given = refl;
+          }));
+      sight = λ _. refl;
+    }
+
   does_save : (slot reg address : ℕ) → Done (Save slot reg address) (save_register core slot reg address)
-  unfolding saved register_message register_tag sight_of
-  does_save slot reg address = does_tested v raised law slot_of ready (Save slot reg address) core (save_tests core slot reg address) (done (saved core slot reg address)) (refl, (refl, (refl, (refl, (refl, tt)))))
-      (λ passed _. record { added = reg_seal_entry (who_of core slot) (epoch_of core slot) reg (cell_at core.cells reg).value ∷ []; entries = refl; sight = λ _ _. refl })
+  does_save slot reg address = does_tested v raised law before ready (Save slot reg address) core (save_tests core slot reg address) (done (saved core slot reg address)) (refl, (refl, (refl, (refl, (refl, tt)))))
+      (λ (passed : Passes (save_tests core slot reg address)). does_saved slot reg address (paused_live (session_of core slot).state passed.1.0))
 
   does_reopened : (slot reg address : ℕ) → (slot == 0) ≡ false → IsLive core slot → (value : Option ℕ) → Done (Restore slot reg address) (reopened core slot reg address value)
   unfolding restored sight_of
   does_reopened slot reg address some live None = λ _.
-      does_stop v raised law slot_of ready (Restore slot reg address) core _ (shows_stop v raised law slot_of ready slot 0 core slot (rule.RegisterTag reg) (λ _. live))
+      does_stop v raised law before ready (Restore slot reg address) core _ (shows_stop v raised law before ready slot 0 core slot (rule.RegisterTag reg) (λ _. live))
   does_reopened slot reg address some live (Some value) = λ _.
       let cells : List Cell → Sight = λ cs. record { cells = cs; slots = map shown_slot core.sessions; pages = core.pages; areas = areas_of core; ram = core.ram; installs = core.installs } in
-      does_quiet v raised law slot_of ready (Restore slot reg address) core _ (reg_accept_entry (who_of core slot) (epoch_of core slot) reg (saved_at core.ram address).ct address ∷ []) refl refl
+      does_quiet v raised law before ready (Restore slot reg address) core _ (reg_accept_entry (who_of core slot) (epoch_of core slot) reg (saved_at core.ram address).ct address ∷ []) refl
+      (give-one before.sessions ready (reg_accept_entry (who_of core slot) (epoch_of core slot) reg (saved_at core.ram address).ct address) [] refl)
       (ap cells (map-set shown_cell core.cells reg _ ∙ ap (λ c. slice_set (map shown_cell core.cells) reg c) (shown_hidden slot value some)))
 
   does_restore : (slot reg address : ℕ) → Done (Restore slot reg address) (restore_register core slot reg address)
-  does_restore slot reg address = does_tested v raised law slot_of ready (Restore slot reg address) core (restore_tests core slot reg address) (reopen core slot reg address) (refl, (refl, (refl, (refl, (refl, tt)))))
+  does_restore slot reg address = does_tested v raised law before ready (Restore slot reg address) core (restore_tests core slot reg address) (reopen core slot reg address) (refl, (refl, (refl, (refl, (refl, tt)))))
       (λ passed. does_reopened slot reg address (some_of slot (good_slot core slot passed.0).0.0) (paused_live (session_of core slot).state passed.1.0) _)
 
   -- ---- Install
@@ -287,17 +321,17 @@ module _ (v : Versions) (raised : Raised) (law : RaisesInTheOpen v raised) (slot
     unfolding installed
     does_installed _ =
         let texts = v.texts_of_build area plain.lines core.ram in
-        does_quiet v raised law slot_of ready (Install slot place area) core new_core (_ ∷ _ ∷ map hash_entry texts) (append_assoc core.entries (_ ∷ _ ∷ []) (map hash_entry texts))
-        (told-hashes v raised law slot_of ready slot 0 texts) installed-is
+        does_quiet v raised law before ready (Install slot place area) core new_core (_ ∷ _ ∷ map hash_entry texts) (append_assoc core.entries (_ ∷ _ ∷ []) (map hash_entry texts))
+        ([], [], refl, ([], [], refl, give-hashes before.sessions ready texts, refl), refl) installed-is
 
   does_unwrap : (slot place area : ℕ) → slot < 17 → (opens : Option Unwrapped) → unwrapped core.machine (envelope_at core place) ≡ opens → Done (Install slot place area) (unwrap v core slot place area opens)
   does_unwrap slot place area low None is = refuse (Install slot place area) 3 refl
   does_unwrap slot place area low (Some plain) is =
-      does_tested v raised law slot_of ready (Install slot place area) core (image_tests core plain) (done (installed v core slot place area plain)) (refl, tt)
+      does_tested v raised law before ready (Install slot place area) core (image_tests core plain) (done (installed v core slot place area plain)) (refl, tt)
       (λ _. subst (λ p. Done (Install slot place area) (done (installed v core slot place area p))) (contents-is (envelope_at core place) plain is) (does_installed slot place area low))
 
   does_install : (slot place area : ℕ) → Done (Install slot place area) (install v core slot place area)
-  does_install slot place area = does_tested v raised law slot_of ready (Install slot place area) core (install_tests core slot place area)
+  does_install slot place area = does_tested v raised law before ready (Install slot place area) core (install_tests core slot place area)
       (unwrap v core slot place area (unwrapped core.machine (envelope_at core place))) (refl, (refl, (refl, tt)))
       (λ passed. let slots = slot_from slot passed.0 in does_unwrap slot place area (let most = slots.1 in omega arith) (unwrapped core.machine (envelope_at core place)) refl)
 
@@ -305,28 +339,29 @@ module _ (v : Versions) (raised : Raised) (law : RaisesInTheOpen v raised) (slot
 
   does_map : (slot page frame : ℕ) → Done (Map slot page frame) (map_page v core slot page frame)
   unfolding sight_of
-  does_map slot page frame = does_tested v raised law slot_of ready (Map slot page frame) core (map_tests core slot page frame) (done (record core { pages = with_page core.pages slot page (Some frame) })) (refl, (refl, (refl, (refl, (refl, tt)))))
-      (λ _ _. does_quiet v raised law slot_of ready (Map slot page frame) core _ [] (sym (append-nil core.entries)) refl refl)
+  does_map slot page frame = does_tested v raised law before ready (Map slot page frame) core (map_tests core slot page frame) (done (record core { pages = with_page core.pages slot page (Some frame) })) (refl, (refl, (refl, (refl, (refl, tt)))))
+      (λ _ _. does_quiet v raised law before ready (Map slot page frame) core _ [] (sym (append-nil core.entries)) refl refl)
 
-  does_unmapped : (slot page : ℕ) (result : CoreState × Option Rule) → Shows v raised law slot_of ready slot 0 core result.0 → Done (Unmap slot page) (unmapped v slot page result)
+  does_unmapped : (slot page : ℕ) (result : CoreState × Option Rule) → Shows v raised law before ready slot 0 core result.0 → Done (Unmap slot page) (unmapped v slot page result)
   unfolding sight_of
-  does_unmapped slot page (mid, None) shows = λ _. does_then v raised law slot_of ready (Unmap slot page) core mid _ shows refl refl
-  does_unmapped slot page (mid, Some why) shows = λ _. does_stop v raised law slot_of ready (Unmap slot page) core mid shows
+  does_unmapped slot page (mid, None) shows = λ _. does_then v raised law before ready (Unmap slot page) core mid _ shows refl refl
+  does_unmapped slot page (mid, Some why) shows = λ _. does_stop v raised law before ready (Unmap slot page) core mid shows
 
   does_unmap : (slot page : ℕ) → Done (Unmap slot page) (unmap_page v core slot page)
-  does_unmap slot page = does_tested v raised law slot_of ready (Unmap slot page) core (unmap_tests core slot page) (unmapped v slot page (flushed v slot 128 (128 * page) core)) (refl, (refl, (refl, (refl, tt))))
-      (λ _. does_unmapped slot page (flushed v slot 128 (128 * page) core) (shows_flushed v raised law slot_of ready slot 0 128 (128 * page) core))
+  does_unmap slot page = does_tested v raised law before ready (Unmap slot page) core (unmap_tests core slot page) (unmapped v slot page (flushed v slot 128 (128 * page) core)) (refl, (refl, (refl, (refl, tt))))
+      (λ _. does_unmapped slot page (flushed v slot 128 (128 * page) core) (shows_flushed v raised law before ready slot 0 128 (128 * page) core))
 
   killed-is : (slot : ℕ) → slot < 17 → sight_of (killed v core slot) ≡ done_seen v raised (sight_of core) (Kill slot)
   unfolding sight_of
-  killed-is slot low = removed-is v raised law slot_of ready slot 0 core slot free (omega arith) low refl
+  killed-is slot low = removed-is v raised law before ready slot 0 core slot free (omega arith) low refl
 
   does_kill : (slot : ℕ) → Done (Kill slot) (kill v core slot)
   unfolding dropped
-  does_kill slot = does_tested v raised law slot_of ready (Kill slot) core (kill_tests core slot) (done (killed v core slot)) (refl, tt)
+  does_kill slot = does_tested v raised law before ready (Kill slot) core (kill_tests core slot) (done (killed v core slot)) (refl, tt)
       (λ passed _.
       let most : slot ≤ 16 = (good_slot core slot passed.0).0.1 in
-      does_quiet v raised law slot_of ready (Kill slot) core (killed v core slot) (entry.Kill (session_of core slot).install ∷ []) refl refl (killed-is slot (omega arith)))
+      does_quiet v raised law before ready (Kill slot) core (killed v core slot) (entry.Kill (session_of core slot).install ∷ []) refl
+      (give-one before.sessions ready (entry.Kill (session_of core slot).install) [] refl) (killed-is slot (omega arith)))
 
   -- ---- The others
 
@@ -335,7 +370,7 @@ module _ (v : Versions) (raised : Raised) (law : RaisesInTheOpen v raised) (slot
   does_set reg value =
       let cells : List Cell → Sight = λ cs. record { cells = cs; slots = map shown_slot core.sessions; pages = core.pages; areas = areas_of core; ram = core.ram; installs = core.installs } in
       cond_both (is_cell reg) (done (with_cells core (with_cell core.cells reg value 0))) (refused core 7) (λ after. Done (SetReg reg value) after)
-      (λ _ _. does_quiet v raised law slot_of ready (SetReg reg value) core _ [] (sym (append-nil core.entries)) refl (ap cells (map-set shown_cell core.cells reg _)))
+      (λ _ _. does_quiet v raised law before ready (SetReg reg value) core _ [] (sym (append-nil core.entries)) refl (ap cells (map-set shown_cell core.cells reg _)))
       (λ _. refuse (SetReg reg value) 7 refl)
 
   by_slot : (op : Op) (slot : ℕ) (deed : CoreState × ℕ) → ((slot == 0) ≡ false → Done op deed) → Done op (if is_slot slot then deed else refused core 1)
@@ -347,11 +382,11 @@ module _ (v : Versions) (raised : Raised) (law : RaisesInTheOpen v raised) (slot
   does_operation (Enter slot) = by_slot (Enter slot) slot (enter core slot (session_of core slot).state) (λ _. does_enter slot (session_of core slot).state refl)
   does_operation (Resume slot signal) = by_slot (Resume slot signal) slot (resume core slot signal (session_of core slot).state) (λ some. does_resume slot signal some (session_of core slot).state refl)
   does_operation (SetReg reg value) = does_set reg value
-  does_operation Halt = λ _. does_quiet v raised law slot_of ready Halt core core [] (sym (append-nil core.entries)) refl refl
+  does_operation Halt = λ _. does_quiet v raised law before ready Halt core core [] (sym (append-nil core.entries)) refl refl
   does_operation (Install slot place area) = does_install slot place area
   does_operation (Save slot reg address) = does_save slot reg address
   does_operation (Restore slot reg address) = does_restore slot reg address
   does_operation (Map slot page frame) = does_map slot page frame
   does_operation (Unmap slot page) = does_unmap slot page
   does_operation (Kill slot) = does_kill slot
-  does_operation (Out byte) = λ _. does_quiet v raised law slot_of ready (Out byte) core _ (entry.Out byte ∷ []) refl refl refl
+  does_operation (Out byte) = λ _. does_quiet v raised law before ready (Out byte) core _ (entry.Out byte ∷ []) refl (give-one before.sessions ready (entry.Out byte) [] refl) refl

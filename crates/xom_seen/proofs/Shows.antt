@@ -1,8 +1,6 @@
 -- A part of an event shows what it changed by its entries alone: a relation between cores that is reflexive and transitive.
-use Rattle.std.proofs.Common.{◌≡◌, ◌≢◌, inl, inr, ℕ, zero, suc, ◌+◌, ◌<◌, ◌≤◌, ◌^◌, ◌==◌, Bool, true, false, if◌then◌else◌, List, [], ◌∷◌, ◌++◌, length, map, refl, sym, ◌∙◌, ap, subst, arith, slice_set, slice_index_or, replicate, Option, Some, None, Result, Ok, Err, ◌⊎◌}
-use Rattle.std.specs.List.{filter_map}
+use Rattle.std.proofs.Common.{◌≡◌, ◌≢◌, inl, inr, ℕ, zero, suc, ◌+◌, ◌<◌, ◌≤◌, ◌==◌, Bool, true, false, if◌then◌else◌, List, [], ◌∷◌, ◌++◌, length, map, refl, sym, ◌∙◌, ap, subst, arith, slice_set, slice_index_or, replicate, Option, Some, None, Result, Ok, Err, ◌⊎◌}
 use Rattle.std.proofs.lemmas.List.{map-set, get_or-set_same, get_or-set_other, get_or_past, length-set, append_assoc, append-nil}
-use Rattle.std.proofs.lemmas.List.Elements.{filter_map-append}
 use Rattle.std.proofs.lemmas.Bool.{cond_both}
 use Rattle.std.proofs.lemmas.Bool.Decides.{eqb_tells}
 use Rattle.xom_base.specs.declared.entry.Entry.{Entry}
@@ -10,16 +8,9 @@ use Rattle.xom_base.specs.declared.entry.Entry.TheVariants as entry
 use Rattle.xom_base.specs.declared.event.Rule.{Rule}
 use Rattle.xom_base.specs.declared.event.Rule.TheVariants as rule
 use Rattle.xom_base.specs.declared.step.Step.{Step}
-use Rattle.keyed_mac.specs.Hmac.{hmac_sha256}
 use Rattle.xom_seal.specs.declared.names.LineName.TheVariants.{Image}
-use Rattle.xom_seal.specs.Messages.{line_message}
-use Rattle.xom_seal.specs.Readers.{line_in}
-use Rattle.xom_seal.specs.Keys.{image_keys, run_keys}
-use Rattle.xom_seal.specs.Sealing.{line_masked, line_tag, unsealed_line}
-use Rattle.xom_seal.specs.declared.keys.LineKeys.{LineKeys}
+use Rattle.xom_seal.specs.Sealing.{line_tag, unsealed_line}
 use Rattle.xom_seal.specs.declared.line.SealedLine.{SealedLine}
-use Rattle.xom_seal.specs.declared.names.LineName.{LineName}
-use Rattle.xom_seal.proofs.NamingLaws.{run_fields_are_told}
 use Rattle.page_map.specs.Pages.{frame_of, without_pages}
 use Rattle.line_cache.specs.declared.way.Way.{Way}
 use Rattle.line_cache.specs.Ways.{found, free_if, free_way, new_way, place_for, pointers_after, way_at}
@@ -34,7 +25,7 @@ use Rattle.xom_versions.specs.declared.store.Torn.{Torn}
 use Rattle.xom_model.specs.declared.reach.Reach.{Reach}
 use Rattle.xom_model.specs.declared.reach.Reach.TheVariants as reach
 use Rattle.xom_versions.specs.Store.{hash_entry}
-use Rattle.xom_versions.specs.Versions.{Versions}
+use Rattle.xom_versions.specs.Versions.{Raised, RaisesInTheOpen, Versions}
 use Rattle.xom_model.specs.State.{CoreState, hashed, noted, page_of, session_of, store_of, with_session, with_way}
 use Rattle.xom_model.specs.Lines.{Who, accept_entry, ct_place, is_image_at, keys_of, name_of, run_name, seal_entry, sealed_as, sealed_at, who_of, with_sealed}
 use Rattle.xom_model.specs.Access.{access, and_then, brought, cleared, cleared_at, dropped, flushed, gone, looked, mapped, opened, or_stopped, placed, put, raising, read_from, sealed_by_raise, sealing, stopped, taken, taken_out, with_pointers}
@@ -42,38 +33,52 @@ use Rattle.xom_model.specs.Guest.{cells_after, given_out, mask_after, mask_relea
 use Rattle.xom_model.specs.Holds.{IsLive}
 use Rattle.xom_model.specs.Seen.{shown_cell, shown_slot}
 use Rattle.xom_model.proofs.Gone.{less, way-without}
-use Rattle.xom_model.proofs.Naming.{HasOne-before, HasOne-behind}
 use Rattle.xom_model.proofs.Walk.{raised_for, torn_off, written_back}
-use Rattle.xom_seen.specs.Emission.{Broke, LineSealed, Made, NoImageSeal, Signal, SealsImage, names_of, signal_of}
-use Rattle.xom_seen.specs.SeenNext.{Raised, Sight, after_signal, after_signals, dropped_seen, mask_named, named, slot_at}
-use Rattle.xom_seen.specs.NoWayOut.{RaisesInTheOpen}
+use Rattle.xom_seen.specs.Emission.{Broke, GiveAll, Gives, IsLineOf, LineSealed, Made, Signal, names_of}
+use Rattle.xom_seen.specs.SeenNext.{Sight, after_signal, after_signals, dropped_seen, mask_named, named, slot_at}
 use Rattle.xom_seen.proofs.Sights.{after_signals-append, area-stored, area_at-is, areas-gone, areas-same, areas-session, areas_of, live_within, mask_named-is, shown_scrubbed, shown_tagged, shown_untagged, sight_of, slot_at-is}
 
--- Seals of no image, in two parts
-pub no_image-both : (xs ys : List Entry) → NoImageSeal (xs ++ ys) → NoImageSeal xs × NoImageSeal ys
-no_image-both xs ys none = (λ has. none (HasOne-before SealsImage xs ys has), λ has. none (HasOne-behind SealsImage xs ys has))
+-- ---- What entries give away
 
-module _ (v : Versions) (raised : Raised) (law : RaisesInTheOpen v raised) (slot_of : ℕ → ℕ) (ready : Bool) (slot address : ℕ) where
-  -- what entries show
-  abbrev pub told : List Entry → List Signal
-  told entries = filter_map (signal_of slot_of ready) entries
+module _ (sessions : List Session) (ready : Bool) where
+  -- of two parts, one behind the other
+  pub give-append : (xs ys : List Entry) (one two : List Signal) → GiveAll sessions ready xs one → GiveAll sessions ready ys two → GiveAll sessions ready (xs ++ ys) (one ++ two)
+  give-append [] ys one two none more = subst (λ told. GiveAll sessions ready ys (told ++ two)) (sym none) more
+  give-append (e ∷ xs) ys one two gives more =
+      (gives.0, gives.1 ++ two, gives.2, give-append xs ys gives.1 two gives.3 more, ap (λ told. told ++ two) gives.4 ∙ append_assoc gives.0 gives.1 two)
 
-  -- what is seen after these entries
-  abbrev pub shown_by : Sight → List Entry → Sight
-  shown_by s entries = after_signals v raised slot address s (told entries)
+  -- of one entry
+  pub give-one : (e : Entry) (told : List Signal) → Gives sessions ready e told → GiveAll sessions ready (e ∷ []) told
+  give-one e told gives = (told, [], gives, refl, sym (append-nil told))
 
-  -- a live slot's install tells it, and what has still to be sealed is of a live slot
+  -- hashes give nothing away
+  pub give-hashes : (texts : List (List ℕ)) → GiveAll sessions ready (map hash_entry texts) []
+  give-hashes [] = refl
+  give-hashes (text ∷ texts) = ([], [], refl, give-hashes texts, refl)
+
+-- the core before the whole event is the one whose slots the emission names
+module _ (v : Versions) (raised : Raised) (law : RaisesInTheOpen v raised) (before : CoreState) (ready : Bool) (slot address : ℕ) where
+  -- what is seen after these signals
+  abbrev pub shown_by : Sight → List Signal → Sight
+  shown_by s signals = after_signals v raised slot address s signals
+
+  -- a live slot was live before the event, with the same guest
+  abbrev pub WasLive : ℕ → Session → Type 0
+  WasLive k s = IsLive before k × (s.install ≡ (session_of before k).install) × (s.id ≡ (session_of before k).id)
+
+  -- slots that are live were so before the event, and what has still to be sealed is of a live slot
   pub record Knows (core : CoreState) : Type 0 where
-    pub found : (k : ℕ) → IsLive core k → slot_of (session_of core k).install ≡ k
-    pub low : (k : ℕ) → (session_of core k).install < 2 ^ 64
-    pub dirty : (place : ℕ) → (way_at core.ways place).dirty ≡ true → IsLive core (way_at core.ways place).slot × ((way_at core.ways place).line < 2 ^ 32)
+    pub live : (k : ℕ) → IsLive core k → WasLive k (session_of core k)
+    pub dirty : (place : ℕ) → (way_at core.ways place).dirty ≡ true → IsLive core (way_at core.ways place).slot
     pub places : length core.sessions ≡ 17
 
   -- the new core looks as the entries that were added tell
   pub record Tells (base new : CoreState) : Type 0 where
     pub added : List Entry
+    pub signals : List Signal
     pub entries : new.entries ≡ base.entries ++ added
-    pub sight : Knows base → NoImageSeal added → sight_of new ≡ shown_by (sight_of base) added
+    pub gives : Knows base → GiveAll before.sessions ready added signals
+    pub sight : Knows base → sight_of new ≡ shown_by (sight_of base) signals
 
   -- and a further part may follow
   pub record Shows (base new : CoreState) : Type 0 where
@@ -82,17 +87,16 @@ module _ (v : Versions) (raised : Raised) (law : RaisesInTheOpen v raised) (slot
 
   pub tells_then : (base mid new : CoreState) → Shows base mid → Tells mid new → Tells base new
   tells_then base mid new first second =
-      let one = first.tells.added in
-      let two = second.added in
+      let one = first.tells in
       record {
-        added = one ++ two;
-        entries = second.entries ∙ ap (λ es. es ++ two) first.tells.entries ∙ append_assoc base.entries one two;
-        sight = λ knows none.
-            let parts = no_image-both one two none in
-            second.sight (first.knows knows) parts.1
-            ∙ ap (λ s. shown_by s two) (first.tells.sight knows parts.0)
-            ∙ sym (after_signals-append v raised slot address (sight_of base) (told one) (told two))
-            ∙ ap (after_signals v raised slot address (sight_of base)) (sym (filter_map-append (signal_of slot_of ready) one two));
+        added = one.added ++ second.added;
+        signals = one.signals ++ second.signals;
+        entries = second.entries ∙ ap (λ es. es ++ second.added) one.entries ∙ append_assoc base.entries one.added second.added;
+        gives = λ knows. give-append before.sessions ready one.added second.added one.signals second.signals (one.gives knows) (second.gives (first.knows knows));
+        sight = λ knows.
+            second.sight (first.knows knows)
+            ∙ ap (λ s. shown_by s second.signals) (one.sight knows)
+            ∙ sym (after_signals-append v raised slot address (sight_of base) one.signals second.signals);
       }
 
   pub shows_then : (base mid new : CoreState) → Shows base mid → Shows mid new → Shows base new
@@ -100,39 +104,32 @@ module _ (v : Versions) (raised : Raised) (law : RaisesInTheOpen v raised) (slot
 
   -- nothing was done
   pub shows_same : (core : CoreState) → Shows core core
-  shows_same core = record { tells = record { added = []; entries = sym (append-nil core.entries); sight = λ knows none. refl }; knows = λ knows. knows }
+  shows_same core = record { tells = record { added = []; signals = []; entries = sym (append-nil core.entries); gives = λ knows. refl; sight = λ knows. refl }; knows = λ knows. knows }
 
   -- ---- Entries that show nothing
 
-  pub told-hashes : (texts : List (List ℕ)) → told (map hash_entry texts) ≡ []
-  told-hashes [] = refl
-  told-hashes (text ∷ texts) = told-hashes texts
-
   -- nothing that is seen was changed
-  pub shows_quiet : (base new : CoreState) (added : List Entry) → new.entries ≡ base.entries ++ added → told added ≡ [] → sight_of new ≡ sight_of base → (Knows base → Knows new) → Shows base new
-  shows_quiet base new added entries quiet sight knows = record {
-    tells = record { added = added; entries = entries; sight = λ _ _. sight ∙ ap (after_signals v raised slot address (sight_of base)) (sym quiet) };
-    knows = knows;
-  }
+  pub shows_quiet : (base new : CoreState) (added : List Entry) → new.entries ≡ base.entries ++ added → GiveAll before.sessions ready added [] → sight_of new ≡ sight_of base → (Knows base → Knows new) → Shows base new
+  shows_quiet base new added entries quiet sight knows =
+      record { tells = record { added = added; signals = []; entries = entries; gives = λ _. quiet; sight = λ _. sight }; knows = knows }
 
   knows_as : (core new : CoreState) → new.sessions ≡ core.sessions → new.ways ≡ core.ways → Knows core → Knows new
   knows_as core new sessions ways knows = record {
-    found = subst (λ list. (k : ℕ) → is_live (slice_index_or list k free).state ≡ true → slot_of (slice_index_or list k free).install ≡ k) (sym sessions) knows.found;
-    low = subst (λ list. (k : ℕ) → (slice_index_or list k free).install < 2 ^ 64) (sym sessions) knows.low;
-    dirty = subst (λ list. (place : ℕ) → (way_at new.ways place).dirty ≡ true → (is_live (slice_index_or list (way_at new.ways place).slot free).state ≡ true) × ((way_at new.ways place).line < 2 ^ 32)) (sym sessions)
-        (subst (λ ways. (place : ℕ) → (way_at ways place).dirty ≡ true → IsLive core (way_at ways place).slot × ((way_at ways place).line < 2 ^ 32)) (sym ways) knows.dirty);
+    live = subst (λ list. (k : ℕ) → is_live (slice_index_or list k free).state ≡ true → WasLive k (slice_index_or list k free)) (sym sessions) knows.live;
+    dirty = subst (λ list. (place : ℕ) → (way_at new.ways place).dirty ≡ true → is_live (slice_index_or list (way_at new.ways place).slot free).state ≡ true) (sym sessions)
+        (subst (λ ways. (place : ℕ) → (way_at ways place).dirty ≡ true → IsLive core (way_at ways place).slot) (sym ways) knows.dirty);
     places = ap (λ list. length list) sessions ∙ knows.places;
   }
 
   pub shows_hashed : (core : CoreState) (texts : List (List ℕ)) → Shows core (hashed core texts)
   unfolding sight_of
-  shows_hashed core texts = shows_quiet core (hashed core texts) (map hash_entry texts) refl (told-hashes texts) refl (knows_as core (hashed core texts) refl refl)
+  shows_hashed core texts = shows_quiet core (hashed core texts) (map hash_entry texts) refl (give-hashes before.sessions ready texts) refl (knows_as core (hashed core texts) refl refl)
 
   pub shows_accepted : (core : CoreState) (key message : List ℕ) (place : ℕ) → Shows core (noted core (entry.Accept key message place))
   unfolding sight_of
   shows_accepted core key message place =
       let new = noted core (entry.Accept key message place) in
-      shows_quiet core new (entry.Accept key message place ∷ []) refl refl refl (knows_as core new refl refl)
+      shows_quiet core new (entry.Accept key message place ∷ []) refl (give-one before.sessions ready (entry.Accept key message place) [] refl) refl (knows_as core new refl refl)
 
   -- the pointers of the cache aren't seen
   pub shows_pointed : (core : CoreState) (pointers : List ℕ) → Shows core (record core { pointers = pointers })
@@ -147,13 +144,12 @@ module _ (v : Versions) (raised : Raised) (law : RaisesInTheOpen v raised) (slot
   shows_put core place way clean =
       let new = record core { ways = slice_set core.ways place way } in
       shows_quiet core new [] (sym (append-nil core.entries)) refl refl (λ knows. record {
-        found = knows.found;
-        low = knows.low;
+        live = knows.live;
         dirty = λ at dirty. elim (eqb_tells at place) [
           | inl is ↦ absurd (let none = clean-there at is.1 dirty in cc)
           | inr other ↦
               let same : way_at new.ways at ≡ way_at core.ways at = get_or-set_other core.ways place at way _ other.1 in
-              subst (λ w. IsLive core w.slot × (w.line < 2 ^ 32)) (sym same) (knows.dirty at (sym (ap (λ w. w.dirty) same) ∙ dirty))
+              subst (λ w. IsLive core w.slot) (sym same) (knows.dirty at (sym (ap (λ w. w.dirty) same) ∙ dirty))
         ];
         places = knows.places;
       })
@@ -196,19 +192,17 @@ module _ (v : Versions) (raised : Raised) (law : RaisesInTheOpen v raised) (slot
   knows_stopped : (core : CoreState) (k : ℕ) (why : Rule) → k < length core.sessions → Knows core → Knows (stopped core k why)
   unfolding dropped
   knows_stopped core k why within knows = record {
-    found = λ other live. elim (eqb_tells other k) [
+    live = λ other live. elim (eqb_tells other k) [
       | inl is ↦ absurd (let dead : is_live (session_of new k).state ≡ false = ap (λ (s : Session). is_live s.state) here in let alive = subst (λ j. is_live (session_of new j).state ≡ true) is.1 live in cc)
-      | inr differs ↦ let same = there other differs.1 in ap (λ (s : Session). slot_of s.install) same ∙ knows.found other (sym (ap (λ (s : Session). is_live s.state) same) ∙ live)
-    ];
-    low = λ other. elim (eqb_tells other k) [
-      | inl is ↦ subst (λ j. (session_of new j).install < 2 ^ 64) (sym is.1) (subst (λ n. n < 2 ^ 64) (sym (ap (λ (s : Session). s.install) here)) (knows.low k))
-      | inr differs ↦ subst (λ n. n < 2 ^ 64) (sym (ap (λ (s : Session). s.install) (there other differs.1))) (knows.low other)
+      | inr differs ↦
+          let same = there other differs.1 in
+          subst (WasLive other) (sym same) (knows.live other (sym (ap (λ (s : Session). is_live s.state) same) ∙ live))
     ];
     dirty = λ place dirty.
         let is : way_at new.ways place ≡ free_if k (way_at core.ways place) = way-without k core.ways place in
         let its = stays (way_at core.ways place) (sym (ap (λ w. w.dirty) is) ∙ dirty) in
         let was = knows.dirty place (sym (ap (λ w. w.dirty) its.0) ∙ sym (ap (λ w. w.dirty) is) ∙ dirty) in
-        subst (λ w. IsLive new w.slot × (w.line < 2 ^ 32)) (sym (is ∙ its.0)) (ap (λ (s : Session). is_live s.state) (there (way_at core.ways place).slot its.1) ∙ was.0, was.1);
+        subst (λ w. IsLive new w.slot) (sym (is ∙ its.0)) (ap (λ (s : Session). is_live s.state) (there (way_at core.ways place).slot its.1) ∙ was);
     places = length-set core.sessions k session ∙ knows.places;
   }
     where
@@ -233,11 +227,12 @@ module _ (v : Versions) (raised : Raised) (law : RaisesInTheOpen v raised) (slot
   shows_stop core k why live = record {
     tells = record {
       added = entry.Stop (session_of core k).install why ∷ [];
+      signals = Broke k why ∷ [];
       entries = refl;
-      sight = λ knows _.
-          let within = live_within core k (live knows) in
-          subst (λ n. sight_of (stopped core k why) ≡ after_signals v raised slot address (sight_of core) (Broke n why ∷ [])) (sym (knows.found k (live knows)))
-          (stopped-is core k why within (let places = knows.places in omega arith));
+      gives = λ knows.
+          let was = knows.live k (live knows) in
+          give-one before.sessions ready (entry.Stop (session_of core k).install why) (Broke k why ∷ []) (record { slot = k; live = was.0; named = sym was.1; given = refl });
+      sight = λ knows. stopped-is core k why (live_within core k (live knows)) (let within = live_within core k (live knows) in let places = knows.places in omega arith);
     };
     knows = λ knows. knows_stopped core k why (live_within core k (live knows)) knows;
   }
@@ -257,36 +252,15 @@ module _ (v : Versions) (raised : Raised) (law : RaisesInTheOpen v raised) (slot
   shows_torn core k line torn is =
       let new = raising v core k line in
       let texts = v.texts_of_raise (store_of core k) line core.ram in
-      shows_quiet core new (map hash_entry texts) refl (told-hashes texts)
+      shows_quiet core new (map hash_entry texts) refl (give-hashes before.sessions ready texts)
       (ap (λ ram. let s : Sight = record { cells = map shown_cell core.cells; slots = map shown_slot core.sessions; pages = core.pages; areas = areas_of new; ram = ram; installs = core.installs } in s) (law.torn (store_of core k) line core.ram torn is)
       ∙ ap (λ areas. let s : Sight = record { cells = map shown_cell core.cells; slots = map shown_slot core.sessions; pages = core.pages; areas = areas; ram = core.ram; installs = core.installs } in s) (raising-areas core k line))
       (knows_as core new refl refl)
 
-  -- the signal of a line's Seal, where it isn't one of an image line
-  abbrev TellsSeal : Who → ℕ → LineName → LineKeys → List ℕ → Type 0
-  TellsSeal who line name keys ct =
-      ¬ SealsImage (entry.Seal keys.tag.0 (line_message name ct))
-      → told (entry.Seal keys.tag.0 (line_message name ct) ∷ []) ≡ LineSealed (slot_of who.install) line ct (line_tag name keys ct) ∷ []
-
-  image-tells : (who : Who) (line : ℕ) (keys : LineKeys) (ct : List ℕ) → TellsSeal who line (Image who.id line) keys ct
-  image-tells who line keys ct none = absurd (none (who.id, line, ct, refl))
-
-  run-tells : (who : Who) (line version : ℕ) (keys : LineKeys) (ct : List ℕ) → who.install < 2 ^ 64 → line < 2 ^ 32 → TellsSeal who line (run_name who line version) keys ct
-  unfolding line_message line_tag
-  run-tells who line version keys ct few low _ =
-      let message = line_message (run_name who line version) ct in
-      ap (λ n. LineSealed (slot_of n) (line_in message) ct (hmac_sha256 keys.tag.0 message) ∷ []) (run_fields_are_told.install who.boot who.install line version ct few)
-      ∙ ap (λ n. LineSealed (slot_of who.install) n ct (hmac_sha256 keys.tag.0 message) ∷ []) (run_fields_are_told.line who.boot who.install line version ct low)
-
-  sealed-told : (who : Who) (line version : ℕ) (bytes : List ℕ) → who.install < 2 ^ 64 → line < 2 ^ 32 → ¬ SealsImage (seal_entry who line version bytes)
-      → told (seal_entry who line version bytes ∷ []) ≡ LineSealed (slot_of who.install) line (sealed_as who line version bytes).ct (sealed_as who line version bytes).tag ∷ []
-  sealed-told who line version bytes few low =
-      let name : Bool → LineName = λ b. if b then Image who.id line else run_name who line version in
-      let keys : Bool → LineKeys = λ b. if b then image_keys who.key who.id else run_keys who.key who.boot who.install in
-      elim (is_image_at who line version) as (λ b. TellsSeal who line (name b) (keys b) (line_masked (name b) (keys b) bytes)) [
-        | true ↦ image-tells who line (keys true) _
-        | false ↦ run-tells who line version (keys false) _ few low
-      ]
+  -- the name under which a line is sealed is one of the line
+  named-line : (who : Who) (s : Session) (line version : ℕ) → who.install ≡ s.install → who.id ≡ s.id → IsLineOf s line (name_of who line version)
+  named-line who s line version install id =
+      cond_both (is_image_at who line version) (Image who.id line) (run_name who line version) (λ name. IsLineOf s line name) (λ _. (id, refl)) (λ _. (install, refl))
 
   -- a line that is written back shows its ciphertext and tag, which then lie in its frame
   module _ (core : CoreState) (k line version : ℕ) (bytes : List ℕ) (is : v.answer_of_raise (store_of core k) line core.ram ≡ Ok version) where
@@ -311,22 +285,35 @@ module _ (v : Versions) (raised : Raised) (law : RaisesInTheOpen v raised) (slot
         ∙ ap (λ ram. sight (areas_of core) (with_sealed ram frame line sealed)) (law.done (store_of core k) line version core.ram is)
         ∙ ap (λ area. sight (areas_of core) (with_sealed (raised area line core.ram) frame line sealed)) (sym (area_at-is core k low live))
 
-    pub shows_sealed : (Knows core → IsLive core k × (line < 2 ^ 32)) → Shows core after
+    abbrev seal_signal : Signal
+    seal_signal = LineSealed k line sealed.ct sealed.tag
+
+    seal-gives : WasLive k (session_of core k) → Gives before.sessions ready seal (seal_signal ∷ [])
+    unfolding line_tag
+    seal-gives was = inl (record {
+      slot = k;
+      line = line;
+      ct = sealed.ct;
+      name = name_of (who_of core k) line version;
+      live = was.0;
+      named = named-line (who_of core k) (session_of before k) line version was.1 was.2;
+      text = refl;
+      given = refl;
+    })
+
+    pub shows_sealed : (Knows core → IsLive core k) → Shows core after
     unfolding raising sealing
     shows_sealed holds = record {
       tells = record {
         added = hashes ++ seal ∷ [];
+        signals = seal_signal ∷ [];
         entries = append_assoc core.entries hashes (seal ∷ []);
-        sight = λ knows none.
-            let live = (holds knows).0 in
-            let low : k < 17 = (let within = live_within core k live in let places = knows.places in omega arith) in
-            let alone : ¬ SealsImage seal = λ its. (no_image-both hashes (seal ∷ []) none).1 (inl its) in
-            let signals : told (hashes ++ seal ∷ []) ≡ LineSealed k line sealed.ct sealed.tag ∷ [] =
-            filter_map-append (signal_of slot_of ready) hashes (seal ∷ [])
-            ∙ ap (λ front. front ++ told (seal ∷ [])) (told-hashes (v.texts_of_raise (store_of core k) line core.ram))
-            ∙ sealed-told (who_of core k) line version bytes (knows.low k) (holds knows).1 alone
-            ∙ ap (λ n. LineSealed n line sealed.ct sealed.tag ∷ []) (knows.found k live) in
-            sealed-sight live low ∙ ap (after_signals v raised slot address (sight_of core)) (sym signals);
+        gives = λ knows.
+            give-append before.sessions ready hashes (seal ∷ []) [] (seal_signal ∷ []) (give-hashes before.sessions ready (v.texts_of_raise (store_of core k) line core.ram))
+            (give-one before.sessions ready seal (seal_signal ∷ []) (seal-gives (knows.live k (holds knows))));
+        sight = λ knows.
+            let live = holds knows in
+            sealed-sight live (let within = live_within core k live in let places = knows.places in omega arith);
       };
       knows = knows_as core after refl refl;
     }
@@ -353,7 +340,7 @@ module _ (v : Versions) (raised : Raised) (law : RaisesInTheOpen v raised) (slot
   shows_tear core place torn dirty is =
       let way = way_at core.ways place in
       shows_then core (raising v core way.slot way.line) _ (shows_torn core way.slot way.line torn is)
-      (shows_stop (raising v core way.slot way.line) way.slot (rule.TreeNode torn.level) (λ knows. (knows.dirty place dirty).0))
+      (shows_stop (raising v core way.slot way.line) way.slot (rule.TreeNode torn.level) (λ knows. knows.dirty place dirty))
 
   -- a line is put in its place, after what stood dirty there was written back
   module _ (core : CoreState) (line : ℕ) (bytes : List ℕ) (live : IsLive core slot) where
@@ -494,4 +481,6 @@ module _ (v : Versions) (raised : Raised) (law : RaisesInTheOpen v raised) (slot
         ∙ ap (λ areas. sight cells (slice_set (map shown_slot core.sessions) slot stepped_view) areas) (areas-session core new slot session refl refl (live_within core slot live) same)
 
     pub tells_stepped : Tells core (stepped core slot place session step)
-    tells_stepped = record { added = entry.Step (session_of core slot).install step ∷ []; entries = refl; sight = λ _ _. stepped-is }
+    tells_stepped =
+        let made = entry.Step (session_of core slot).install step in
+        record { added = made ∷ []; signals = signal ∷ []; entries = refl; gives = λ _. give-one before.sessions ready made (signal ∷ []) refl; sight = λ _. stepped-is }

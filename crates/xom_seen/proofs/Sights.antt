@@ -13,14 +13,14 @@ use Rattle.tag_regs.specs.TaggedCells.{empty, scrubbed, scrubbed_cell}
 use Rattle.session_table.specs.declared.session.Session.{Session}
 use Rattle.session_table.specs.Sessions.{free, is_live}
 use Rattle.xom_versions.specs.Store.{Store}
-use Rattle.xom_versions.specs.Versions.{Versions}
+use Rattle.xom_versions.specs.Versions.{Raised, Versions}
 use Rattle.xom_model.specs.State.{CoreState, no_store, session_of, store_of}
 use Rattle.xom_model.specs.Guest.{mask_written, tagged, untagged}
 use Rattle.xom_model.specs.Holds.{IsLive}
 use Rattle.xom_model.specs.Seen.{area_of, shown_cell, shown_slot}
 use Rattle.xom_model.proofs.Gone.{less}
 use Rattle.xom_seen.specs.Emission.{Signal, names_of}
-use Rattle.xom_seen.specs.SeenNext.{Raised, Sight, after_signal, after_signals, hidden, mask_named, named, slot_at}
+use Rattle.xom_seen.specs.SeenNext.{Sight, after_signal, after_signals, hidden, mask_named, named, slot_at}
 
 -- the areas of the slots
 abbrev pub areas_of : CoreState → List (Option ℕ)

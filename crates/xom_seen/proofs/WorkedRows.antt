@@ -1,5 +1,5 @@
 -- Small rows, computed from the definitions.
-use Rattle.std.proofs.Common.{◌≡◌, true, [], Some, refl}
+use Rattle.std.proofs.Common.{◌≡◌, true, [], ◌∷◌, refl}
 use Rattle.xom_base.specs.declared.entry.Entry.TheVariants as entry
 use Rattle.xom_base.specs.declared.event.Event.TheVariants as event
 use Rattle.xom_base.specs.declared.event.Op.TheVariants.{SetReg}
@@ -12,17 +12,16 @@ use Rattle.tag_regs.specs.TaggedCells.{all_empty, cell_at}
 use Rattle.session_table.specs.Masks.{with_cell}
 use Rattle.session_table.specs.Sessions.{none_held}
 use Rattle.page_map.specs.Pages.{nothing_mapped}
-use Rattle.xom_versions.specs.Chip.{chip}
+use Rattle.xom_versions.specs.Chip.{chip, chip_raised}
 use Rattle.xom_model.specs.declared.outcome.Outcome.TheVariants as outcome
 use Rattle.xom_model.specs.State.{power_on}
 use Rattle.xom_model.specs.Seen.{Seen, seen_of, view_of}
-use Rattle.xom_seen.specs.Emission.{Made, OneCell, signal_of}
+use Rattle.xom_seen.specs.Emission.{Gives, Made, OneCell}
 use Rattle.xom_seen.specs.SeenNext.{after_signal, seen_next, sight_in, slot_at}
-use Rattle.xom_seen.specs.Premises.{chip_raised}
 
 -- an instruction that writes 77 to $3 and stores it shows the name of $3 and no value
-made : signal_of (λ install. 1) true (entry.Step 5 (record { pc = 64; npc = 68; writes = writes.One 3 77; stored = stored.Bytes 8 4 77; received = received.Cell 77; released = released.Nothing; end = ended.Goes }))
-    ≡ Some (Made (OneCell 3) released.Nothing ended.Goes true)
+made : Gives none_held true (entry.Step 5 (record { pc = 64; npc = 68; writes = writes.One 3 77; stored = stored.Bytes 8 4 77; received = received.Cell 77; released = released.Nothing; end = ended.Goes }))
+    (Made (OneCell 3) released.Nothing ended.Goes true ∷ [])
 made = refl
 
 -- what is seen at power-on, with no RAM

@@ -1,4 +1,3 @@
 pub mod Emission
 pub mod SeenNext
 pub mod NoWayOut
-pub mod Premises

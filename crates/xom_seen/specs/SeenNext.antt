@@ -14,7 +14,7 @@ use Rattle.session_table.specs.declared.session.SlotState.TheVariants as state
 use Rattle.session_table.specs.declared.session.SlotView.{SlotView}
 use Rattle.session_table.specs.Masks.{with_cell as mask_with}
 use Rattle.session_table.specs.Sessions.{free, is_running}
-use Rattle.xom_versions.specs.Versions.{Versions}
+use Rattle.xom_versions.specs.Versions.{Raised, Versions}
 use Rattle.xom_model.specs.declared.outcome.NullFault.{NullFault}
 use Rattle.xom_model.specs.declared.outcome.Outcome.{Outcome}
 use Rattle.xom_model.specs.declared.outcome.Outcome.TheVariants as outcome
@@ -126,10 +126,6 @@ abbrev pub counted_seen : Seen → ℕ → Seen
 counted_seen s status = record s { view = record s.view { status = status; events = s.view.events + 1 } }
 
 -- ---- Signals, and whole events
-
--- RAM after a raise that was answered: a function of the store's area, the line and RAM
-abbrev pub Raised : Type 0
-Raised = Option ℕ → ℕ → List ℕ → List ℕ
 
 module _ (v : Versions) (raised : Raised) where
   -- ---- Signals

@@ -1,6 +1,4 @@
-ghost use Rattle.xom_seen.specs.NoWayOut.{NoWayOut, SameSight};
-ghost use Rattle.xom_seen.specs.Premises.{ChipRaisesInTheOpen, HonestNoWayOut, KeptIsSettled, KeptSealsNoImage, chip_raised};
-ghost use Rattle.xom_versions.specs.Chip.{ChipStands, chip};
+ghost use Rattle.xom_seen.specs.NoWayOut.{NoWayOut, SameSight, StopsSettle, StoresStay};
 
 /// What is seen of the machine after an event is a function of what was seen before it, the event,
 /// its bytes and what it emits: so two machines that look the same, and emit the same, look the
@@ -11,10 +9,9 @@ pub fn nothing_else_is_seen()
     ensures same { SameSight }
 {}
 
-/// What the machine keeps while its journal is honest is all that this needs.
-pub fn honest_machines_hide_the_rest()
-    ensures chip { ChipRaisesInTheOpen }
-    ensures settled { KeptIsSettled ChipStands }
-    ensures sealed { KeptSealsNoImage chip ChipStands }
-    ensures next { HonestNoWayOut chip ChipStands chip_raised }
+/// All that this needs of a machine is true of every one, whether its journal is honest or not.
+#[tactic(auto, using(crate::proofs::Settled::stops_settle, crate::proofs::Settled::stores_stay))]
+pub fn every_machine_is_settled()
+    ensures settled { StopsSettle }
+    ensures stores { StoresStay }
 {}

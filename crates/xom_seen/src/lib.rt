@@ -4,4 +4,4 @@
 
 mod laws;
 
-pub use laws::{honest_machines_hide_the_rest, nothing_else_is_seen};
+pub use laws::{every_machine_is_settled, nothing_else_is_seen};

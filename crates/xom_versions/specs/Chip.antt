@@ -2,7 +2,7 @@
 use Rattle.std.specs.Prelude.{◌≡◌, ℕ, ◌-◌, ◌<◌, List, [], ◌++◌, length, replicate, slice_index_or, slice_set, None, Ok}
 use Rattle.xom_base.specs.declared.entry.Entry.{Entry}
 use Rattle.xom_versions.specs.Store.{Store, line_limit}
-use Rattle.xom_versions.specs.Versions.{Versions, next_version}
+use Rattle.xom_versions.specs.Versions.{Raised, Versions, next_version}
 
 -- a table of so many lines, of which the first are an image's
 unfoldable pub start_table : ℕ → ℕ → List ℕ
@@ -34,6 +34,10 @@ chip = record {
   ram_after_raise = λ store line ram. ram;
   texts_of_raise = λ store line ram. [];
 }
+
+-- RAM is left alone
+abbrev pub chip_raised : Raised
+chip_raised area line ram = ram
 
 -- a store on chip stands for the numbers that it holds, in every journal
 pub record ChipStands (store : Store) (entries : List Entry) (numbers : ℕ → ℕ) : Type 0 where

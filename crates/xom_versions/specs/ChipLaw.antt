@@ -6,8 +6,8 @@ use Rattle.std.proofs.lemmas.Bool.Decides.{eqb_tells, nat_tests}
 use Rattle.xom_base.specs.declared.entry.Entry.{Entry}
 use Rattle.xom_versions.specs.declared.store.Torn.{Torn}
 use Rattle.xom_versions.specs.Store.{Store, line_limit}
-use Rattle.xom_versions.specs.Versions.{VersionLaw, next_version, start_version, with_version}
-use Rattle.xom_versions.specs.Chip.{ChipStands, chip, next_at, start_table}
+use Rattle.xom_versions.specs.Versions.{RaisesInTheOpen, VersionLaw, next_version, start_version, with_version}
+use Rattle.xom_versions.specs.Chip.{ChipStands, chip, chip_raised, next_at, start_table}
 
 abbrev ones : ℕ → List ℕ
 ones n = replicate n 1
@@ -77,3 +77,7 @@ chip_law = record {
   area_after_raise = λ store line ram. refl;
   ram_by_area = λ store other line ram same torn. refl;
 }
+
+-- and leave nothing in RAM
+pub chip_in_the_open : RaisesInTheOpen chip chip_raised
+chip_in_the_open = record { done = λ store line number ram is. refl; torn = λ store line ram fault is. refl; area = λ store line ram. refl }

@@ -1,5 +1,5 @@
 -- What a kind of version store answers, hashes and leaves, and the law that it keeps.
-use Rattle.std.specs.Prelude.{◌≡◌, ℕ, ◌+◌, ◌<◌, ◌≤◌, ◌%◌, ◌^◌, ◌==◌, List, ◌++◌, length, map, nat_lt, Some, Result, Ok, Err, is_ok, if◌then◌else◌}
+use Rattle.std.specs.Prelude.{◌≡◌, ℕ, ◌+◌, ◌<◌, ◌≤◌, ◌%◌, ◌^◌, ◌==◌, List, ◌++◌, length, map, nat_lt, Option, Some, Result, Ok, Err, is_ok, if◌then◌else◌}
 use Rattle.xom_base.specs.declared.entry.Entry.{Entry}
 use Rattle.line_ram.specs.Bytes.{HoldsRange}
 use Rattle.xom_versions.specs.declared.store.Torn.{Torn}
@@ -72,3 +72,15 @@ pub record VersionLaw (v : Versions) (Stands : Store → List Entry → (ℕ →
   pub ram_by_area : (store other : Store) (line : ℕ) (ram : List ℕ) → store.area ≡ other.area
       → is_ok (v.answer_of_raise store line ram) ≡ is_ok (v.answer_of_raise other line ram)
       → v.ram_after_raise store line ram ≡ v.ram_after_raise other line ram
+
+-- ---- What a raise leaves in the open
+
+-- RAM after a raise that was answered: a function of the area that the store keeps, the line and RAM
+abbrev pub Raised : Type 0
+Raised = Option ℕ → ℕ → List ℕ → List ℕ
+
+-- A store hides nothing in RAM: RAM after a raise that was answered is this function of area, line and RAM, and after a torn one it is as it was. The area stays.
+pub record RaisesInTheOpen (v : Versions) (raised : Raised) : Type 0 where
+  pub done : (store : Store) (line number : ℕ) (ram : List ℕ) → v.answer_of_raise store line ram ≡ Ok number → v.ram_after_raise store line ram ≡ raised store.area line ram
+  pub torn : (store : Store) (line : ℕ) (ram : List ℕ) (fault : Torn) → v.answer_of_raise store line ram ≡ Err fault → v.ram_after_raise store line ram ≡ ram
+  pub area : (store : Store) (line : ℕ) (ram : List ℕ) → (v.store_after_raise store line ram).area ≡ store.area

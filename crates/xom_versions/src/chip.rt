@@ -1,6 +1,6 @@
 ghost use Rattle.std.specs.Prelude.{◌≡◌, ◌≤◌, ◌<◌, ◌+◌, IfOk, length};
-ghost use Rattle.xom_versions.specs.Chip.{ChipStands, chip, on_chip, start_table};
-ghost use Rattle.xom_versions.specs.ChipLaw.{chip_law};
+ghost use Rattle.xom_versions.specs.Chip.{ChipStands, chip, chip_raised, on_chip, start_table};
+ghost use Rattle.xom_versions.specs.ChipLaw.{chip_in_the_open, chip_law};
 
 use crate::{Torn, VersionStore};
 use line_ram::LineRam;
@@ -37,6 +37,8 @@ impl VersionStore for ChipVersions {
 
     ghost Stands = { ChipStands };
 
+    ghost raised_ram = { chip_raised };
+
     fn blank(alloc: Global) -> Result<ChipVersions, NoMemory> {
         let numbers = new_table(alloc, LINES)?;
         Ok(ChipVersions { numbers })
@@ -57,6 +59,8 @@ impl VersionStore for ChipVersions {
     }
 
     ghost law = { chip_law };
+
+    ghost in_the_open = { chip_in_the_open };
 }
 
 #[tactic(auto, unfolding(crate::specs::Chip::start_table))]

@@ -2,7 +2,7 @@ ghost use Rattle.std.specs.Prelude.{◌≡◌, ◌≤◌, ◌<◌, ◌+◌, ◌+
 ghost use Rattle.xom_base.specs.declared.entry.Entry.{Entry};
 ghost use Rattle.line_ram.specs.Bytes.{HoldsRange};
 ghost use Rattle.xom_versions.specs.Store.{HoldsArea, Store, area_size, build_room, hash_entry, line_limit, raise_room, version_room};
-ghost use Rattle.xom_versions.specs.Versions.{VersionLaw, Versions};
+ghost use Rattle.xom_versions.specs.Versions.{Raised, RaisesInTheOpen, VersionLaw, Versions};
 
 use line_ram::LineRam;
 use std::alloc::Global;
@@ -19,8 +19,8 @@ pub struct Torn {
 /// The versions of a guest's 32,768 lines.
 ///
 /// What each call answers, hashes and leaves is told by `versions`, as functions of what is seen of
-/// the store, of the arguments and of the bytes of RAM. `law` says that these functions serve. No
-/// call takes memory but `blank`.
+/// the store, of the arguments and of the bytes of RAM. `law` says that these functions serve, and
+/// `in_the_open` that a store hides nothing in RAM. No call takes memory but `blank`.
 pub trait VersionStore: Sized + Drop {
     // What is seen of a store.
     ghost as_store: { Self → Store };
@@ -30,6 +30,9 @@ pub trait VersionStore: Sized + Drop {
 
     // For which numbers a store stands in a journal.
     ghost Stands: { Store → List Entry → (ℕ → ℕ) → Type 0 };
+
+    // RAM after a raise that was answered, told by what anybody can see: area, line and RAM.
+    ghost raised_ram: { Raised };
 
     /// A store before any guest.
     fn blank(alloc: Global) -> Result<Self, NoMemory>
@@ -72,4 +75,7 @@ pub trait VersionStore: Sized + Drop {
     // The functions serve: a line's number is answered, and raised, as long as no two hashed texts
     // have one digest.
     ghost law: { VersionLaw versions Stands };
+
+    // A raise leaves nothing else in RAM.
+    ghost in_the_open: { RaisesInTheOpen versions raised_ram };
 }

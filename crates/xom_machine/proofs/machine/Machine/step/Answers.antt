@@ -5,7 +5,10 @@ use Rattle.xom_model.specs.Event.{on}
 use Rattle.xom_model.specs.State.{Record}
 use Rattle.xom_model.proofs.OthersKept.{events_leave_others}
 use Rattle.xom_model.proofs.QuietEvents.{events_trap_quietly}
-use Rattle.xom_machine.specs.Kept.{FaultsAreAlone, KeepsHolding, LeavesOthers, LeavesRefused, TrapsAreQuiet}
+use Rattle.xom_seen.specs.NoWayOut.{GivesNoMoreAway}
+use Rattle.xom_seen.proofs.Next.{no_way_out}
+use Rattle.xom_seen.proofs.Settled.{stops_settle}
+use Rattle.xom_machine.specs.Kept.{FaultsAreAlone, KeepsHolding, LeavesOthers, LeavesRefused, NoPadTwice, TrapsAreQuiet}
 use Rattle.xom_machine.proofs.Events.{event-Faults, event-KeepsHolding, event-LeavesRefused, on-events}
 use Rattle.xom_machine.proofs.machine.Machine.step.Goals as goal
 
@@ -20,6 +23,25 @@ returns-clause-holds g c =
     let Stands = g.V.VersionStore.Stands in
     subst (KeepsHolding v Stands c.args.self.now.state) (sym c.make_event-outcome.ensures.record)
     (event-KeepsHolding v Stands g.met.V.VersionStore.law c.args.self.now.state c.args.event c.args.chunk.now c.requires.fits)
+
+pub returns-clause-pads : goal.returns-clause-pads
+returns-clause-pads g c =
+    let v = g.V.VersionStore.versions in
+    let Stands = g.V.VersionStore.Stands in
+    subst (NoPadTwice Stands c.args.self.now.state) (sym c.make_event-outcome.ensures.record)
+    (λ owners are room honest holds. (event-KeepsHolding v Stands g.met.V.VersionStore.law c.args.self.now.state c.args.event c.args.chunk.now c.requires.fits owners are room honest holds).once)
+
+pub returns-clause-seen : goal.returns-clause-seen
+returns-clause-seen g c =
+    let v = g.V.VersionStore.versions in
+    let raised = g.V.VersionStore.raised_ram in
+    let r = c.args.self.now.state in
+    let e = c.args.event in
+    let chunk = c.args.chunk.now in
+    let after = on v r e chunk in
+    subst (λ what. GivesNoMoreAway v raised r e chunk c.make_event-outcome.new.self.state what) (sym c.make_event-outcome.ensures.outcome)
+    (subst (λ (new : Record). GivesNoMoreAway v raised r e chunk new after.1) (sym c.make_event-outcome.ensures.record)
+    (no_way_out v raised g.met.V.VersionStore.in_the_open r e chunk c.requires.fits (stops_settle r.core c.events-before.ensures.stops c.events-before.ensures.stores)))
 
 pub returns-clause-faults : goal.returns-clause-faults
 returns-clause-faults g c =

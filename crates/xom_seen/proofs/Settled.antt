@@ -1,0 +1,93 @@
+-- What the law needs is true of every machine.
+use Rattle.std.proofs.Common.{◌≡◌, ℕ, length, refl, ◌∙◌, length-set}
+use Rattle.xom_base.specs.declared.event.Rule.{Rule}
+use Rattle.xom_seal.specs.declared.envelope.Unwrapped.{Unwrapped}
+use Rattle.line_cache.specs.declared.way.Way.{Way}
+use Rattle.line_cache.specs.Ways.{way_at}
+use Rattle.xom_versions.specs.declared.store.Torn.{Torn}
+use Rattle.xom_versions.specs.Versions.{Versions}
+use Rattle.xom_model.specs.State.{CoreState}
+use Rattle.xom_model.specs.Access.{dropped, raising, sealing, stopped}
+use Rattle.xom_model.specs.Guest.{finished}
+use Rattle.xom_model.specs.Operation.{installed, killed}
+use Rattle.xom_model.specs.Touched.{touched}
+use Rattle.xom_model.proofs.Walk.{Ends, Parts, torn_off, written_back}
+use Rattle.xom_model.proofs.WalkEvents.{Deeds, walk_event}
+use Rattle.xom_seen.specs.NoWayOut.{StopsSettle, StoresStay}
+
+pub stops_settle : StopsSettle
+stops_settle core stops stores = record {
+  null = stops.null;
+  dirty = λ place dirty. stops.cached place (λ none. let clean = stops.clean place none in absurd (cc));
+  places = stops.places;
+  store_places = stores;
+}
+
+-- ---- No event makes or drops a store
+
+abbrev SameStores : CoreState → CoreState → Type 0
+SameStores core new = length new.stores ≡ length core.stores
+
+written-stores : (v : Versions) (core : CoreState) (way : Way) (version : ℕ) → SameStores core (written_back v core way version)
+unfolding sealing raising
+written-stores v core way version = length-set core.stores way.slot _
+
+torn-stores : (v : Versions) (core : CoreState) (way : Way) (torn : Torn) → SameStores core (torn_off v core way torn)
+unfolding dropped raising
+torn-stores v core way torn = length-set core.stores way.slot _
+
+stopped-stores : (core : CoreState) (slot : ℕ) (why : Rule) → SameStores core (stopped core slot why)
+unfolding dropped
+stopped-stores core slot why = refl
+
+finished-stores : (core : CoreState) (slot : ℕ) → SameStores core (finished core slot).0
+unfolding dropped
+finished-stores core slot = refl
+
+killed-stores : (v : Versions) (core : CoreState) (slot : ℕ) → SameStores core (killed v core slot)
+unfolding dropped
+killed-stores v core slot = refl
+
+installed-stores : (v : Versions) (core : CoreState) (slot place area : ℕ) (plain : Unwrapped) → SameStores core (installed v core slot place area plain)
+unfolding installed
+installed-stores v core slot place area plain = length-set core.stores slot _
+
+stores_parts : (v : Versions) (slot : ℕ) → Parts v slot SameStores
+stores_parts v slot = record {
+  none = λ core. refl;
+  on = λ a b c first then. then ∙ first;
+  hash = λ core texts. refl;
+  accept = λ core line version place ct runs. refl;
+  point = λ core line. refl;
+  bring = λ core place way clean may. refl;
+  seal = λ core place version way dirty raised may. written-stores v core (way_at core.ways place) version;
+  tear = λ core place torn dirty raised. torn-stores v core (way_at core.ways place) torn;
+  stop = λ core why live. stopped-stores core slot why;
+  step = λ core place session step runs goes stores. refl;
+}
+
+stores_ends : (slot : ℕ) → Ends slot SameStores SameStores
+stores_ends slot = record {
+  went = λ core. refl;
+  after = λ a b c first then. then ∙ first;
+  trap = λ core why runs. refl;
+  exit = λ core runs exited. finished-stores core slot;
+}
+
+stores_deeds : (v : Versions) (slot : ℕ) → Deeds v slot SameStores SameStores
+stores_deeds v slot = record {
+  sets_register = λ core reg value. refl;
+  sets_ram = λ core ram. refl;
+  enters = λ core is. refl;
+  resumes = λ core is. refl;
+  maps = λ core page frame may. refl;
+  kills = λ core some known taken. killed-stores v core slot;
+  outs = λ core byte. refl;
+  installs = λ core place area plain some known is_free opens fits. installed-stores v core slot place area plain;
+  saves = λ core key ct name live same. refl;
+  restores = λ core key ct name place live same. refl;
+  takes_back = λ core reg value live. refl;
+}
+
+pub stores_stay : StoresStay
+stores_stay v r e chunk = walk_event v SameStores SameStores r e chunk (stores_parts v (touched r e)) (stores_ends (touched r e)) (stores_deeds v (touched r e))
