@@ -22,13 +22,15 @@ use Rattle.xom_cli.specs.Outcome.{IsOutcome, IsPrinted, IsPrintedBy, Printed, pr
 use Rattle.xom_cli.specs.Promises.{AsksForRun, ChangesOnly, FailsWriting, IsReadBy, IsUnprinted, IsJudged, IsUnput, Promises, WritesFile, WritesPrefix, WritesWhole, target_in}
 use Rattle.cli_base.specs.Readings.{IsRead, Meets, Refuses}
 use Rattle.cli_base.specs.Refusals.{line_of, refusal_status, words_line}
-use Rattle.xom_cli.specs.Rows.{Row, Run, Trace, Judge, row_of, target_of}
+use Rattle.xom_cli.specs.Rows.{Row, Run, Trace, Judge, Debug, row_of, target_of}
+use Rattle.xom_debug.specs.declared.command.Command.{Command}
+use Rattle.cli_debug.specs.Debug.{commands_of, debugged, text_by}
 use Rattle.cli_trace.specs.Console.{console_of}
 use Rattle.cli_trace.specs.Run.{console_run}
 use Rattle.cli_trace.specs.Trace.{GuestsFollow, NamesFinding, journal_file, last_record, report_of, trace_of, trace_text, traced}
 use Rattle.xom_cli.proofs.Delivered.{done_not_1, done_not_2, done_not_3, done_not_4, done_not_5, fails-rising, lacks-count, lacks-held, never-long, puts-changes, puts-count, puts-file, puts-nothing, same-changes, same-count, takes-prefix}
 use Rattle.cli_trace.proofs.Statuses.{nine-names}
-use Rattle.xom_cli.proofs.Targets.{journal-text, judge-answer, parts-traced, run-answer, trace-answer}
+use Rattle.xom_cli.proofs.Targets.{debug-answer, journal-text, judge-answer, parts-traced, run-answer, trace-answer}
 use Rattle.xom_cli.proofs.Unread.{row-unread}
 
 -- the sink took a text, and answered this
@@ -80,6 +82,7 @@ module _ (words : List (List ℕ)) (before after : Outside) where
     console = λ held told run row d. absurd (done_not_5 d);
     finding_cause = λ held told run row nine. absurd (omega arith);
     judges = λ held told run journal row d. absurd (done_not_5 d);
+    debugs = λ held told run commands row d. absurd (done_not_5 d);
   }
 
   silent_prefix : after.output ≡ before.output → WritesPrefix words before after
@@ -138,6 +141,7 @@ module _ (words : List (List ℕ)) (before after : Outside) where
       console = λ held told run row d. absurd (done_not_1 d);
       finding_cause = λ held told run row nine. absurd (omega arith);
       judges = λ held told run journal row d. absurd (done_not_1 d);
+      debugs = λ held told run commands row d. absurd (done_not_1 d);
     }
 
     words_end : after.disk ≡ before.disk → after.reads ≡ before.reads → (put : Result (Unit {0}) SinkFault) → Took before.output after.output words_line put → Promises words before after (status_of (ended ending.NoRow ending.NoRow put))
@@ -247,6 +251,20 @@ module _ (words : List (List ℕ)) (before after : Outside) where
             prints = subst (λ (a : Answer). Appends before.output.written after.output.written a.text) found.6 whole;
           }
 
+      debugs_here : Appends before.output.written after.output.written answer.text → (held : Held) → before.disk.held ≡ Some held → (run commands : List ℕ) → row_of words ≡ Some (Debug run commands)
+          → (parts : Parts) × (list : List Command) × (parts_of held run ≡ Ok parts) × (commands_of held commands ≡ Ok list) × (answer.status ≡ 0)
+          × Appends before.output.written after.output.written (text_by parts.file parts.guests parts.kernel list)
+      unfolding debugged
+      debugs_here whole held told run commands named =
+          let found = debug-answer held run commands answer (is_wanted (Debug run commands) named held told) in (
+            found.0,
+            found.1,
+            found.2,
+            found.3,
+            ap (λ (a : Answer). a.status) found.4,
+            subst (λ (a : Answer). Appends before.output.written after.output.written a.text) found.4 whole,
+          )
+
       -- the file was put, and all of the text
       delivered : (u : Unit {0}) → PutsFile before.disk after.disk answer.file (Ok u) → (v : Unit {0}) → Took before.output after.output answer.text (Ok v) → Promises words before after answer.status
       delivered u puts v takes = record {
@@ -270,6 +288,7 @@ module _ (words : List (List ℕ)) (before after : Outside) where
         console = λ held told run named _. console_here takes.1 held told run named;
         finding_cause = λ held told run named nine. finding_here nine held told run named;
         judges = λ held told run journal named _. judges_here takes.1 held told run journal named;
+        debugs = λ held told run commands named _. debugs_here takes.1 held told run commands named;
       }
 
       -- the file or the text couldn't be written
@@ -295,6 +314,7 @@ module _ (words : List (List ℕ)) (before after : Outside) where
         console = λ held told run named d. absurd (done_not_3 d);
         finding_cause = λ held told run named nine. absurd (omega arith);
         judges = λ held told run journal row d. absurd (done_not_3 d);
+        debugs = λ held told run commands row d. absurd (done_not_3 d);
       }
 
       uncounted : after.disk.writes ≡ before.disk.writes → IsUnprinted before after
@@ -345,6 +365,7 @@ module _ (words : List (List ℕ)) (before after : Outside) where
         console = λ held told run named d. absurd (done_not_4 d);
         finding_cause = λ held told run named nine. absurd (omega arith);
         judges = λ held told run journal row d. absurd (done_not_4 d);
+        debugs = λ held told run commands row d. absurd (done_not_4 d);
       }
 
       bad_end : (put : Result (Unit {0}) SinkFault) → Took before.output after.output (line_of refusal) put → Promises words before after (status_of (ended ending.BadInput ending.BadInput put))
@@ -403,6 +424,7 @@ module _ (words : List (List ℕ)) (before after : Outside) where
         console = λ held told run named d. absurd (done_not_2 d);
         finding_cause = λ held told run named nine. absurd (omega arith);
         judges = λ held told run journal row d. absurd (done_not_2 d);
+        debugs = λ held told run commands row d. absurd (done_not_2 d);
       }
 
       unread_end : (put : Result (Unit {0}) SinkFault) → Took before.output after.output (line_of (Unread name)) put → Promises words before after (status_of (ended ending.Unread ending.Unread put))

@@ -1,10 +1,9 @@
 -- What words come to is one thing.
-use Rattle.std.proofs.Common.{◌≡◌, inl, inr, ℕ, List, Option, Some, None, Result, Ok, Err, sym, ◌∙◌, ap, subst}
+use Rattle.std.proofs.Common.{◌≡◌, ℕ, List, Option, Some, None, Result, Ok, Err, sym, ◌∙◌, ap, subst}
 use Rattle.xom_base.specs.declared.image.PlainImage.{PlainImage}
 use Rattle.mips_asm.specs.declared.fault.AsmFault.{AsmFault}
-use Rattle.mips_asm.specs.declared.fault.AsmFault.TheVariants as asm_fault
 use Rattle.mips_asm.specs.Sources.{IsFaultOf}
-use Rattle.mips_asm.proofs.OneOutcome.{image_or_fault, one_fault, one_image}
+use Rattle.mips_asm.proofs.OneOutcome.{not_both, one_fault, one_image}
 use Rattle.cli_base.specs.declared.answer.Answer.{Answer}
 use Rattle.cli_base.specs.declared.refusal.Refusal.{Refusal}
 use Rattle.cli_programs.specs.Assembly.{AssemblesRead, AssemblesText, image_answer, said_of}
@@ -12,27 +11,21 @@ use Rattle.cli_base.specs.Inputs.{Held, fetched}
 use Rattle.cli_programs.specs.Programs.{source_limit}
 use Rattle.xom_cli.specs.Laws.{HaveOneOutcome}
 use Rattle.xom_cli.specs.Outcome.{IsOutcome, IsPrinted, IsPrintedBy, Printed, printed}
-use Rattle.xom_cli.specs.Rows.{Row, Asm, Disasm, Plain, Seal, Run, Trace, Judge, row_of}
-
--- nothing is said of want of memory
-said-none : (source : List ℕ) (fault : AsmFault) (refusal : Refusal) → fault ≡ asm_fault.NoMemory → said_of source fault ≡ Some refusal → ⊥
-said-none source fault refusal none says = let said : said_of source asm_fault.NoMemory ≡ Some refusal = subst (λ (f : AsmFault). said_of source f ≡ Some refusal) none says in absurd (cc)
+use Rattle.xom_cli.specs.Rows.{Row, Asm, Disasm, Plain, Seal, Run, Trace, Judge, Debug, row_of}
 
 same-some : (o : Option Refusal) (a b : Refusal) → o ≡ Some a → o ≡ Some b → a ≡ b
 same-some o a b p q = cc
 
 -- one thing is said of the faults of a source
 said-one : (source text : List ℕ) (a b : AsmFault) (x y : Refusal) → IsFaultOf text a → IsFaultOf text b → said_of source a ≡ Some x → said_of source b ≡ Some y → x ≡ y
-said-one source text a b x y p q says other = elim (one_fault text a b p q) [
-  | inl same ↦ same-some (said_of source b) x y (subst (λ (f : AsmFault). said_of source f ≡ Some x) same says) other
-  | inr none ↦ elim none [ inl first ↦ absurd (said-none source a x first says) | inr second ↦ absurd (said-none source b y second other) ]
-]
+said-one source text a b x y p q says other =
+    same-some (said_of source b) x y (subst (λ (f : AsmFault). said_of source f ≡ Some x) (one_fault text a b p q) says) other
 
 -- the text of a source comes to one thing
 text-one : (source text target : List ℕ) (x y : Result Answer Refusal) → AssemblesText source text target x → AssemblesText source text target y → x ≡ y
 text-one source text target (Ok a) (Ok b) p q = ap Ok (p.2 ∙ ap (λ (image : PlainImage). image_answer image target) (one_image text p.0 q.0 p.1 q.1) ∙ sym q.2)
-text-one source text target (Ok a) (Err r) p q = absurd (said-none source q.0 r (image_or_fault text p.0 q.0 p.1 q.1) q.2)
-text-one source text target (Err r) (Ok b) p q = absurd (said-none source p.0 r (image_or_fault text q.0 p.0 q.1 p.1) p.2)
+text-one source text target (Ok a) (Err r) p q = absurd (not_both text p.0 q.0 p.1 q.1)
+text-one source text target (Err r) (Ok b) p q = absurd (not_both text q.0 p.0 q.1 p.1)
 text-one source text target (Err r) (Err s) p q = ap Err (said-one source text p.0 q.0 r s p.1 q.1 p.2 q.2)
 
 -- so does what reading it gave
@@ -49,6 +42,7 @@ row-one (Seal image key id machine sealed) held x y p q = sym p ∙ q
 row-one (Run run) held x y p q = sym p ∙ q
 row-one (Trace run journal) held x y p q = sym p ∙ q
 row-one (Judge run journal) held x y p q = sym p ∙ q
+row-one (Debug run commands) held x y p q = sym p ∙ q
 
 printed-one : (o : Option Row) (held : Held) (p q : Printed) → IsPrintedBy o held p → IsPrintedBy o held q → p ≡ q
 printed-one None held p q a b = a ∙ sym b

@@ -16,13 +16,15 @@ use Rattle.cli_base.specs.Inputs.{◌>>=◌, Held, fetched, fetched_bytes, image
 use Rattle.cli_programs.specs.Programs.{source_limit}
 use Rattle.xom_cli.specs.Outcome.{IsOutcome}
 use Rattle.cli_programs.specs.Programs.{disasm_of, plain_of, seal_of, values_of}
-use Rattle.xom_cli.specs.Rows.{Row, Asm, Disasm, Plain, Seal, Run, Trace, Judge, target_of}
+use Rattle.xom_cli.specs.Rows.{Row, Asm, Disasm, Plain, Seal, Run, Trace, Judge, Debug, target_of}
 use Rattle.journal_text.specs.Readings.{IsJournal}
+use Rattle.cli_debug.specs.Debug.{commands_of, debug_of, debugged}
 use Rattle.cli_judge.proofs.Grammar.{entries-are}
 use Rattle.cli_judge.specs.Judge.{entries_at, journal_limit, journal_of, judge_of, judged}
 use Rattle.cli_runs.specs.OwnerImages.{owners_of}
 use Rattle.cli_runs.specs.RunFiles.{run_file_of}
 use Rattle.cli_trace.specs.Run.{console_run, run_of}
+use Rattle.xom_debug.specs.declared.command.Command.{Command}
 use Rattle.xom_owners.specs.declared.owner.Owner.{Owner}
 use Rattle.xom_script.specs.declared.run_file.RunFile.{RunFile}
 use Rattle.cli_trace.specs.Trace.{journal_file, last_record, trace_of, traced}
@@ -86,6 +88,24 @@ judge-answer held run journal answer is =
 judge-file : (held : Held) (run journal : List ℕ) (answer : Answer) → judge_of held run journal ≡ Ok answer → answer.file ≡ None
 judge-file held run journal answer is = ap (λ (a : Answer). a.file) (judge-answer held run journal answer is).6
 
+-- the answer of `debug` is that of its parts and its commands
+pub debug-answer : (held : Held) (run commands : List ℕ) (answer : Answer) → debug_of held run commands ≡ Ok answer
+    → (parts : Parts) × (list : List Command) × (parts_of held run ≡ Ok parts) × (commands_of held commands ≡ Ok list) × (answer ≡ debugged parts list)
+unfolding debug_of
+debug-answer held run commands answer is =
+    let parts = bind-ok (parts_of held run) _ answer is in
+    let list = bind-ok (commands_of held commands) _ answer parts.2 in
+    (parts.0, list.0, parts.1, list.1, let last = list.2 in cc)
+
+debugged-file : (parts : Parts) (list : List Command) → (debugged parts list).file ≡ None
+unfolding debugged
+debugged-file parts list = refl
+
+debug-file : (held : Held) (run commands : List ℕ) (answer : Answer) → debug_of held run commands ≡ Ok answer → answer.file ≡ None
+debug-file held run commands answer is =
+    let found = debug-answer held run commands answer is in
+    ap (λ (a : Answer). a.file) found.4 ∙ debugged-file found.0 found.1
+
 -- the entries of a journal are those of the text that the file holds
 bytes-text : (name text : List ℕ) (limit : ℕ) (o : Option (List ℕ)) → fetched_bytes name limit o ≡ Ok text → o ≡ Some text
 bytes-text name text limit None is = absurd (cc)
@@ -132,3 +152,4 @@ target-written (Seal image key id machine sealed) held answer file is written = 
 target-written (Run run) held answer file is written = let none = run-file held run answer is in absurd (cc)
 target-written (Trace run journal) held answer file is written = trace-file held run journal answer file is written
 target-written (Judge run journal) held answer file is written = let none = judge-file held run journal answer is in absurd (cc)
+target-written (Debug run commands) held answer file is written = let none = debug-file held run commands answer is in absurd (cc)

@@ -13,7 +13,8 @@ use Rattle.cli_base.specs.Inputs.{◌>>=◌, Held, fetched, fetched_bytes, image
 use Rattle.cli_programs.specs.Programs.{received_of, source_limit}
 use Rattle.xom_cli.specs.Outcome.{IsOutcome}
 use Rattle.cli_programs.specs.Programs.{disasm_of, plain_of, seal_of, values_of}
-use Rattle.xom_cli.specs.Rows.{Row, Asm, Disasm, Plain, Seal, Run, Trace, Judge}
+use Rattle.xom_cli.specs.Rows.{Row, Asm, Disasm, Plain, Seal, Run, Trace, Judge, Debug}
+use Rattle.cli_debug.specs.Debug.{commands_of, debug_of}
 use Rattle.cli_judge.specs.Judge.{journal_of, judge_of}
 use Rattle.cli_runs.specs.OwnerImages.{owners_of}
 use Rattle.cli_runs.specs.Parts.{parts_of}
@@ -94,6 +95,20 @@ judge-unread held run journal name is = elim (bind-err (run_file_of held run) _ 
   ]
 ]
 
+commands-unread : (held : Held) (n name : List ℕ) → commands_of held n ≡ Err (Unread name) → held name ≡ None
+unfolding commands_of
+commands-unread held n name is = input-unread _ _ held n name is
+
+debug-unread : (held : Held) (run commands name : List ℕ) → debug_of held run commands ≡ Err (Unread name) → held name ≡ None
+unfolding debug_of
+debug-unread held run commands name is = elim (bind-err (parts_of held run) _ (Unread name) is) [
+  | inl here ↦ parts-unread held run name here
+  | inr parts ↦ elim (bind-err (commands_of held commands) _ (Unread name) parts.2) [
+    | inl here ↦ commands-unread held commands name here
+    | inr list ↦ absurd (let last = list.2 in cc)
+  ]
+]
+
 pub row-unread : (row : Row) (held : Held) (name : List ℕ) → IsOutcome row held (Err (Unread name)) → held name ≡ None
 row-unread (Asm source target) held name is = asm-unread held source target name is
 row-unread (Disasm image) held name is = disasm-unread held image name is
@@ -102,3 +117,4 @@ row-unread (Seal image key id machine sealed) held name is = seal-unread held im
 row-unread (Run run) held name is = run-unread held run name is
 row-unread (Trace run journal) held name is = trace-unread held run journal name is
 row-unread (Judge run journal) held name is = judge-unread held run journal name is
+row-unread (Debug run commands) held name is = debug-unread held run commands name is

@@ -17,7 +17,7 @@ use Rattle.cli_base.specs.declared.refusal.Stop.TheVariants as stop
 use Rattle.xom_cli.specs.Outcome.{IsOutcome}
 use Rattle.cli_base.specs.Readings.{Meets}
 use Rattle.cli_base.specs.Refusals.{line_of, words_line}
-use Rattle.xom_cli.specs.Rows.{Row, Asm, Disasm, Plain, Seal, Run, Trace, Judge, row_of}
+use Rattle.xom_cli.specs.Rows.{Row, Asm, Disasm, Plain, Seal, Run, Trace, Judge, Debug, row_of}
 use Rattle.cli_trace.specs.Trace.{RunFollows}
 
 -- what files tell, and their count of writes that failed
@@ -117,6 +117,7 @@ RowFollows told (Seal image key id machine sealed) = Unit {0}
 RowFollows told (Run run) = RunFollows told run
 RowFollows told (Trace run journal) = RunFollows told run
 RowFollows told (Judge run journal) = Unit {0}
+RowFollows told (Debug run commands) = Unit {0}
 
 -- The row's command answered, and what it answered is delivered. Where it was carried out, owners may believe what they may of its run.
 abbrev pub EndsRow : Outside → Outside → Row → Ending → Type 0

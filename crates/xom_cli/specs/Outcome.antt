@@ -7,7 +7,8 @@ use Rattle.cli_base.specs.Inputs.{Held}
 use Rattle.cli_base.specs.Refusals.{line_of, refusal_status, words_line}
 use Rattle.cli_programs.specs.Assembly.{Assembles}
 use Rattle.cli_programs.specs.Programs.{disasm_of, plain_of, seal_of}
-use Rattle.xom_cli.specs.Rows.{Row, Asm, Disasm, Plain, Seal, Run, Trace, Judge, row_of}
+use Rattle.xom_cli.specs.Rows.{Row, Asm, Disasm, Plain, Seal, Run, Trace, Judge, Debug, row_of}
+use Rattle.cli_debug.specs.Debug.{debug_of}
 use Rattle.cli_judge.specs.Judge.{judge_of}
 use Rattle.cli_trace.specs.Run.{run_of}
 use Rattle.cli_trace.specs.Trace.{trace_of}
@@ -21,6 +22,7 @@ IsOutcome (Seal image key id machine sealed) held result = seal_of held image ke
 IsOutcome (Run run) held result = run_of held run ≡ result
 IsOutcome (Trace run journal) held result = trace_of held run journal ≡ result
 IsOutcome (Judge run journal) held result = judge_of held run journal ≡ result
+IsOutcome (Debug run commands) held result = debug_of held run commands ≡ result
 
 -- what is printed, the file that is written, if there is one, and the status
 pub record Printed : Type 0 where

@@ -10,13 +10,15 @@ use Rattle.cli_base.specs.Commands.{IsDone}
 use Rattle.cli_base.specs.Inputs.{Held, without}
 use Rattle.xom_cli.specs.Outcome.{IsPrinted, Printed, printed}
 use Rattle.cli_base.specs.Refusals.{line_of}
-use Rattle.xom_cli.specs.Rows.{Run, Trace, Judge, row_of, target_of}
+use Rattle.xom_cli.specs.Rows.{Run, Trace, Judge, Debug, row_of, target_of}
 use Rattle.xom_base.specs.declared.entry.Entry.{Entry}
 use Rattle.xom_owners.specs.declared.owner.Owner.{Owner}
 use Rattle.xom_script.specs.declared.run_file.RunFile.{RunFile}
 use Rattle.journal_text.specs.Readings.{IsJournal}
 use Rattle.trace_judge.specs.Judgement.{judgement}
 use Rattle.trace_judge.specs.ReportText.{report_text}
+use Rattle.xom_debug.specs.declared.command.Command.{Command}
+use Rattle.cli_debug.specs.Debug.{commands_of, text_by}
 use Rattle.cli_judge.specs.Judge.{judge_status}
 use Rattle.cli_runs.specs.OwnerImages.{owners_of}
 use Rattle.cli_runs.specs.RunFiles.{run_file_of}
@@ -167,6 +169,14 @@ abbrev pub JudgesJournal : List (List ℕ) → Outside → Outside → ℕ → T
 JudgesJournal words before after status = (held : Held) → before.disk.held ≡ Some held → (run journal : List ℕ) → row_of words ≡ Some (Judge run journal) → IsDone status
     → IsJudged held before after run journal status
 
+-- ---- What a debugger prints
+
+-- Where `debug` was carried out, its status is 0, and its text is that of the commands over the run that `trace` makes of the same run file: a function of the commands, of the events of this run, and of what is seen of the machine before the first and after each.
+abbrev pub PrintsDebug : List (List ℕ) → Outside → Outside → ℕ → Type 0
+PrintsDebug words before after status = (held : Held) → before.disk.held ≡ Some held → (run commands : List ℕ) → row_of words ≡ Some (Debug run commands) → IsDone status
+    → (parts : Parts) × (list : List Command) × (parts_of held run ≡ Ok parts) × (commands_of held commands ≡ Ok list) × (status ≡ 0)
+    × Appends before.output.written after.output.written (text_by parts.file parts.guests parts.kernel list)
+
 -- all of this, of a call with these words
 pub record Promises (words : List (List ℕ)) (before after : Outside) (status : ℕ) : Type 0 where
   pub answers : IsStatus status
@@ -189,3 +199,4 @@ pub record Promises (words : List (List ℕ)) (before after : Outside) (status :
   pub console : PrintsConsole words before after status
   pub finding_cause : FindingCause words before status
   pub judges : JudgesJournal words before after status
+  pub debugs : PrintsDebug words before after status

@@ -22,6 +22,8 @@ pub data Row : Type 0 where
   Trace : (run : List ℕ) → (journal : Option (List ℕ)) → Row
   -- judges a journal by the owners of a run file, and prints the report
   Judge : (run : List ℕ) → (journal : List ℕ) → Row
+  -- makes the run of a run file under the commands of a debugger, and prints what they print
+  Debug : (run : List ℕ) → (commands : List ℕ) → Row
 
 -- at most so many steps are asked for
 abbrev pub most_steps : ℕ
@@ -51,7 +53,8 @@ row_of_two command a b =
     if bytes_eq command (codes "asm") then Some (Asm a b)
     else (if bytes_eq command (codes "plain") then plain_row a b None
     else (if bytes_eq command (codes "trace") then Some (Trace a (Some b))
-    else (if bytes_eq command (codes "judge") then Some (Judge a b) else None)))
+    else (if bytes_eq command (codes "judge") then Some (Judge a b)
+    else (if bytes_eq command (codes "debug") then Some (Debug a b) else None))))
 
 abbrev pub row_of_three : List ℕ → List ℕ → List ℕ → List ℕ → Option Row
 row_of_three command a b c = if bytes_eq command (codes "plain") then plain_row a b (Some c) else None
@@ -76,3 +79,4 @@ target_of (Seal image key id machine sealed) = Some sealed
 target_of (Run run) = None
 target_of (Trace run journal) = journal
 target_of (Judge run journal) = None
+target_of (Debug run commands) = None

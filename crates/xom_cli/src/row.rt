@@ -47,6 +47,11 @@ pub enum Row<'a> {
         run: &'a String,
         journal: &'a String,
     },
+    /// `debug RUN COMMANDS`
+    Debug {
+        run: &'a String,
+        commands: &'a String,
+    },
 }
 
 /// The row that the words match, or none. The words come after the program's name.
@@ -92,6 +97,10 @@ fn row_of_two<'a>(command: &String, a: &'a String, b: &'a String) -> Option<Row<
             journal: Some(b),
         }),
         "judge" => Some(Row::Judge { run: a, journal: b }),
+        "debug" => Some(Row::Debug {
+            run: a,
+            commands: b,
+        }),
         _ => None,
     }
 }

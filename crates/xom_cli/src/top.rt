@@ -10,6 +10,7 @@ use crate::delivery::{finish, print};
 use crate::ending::Ending;
 use crate::row::{Row, row_named};
 use cli_base::{Answer, Stop};
+use cli_debug::debug::debug;
 use cli_judge::judge::judge;
 use cli_programs::asm::asm;
 use cli_programs::disasm::disasm;
@@ -35,6 +36,8 @@ use xom_io::{Files, Sink};
 ///   and the judgement of its journal; where a file is named, the journal's text is written there.
 /// - `judge RUN JOURNAL` judges a journal that was taken away, by the owners of a run file, and prints
 ///   the report. Of the files that the run file names it reads the owners' images alone.
+/// - `debug RUN COMMANDS` makes the run of a run file as far as the commands of a debugger ask for it, and
+///   prints what they print. No journal is judged, and the status is 0, whatever happened in the run.
 ///
 /// 0: carried out; for a run, the kernel halted; for a journal, none of what follows. 1: the words match no command. 2: a file can't be
 /// read. 3: the output can't be written. 4: a file is too long, or off its format. 5: no memory was
@@ -98,5 +101,9 @@ fn answer<F: Files>(alloc: Global, row: Row<'_>, files: &mut F) -> Result<Answer
         Row::Run { run: name } => run(alloc, files, name),
         Row::Trace { run: name, journal } => trace(alloc, files, name, journal),
         Row::Judge { run: name, journal } => judge(alloc, files, name, journal),
+        Row::Debug {
+            run: name,
+            commands,
+        } => debug(alloc, files, name, commands),
     }
 }

@@ -1,0 +1,4 @@
+pub mod Commands
+pub mod Moments
+pub mod DebugTexts
+pub mod Sessions
