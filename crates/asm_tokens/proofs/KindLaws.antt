@@ -1,5 +1,5 @@
 -- One token: the functions of its kind and size are the grammar.
-use Rattle.std.proofs.Common.{◌≡◌, ℕ, suc, ◌+◌, Bool, true, false, cond, eqb, ◌||◌, inl, inr, List, [], ◌∷◌, ◌++◌, length, take, drop, Option, Some, None, refl, subst, arith}
+use Rattle.std.proofs.Common.{◌≡◌, ℕ, suc, ◌+◌, Bool, true, false, cond, eqb, ◌||◌, inl, inr, List, [], ◌∷◌, ◌++◌, length, take, Option, Some, None, refl, subst, arith}
 use Rattle.std.specs.Char.{is_ascii_digit}
 use Rattle.std.specs.List.{list_all, prefix_len}
 use Rattle.std.proofs.lemmas.Bool.{cases_Bool, and_parts, and_from, eqb-true}
@@ -101,12 +101,4 @@ run_passes (byte ∷ bytes) =
           let one : 1 + prefix_len is_name_byte bytes ≡ suc (prefix_len is_name_byte bytes) = omega arith in
           rw (is, one) (and_from (is_name_byte byte) (list_all is_name_byte (take (prefix_len is_name_byte bytes) bytes)) is (run_passes bytes))
       | inr other ↦ rw other refl
-    ]
-
-pub run_stops : (bytes : List ℕ) → NoNameByte (drop (prefix_len is_name_byte bytes) bytes)
-run_stops [] = tt
-run_stops (byte ∷ bytes) =
-    elim (cases_Bool (is_name_byte byte)) [
-      | inl is ↦ let one : 1 + prefix_len is_name_byte bytes ≡ suc (prefix_len is_name_byte bytes) = omega arith in rw (is, one) (run_stops bytes)
-      | inr other ↦ rw other other
     ]

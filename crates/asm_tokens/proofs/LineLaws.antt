@@ -1,12 +1,13 @@
 -- The tokens of a line: the function is the grammar.
 use Rattle.std.proofs.Common.{◌≡◌, ℕ, zero, suc, ◌+◌, ◌-◌, ◌<◌, ◌≤◌, true, false, inl, inr, List, [], ◌∷◌, ◌++◌, length, take, drop, Option, Some, None, Result, Ok, Err, refl, sym, ap, subst, ◌∙◌, arith, append-nil, length-drop}
-use Rattle.std.specs.Prelude.{◌⊎◌, All, IfOk, IsTrue, slice_get, slice_range}
+use Rattle.std.specs.Prelude.{All, IfOk, IsTrue, slice_get, slice_range}
 use Rattle.std.specs.List.{list_all}
 use Rattle.std.proofs.lemmas.Bool.{cases_Bool, and_parts, and_from, eqb-true}
 use Rattle.std.proofs.lemmas.List.{length-take-le, take-append-drop}
 use Rattle.std.proofs.lemmas.List.Elements.{All-cons, All-nil}
 use Rattle.std.proofs.lemmas.Option.{none-some}
 use Rattle.std.proofs.Math.Seq.{drop-drop}
+use Rattle.xom_base.specs.Memory.{OrOut}
 use Rattle.xom_base.specs.Words.{begins_comment, is_blank}
 use Rattle.asm_tokens.proofs.KindLaws.{kind_of-no_blank}
 use Rattle.asm_tokens.proofs.SizeLaws.{Sized, token_found, token_kind, token_only}
@@ -275,7 +276,7 @@ answers_found line (Ok tokens) h = tokens_found line tokens h
 answers_found line (Err fault) h = tt
 
 pub answers_only : (line : List ℕ) (result : Result (List Token) TokenFault) → Answers (tokens_of line) result
-    → (tokens : List Token) → AreTokens line tokens → (result ≡ Ok tokens) ⊎ (result ≡ Err fault.NoMemory)
+    → (tokens : List Token) → AreTokens line tokens → OrOut fault.NoMemory (Ok tokens) result
 answers_only line (Ok found) h tokens are = let same : found ≡ tokens = cc (sym h ∙ tokens_only line tokens are) in inl (ap Ok same)
 answers_only line (Err (fault.Token bad)) h tokens are = absurd (ok_err tokens bad (sym (tokens_only line tokens are) ∙ h))
 answers_only line (Err fault.NoMemory) h tokens are = inr refl
@@ -287,7 +288,7 @@ answers_bad line (Err (fault.Token other)) h bad is = let same : other ≡ bad =
 answers_bad line (Err fault.NoMemory) h bad is = absurd (cc is)
 
 pub answers_only_bad : (line : List ℕ) (result : Result (List Token) TokenFault) → Answers (tokens_of line) result
-    → (bad : ℕ) → IsBadAt line bad → (result ≡ Err (fault.Token bad)) ⊎ (result ≡ Err fault.NoMemory)
+    → (bad : ℕ) → IsBadAt line bad → OrOut fault.NoMemory (Err (fault.Token bad)) result
 answers_only_bad line (Ok found) h bad is = absurd (ok_err found bad (sym h ∙ bad_only line bad is))
 answers_only_bad line (Err (fault.Token other)) h bad is = let same : other ≡ bad = cc (sym h ∙ bad_only line bad is) in inl (ap (λ b. Err (fault.Token b)) same)
 answers_only_bad line (Err fault.NoMemory) h bad is = inr refl

@@ -11,9 +11,9 @@ use Rattle.std.proofs.lemmas.Option.{none-some, cond_some, option_and_then_some,
 use Rattle.std.proofs.Math.Seq.{take-append_seam}
 use Rattle.xom_base.proofs.CutLaws.{option_map_some}
 use Rattle.xom_base.specs.Numbers.{IsNumber}
-use Rattle.asm_tokens.proofs.Heads.{first_same}
+use Rattle.asm_tokens.proofs.Heads.{FirstFails-behind, first_same}
 use Rattle.asm_tokens.proofs.IntegerLaws.{integer_of-exact}
-use Rattle.asm_tokens.proofs.KindLaws.{Begins, begins-kind_of, kind_of-begins, run_passes, run_stops, run_whole}
+use Rattle.asm_tokens.proofs.KindLaws.{Begins, begins-kind_of, kind_of-begins, run_passes, run_whole}
 use Rattle.asm_tokens.proofs.QuotedLaws.{read_quoted-found, read_quoted-only}
 use Rattle.asm_tokens.proofs.RegisterLaws.{register_of-exact}
 use Rattle.asm_tokens.specs.declared.integers.Integer.{Integer}
@@ -44,7 +44,7 @@ run_sized kind first rest stops text = record {
   some = omega arith;
   within = omega (arith, prefix_len-le-length is_name_byte rest);
   text = text;
-  ends = rw (one (prefix_len is_name_byte rest)) (stops (drop (prefix_len is_name_byte rest) rest) (run_stops rest));
+  ends = rw (one (prefix_len is_name_byte rest)) (stops (drop (prefix_len is_name_byte rest) rest) (FirstFails-behind is_name_byte rest));
 }
 
 -- what is there

@@ -4,9 +4,10 @@ use Rattle.std.specs.List.{prefix_len}
 use Rattle.std.proofs.lemmas.Bool.{cases_Bool, true≢false}
 use Rattle.std.proofs.Math.Seq.{drop-drop}
 use Rattle.xom_base.specs.Words.{is_blank}
+use Rattle.asm_tokens.proofs.Heads.{FirstFails-behind}
 use Rattle.asm_tokens.specs.declared.token.Token.{Token}
 use Rattle.asm_tokens.specs.declared.token.TokenKind.{TokenKind}
-use Rattle.asm_tokens.specs.Tokens.{is_over, token_at, token_of, tokens_from, with_tokens}
+use Rattle.asm_tokens.specs.Tokens.{FirstFails, is_over, token_at, token_of, tokens_from, with_tokens}
 
 -- ---- what is passed over
 
@@ -37,16 +38,7 @@ tokens_from-blanks at (byte ∷ bytes) =
 
 -- no blank stands in front
 abbrev pub NoBlank : List ℕ → Type 0
-NoBlank [] = Unit {0}
-NoBlank (byte ∷ bytes) = is_blank byte ≡ false
-
-pub no_blank_behind : (bytes : List ℕ) → NoBlank (drop (prefix_len is_blank bytes) bytes)
-no_blank_behind [] = tt
-no_blank_behind (byte ∷ bytes) =
-    elim (cases_Bool (is_blank byte)) [
-      | inl blank ↦ let one : 1 + prefix_len is_blank bytes ≡ suc (prefix_len is_blank bytes) = omega arith in rw (blank, one) (no_blank_behind bytes)
-      | inr other ↦ rw other other
-    ]
+NoBlank bytes = FirstFails is_blank bytes
 
 -- from a place of a line on, the same from the first byte that is no blank
 pub from_start : (line : List ℕ) (at count : ℕ) → count ≡ prefix_len is_blank (drop at line)
@@ -56,7 +48,7 @@ from_start line at count h =
 
 pub start_no_blank : (line : List ℕ) (at count : ℕ) → count ≡ prefix_len is_blank (drop at line) → NoBlank (drop (at + count) line)
 start_no_blank line at count h =
-    subst NoBlank (ap (λ n. drop n (drop at line)) (sym h) ∙ drop-drop count at line) (no_blank_behind (drop at line))
+    subst NoBlank (ap (λ n. drop n (drop at line)) (sym h) ∙ drop-drop count at line) (FirstFails-behind is_blank (drop at line))
 
 -- ---- what stands there
 

@@ -26,10 +26,14 @@ IsTextOf Colon text = text ≡ codes ":"
 IsTextOf Left text = text ≡ codes "("
 IsTextOf Right text = text ≡ codes ")"
 
+-- the first of these bytes, if there is one, fails the test
+abbrev pub FirstFails : (ℕ → Bool) → List ℕ → Type 0
+FirstFails test [] = Unit {0}
+FirstFails test (byte ∷ behind) = test byte ≡ false
+
 -- no letter, digit, `_` or `.` follows
 abbrev pub NoNameByte : List ℕ → Type 0
-NoNameByte [] = Unit {0}
-NoNameByte (byte ∷ behind) = is_name_byte byte ≡ false
+NoNameByte behind = FirstFails is_name_byte behind
 
 -- A token of this kind may end before these bytes: a name, a number or a register takes all letters,
 -- digits, `_` and `.` that follow.

@@ -1,5 +1,6 @@
-ghost use Rattle.std.specs.Prelude.{◌≡◌, ◌+◌, ◌<◌, ◌≤◌, ◌⊎◌, ℕ, List, [], ◌∷◌, Ok, Err, IfOk, IfSome, All, MatchOption, MatchResult, drop, length};
+ghost use Rattle.std.specs.Prelude.{◌≡◌, ◌+◌, ◌<◌, ◌≤◌, ℕ, List, [], ◌∷◌, Ok, Err, IfOk, IfSome, All, MatchOption, MatchResult, drop, length};
 ghost use Rattle.std.specs.List.{prefix_len};
+ghost use Rattle.xom_base.specs.Memory.{OrOut};
 ghost use Rattle.xom_base.specs.Words.{is_blank};
 ghost use Rattle.asm_tokens.specs.declared.token.Token.{Token};
 ghost use Rattle.asm_tokens.specs.Lexemes.{is_name_byte};
@@ -16,9 +17,9 @@ use xom_base::NoMemory;
 /// token. It costs time linear in the line, and memory for the list alone.
 pub fn tokens(alloc: Global, line: &[u8]) -> Result<TokenList, TokenFault>
     ensures found { IfOk result (AreTokens line.now) }
-    ensures only { (tokens : List Token) → AreTokens line.now tokens → (result ≡ Ok tokens) ⊎ (result ≡ Err TokenFault.NoMemory) }
+    ensures only { (tokens : List Token) → AreTokens line.now tokens → OrOut TokenFault.NoMemory (Ok tokens) result }
     ensures bad { (at : ℕ) → result ≡ Err (TokenFault.Token at) → IsBadAt line.now at }
-    ensures only_bad { (at : ℕ) → IsBadAt line.now at → (result ≡ Err (TokenFault.Token at)) ⊎ (result ≡ Err TokenFault.NoMemory) }
+    ensures only_bad { (at : ℕ) → IsBadAt line.now at → OrOut TokenFault.NoMemory (Err (TokenFault.Token at)) result }
     // Each token's text is its slice of the line.
     ensures slices { IfOk result (λ tokens. All (IsTokenOf line.now) tokens) }
     ensures value { Answers (tokens_of line.now) result }

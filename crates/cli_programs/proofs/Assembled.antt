@@ -1,9 +1,9 @@
 -- What is answered of the text of a source is what its name comes to.
-use Rattle.std.proofs.Common.{◌≡◌, ℕ, List, Some, Result, Ok, Err, sym, subst, arith}
+use Rattle.std.proofs.Common.{◌≡◌, ℕ, inl, inr, List, Some, Result, Ok, Err, sym, subst, arith}
 use Rattle.xom_io.specs.Answers.{Told}
 use Rattle.mips_asm.specs.declared.fault.AsmFault.{AsmFault}
 use Rattle.mips_asm.specs.declared.fault.AsmFault.TheVariants as asm_fault
-use Rattle.mips_asm.specs.Sources.{IsFaultOf}
+use Rattle.mips_asm.specs.Sources.{IsFaultOf, OrNoMemory}
 use Rattle.cli_base.specs.declared.answer.Answer.{Answer}
 use Rattle.cli_base.specs.declared.refusal.Refusal.{Refusal}
 use Rattle.cli_base.specs.declared.refusal.Refusal.TheVariants.{Unread, Bad}
@@ -24,9 +24,14 @@ said-unread source name (asm_fault.UnknownName line) is = cc
 said-unread source name (asm_fault.Range line) is = cc
 said-unread source name asm_fault.NoMemory is = cc
 
+-- want of memory is told by no refusal
+said-none : (source : List ℕ) (fault : AsmFault) (refusal : Refusal) → fault ≡ asm_fault.NoMemory → said_of source fault ≡ Some refusal → ⊥
+said-none source fault refusal none says = let said : said_of source asm_fault.NoMemory ≡ Some refusal = subst (λ (f : AsmFault). said_of source f ≡ Some refusal) none says in absurd (cc)
+
 -- a source with a fault is refused for it, or for want of memory
-pub assembled_stops : (source text target : List ℕ) (fault : AsmFault) (made : Stop) → IsFaultOf text fault → Says source fault made → IsAssembled source text target (Err made)
-assembled_stops source text target fault (stop.Refused refusal) is says = (fault, is, says)
+pub assembled_stops : (source text target : List ℕ) (fault : AsmFault) (made : Stop) → OrNoMemory (IsFaultOf text) fault → Says source fault made → IsAssembled source text target (Err made)
+assembled_stops source text target fault (stop.Refused refusal) (inl none) says = absurd (said-none source fault refusal none says)
+assembled_stops source text target fault (stop.Refused refusal) (inr is) says = (fault, is, says)
 assembled_stops source text target fault stop.NoMemory is says = tt
 
 module _ (told : Told) (source target text : List ℕ) (before after : ℕ) (stays : after ≡ before) (read : (held : Held) → told ≡ Some held → fetched held source source_limit ≡ Ok text) where

@@ -13,24 +13,24 @@ use Rattle.mips_asm.specs.declared.fault.AsmFault.TheVariants.{Syntax, Duplicate
 use Rattle.mips_asm.specs.declared.placed.Placed.{Placed}
 use Rattle.mips_asm.specs.Layout.{layout}
 use Rattle.mips_asm.specs.Passes.{Labels, duplicate_line, line_of, overlap_line, too_long_line, unknown_line}
-use Rattle.mips_asm.specs.Sources.{IsFaultOf, IsFirst, IsOutOfRange, IsPlacedFault, bad_entry, bad_entry_of, entry_in, is_entry, labels_of, last_entry}
+use Rattle.mips_asm.specs.Sources.{IsFaultOf, IsFirst, IsOutOfRange, IsPlacedFault, OrNoMemory, bad_entry, bad_entry_of, entry_in, is_entry, labels_of, last_entry}
 
 -- what a pass says of its fault
 abbrev pub Said : (ℕ → AsmFault) → Option ℕ → AsmFault → Type 0
 Said kind found fault = (fault ≡ NoMemory) ⊎ ((n : ℕ) × (found ≡ Some n) × (fault ≡ kind n))
 
-pub overlap_said : (placed : List Placed) (fault : AsmFault) → Said (λ n. Overlap n) (overlap_line placed) fault → IsPlacedFault placed fault
-overlap_said placed fault (inl none) = subst (IsPlacedFault placed) (sym none) tt
-overlap_said placed fault (inr some) = subst (IsPlacedFault placed) (sym some.2) some.1
+pub overlap_said : (placed : List Placed) (fault : AsmFault) → Said (λ n. Overlap n) (overlap_line placed) fault → OrNoMemory (IsPlacedFault placed) fault
+overlap_said placed fault (inl none) = inl none
+overlap_said placed fault (inr some) = inr (subst (IsPlacedFault placed) (sym some.2) some.1)
 
-pub unknown_said : (placed : List Placed) (fault : AsmFault) → overlap_line placed ≡ None → Said (λ n. UnknownName n) (unknown_line (labels_of placed) placed) fault → IsPlacedFault placed fault
-unknown_said placed fault apart (inl none) = subst (IsPlacedFault placed) (sym none) tt
-unknown_said placed fault apart (inr some) = subst (IsPlacedFault placed) (sym some.2) (apart, some.1)
+pub unknown_said : (placed : List Placed) (fault : AsmFault) → overlap_line placed ≡ None → Said (λ n. UnknownName n) (unknown_line (labels_of placed) placed) fault → OrNoMemory (IsPlacedFault placed) fault
+unknown_said placed fault apart (inl none) = inl none
+unknown_said placed fault apart (inr some) = inr (subst (IsPlacedFault placed) (sym some.2) (apart, some.1))
 
-pub range_said : (placed : List Placed) (fault : AsmFault) → overlap_line placed ≡ None → unknown_line (labels_of placed) placed ≡ None
-    → (fault ≡ NoMemory) ⊎ ((n : ℕ) × (fault ≡ Range n) × IsFirst line_of (IsOutOfRange (labels_of placed) (bad_entry_of placed)) placed n) → IsPlacedFault placed fault
-range_said placed fault apart known (inl none) = subst (IsPlacedFault placed) (sym none) tt
-range_said placed fault apart known (inr some) = subst (IsPlacedFault placed) (sym some.1) (apart, known, some.2)
+range_said : (placed : List Placed) (fault : AsmFault) → overlap_line placed ≡ None → unknown_line (labels_of placed) placed ≡ None
+    → (fault ≡ NoMemory) ⊎ ((n : ℕ) × (fault ≡ Range n) × IsFirst line_of (IsOutOfRange (labels_of placed) (bad_entry_of placed)) placed n) → OrNoMemory (IsPlacedFault placed) fault
+range_said placed fault apart known (inl none) = inl none
+range_said placed fault apart known (inr some) = inr (subst (IsPlacedFault placed) (sym some.1) (apart, known, some.2))
 
 -- one element, and what is found behind it
 here : {X : Type 0} (P : X → Type 0) (b : Bool) (y x : X) (more : Option X) → P y → (more ≡ Some x → P x) → cond b (Some y) more ≡ Some x → P x
@@ -68,23 +68,29 @@ no_bad_entry labels placed line all bad = at (last_entry placed) refl bad
 
 -- ---- sources
 
-pub duplicate_said : (text : List ℕ) (parts : List Part) (fault : AsmFault) → source_of text ≡ Ok parts → Said (λ n. Duplicate n) (duplicate_line parts) fault → IsFaultOf text fault
-duplicate_said text parts fault read (inl none) = subst (IsFaultOf text) (sym none) tt
-duplicate_said text parts fault read (inr some) = subst (IsFaultOf text) (sym some.2) (parts, read, some.1)
+pub duplicate_said : (text : List ℕ) (parts : List Part) (fault : AsmFault) → source_of text ≡ Ok parts → Said (λ n. Duplicate n) (duplicate_line parts) fault → OrNoMemory (IsFaultOf text) fault
+duplicate_said text parts fault read (inl none) = inl none
+duplicate_said text parts fault read (inr some) = inr (subst (IsFaultOf text) (sym some.2) (parts, read, some.1))
 
-pub too_long_said : (text : List ℕ) (parts : List Part) (fault : AsmFault) → source_of text ≡ Ok parts → duplicate_line parts ≡ None → Said (λ n. TooLong n) (too_long_line (layout 0 parts)) fault → IsFaultOf text fault
-too_long_said text parts fault read unique (inl none) = subst (IsFaultOf text) (sym none) tt
-too_long_said text parts fault read unique (inr some) = subst (IsFaultOf text) (sym some.2) (parts, read, (unique, some.1))
+pub too_long_said : (text : List ℕ) (parts : List Part) (fault : AsmFault) → source_of text ≡ Ok parts → duplicate_line parts ≡ None → Said (λ n. TooLong n) (too_long_line (layout 0 parts)) fault → OrNoMemory (IsFaultOf text) fault
+too_long_said text parts fault read unique (inl none) = inl none
+too_long_said text parts fault read unique (inr some) = inr (subst (IsFaultOf text) (sym some.2) (parts, read, (unique, some.1)))
+
+-- a fault at places is one of the source, where no kind before it occurs
+pub placed_fault : (text : List ℕ) (parts : List Part) (fault : AsmFault) → source_of text ≡ Ok parts → duplicate_line parts ≡ None → too_long_line (layout 0 parts) ≡ None
+    → IsPlacedFault (layout 0 parts) fault → IsFaultOf text fault
+placed_fault text parts (Syntax n) read unique short is = absurd is
+placed_fault text parts (Duplicate n) read unique short is = absurd is
+placed_fault text parts (TooLong n) read unique short is = absurd is
+placed_fault text parts (Overlap n) read unique short is = (parts, read, (unique, short, is))
+placed_fault text parts (UnknownName n) read unique short is = (parts, read, (unique, short, is))
+placed_fault text parts (Range n) read unique short is = (parts, read, (unique, short, is))
+placed_fault text parts NoMemory read unique short is = absurd is
 
 pub placed_said : (text : List ℕ) (parts : List Part) (fault : AsmFault) → source_of text ≡ Ok parts → duplicate_line parts ≡ None → too_long_line (layout 0 parts) ≡ None
-    → IsPlacedFault (layout 0 parts) fault → IsFaultOf text fault
-placed_said text parts (Syntax n) read unique short is = absurd is
-placed_said text parts (Duplicate n) read unique short is = absurd is
-placed_said text parts (TooLong n) read unique short is = absurd is
-placed_said text parts (Overlap n) read unique short is = (parts, read, (unique, short, is))
-placed_said text parts (UnknownName n) read unique short is = (parts, read, (unique, short, is))
-placed_said text parts (Range n) read unique short is = (parts, read, (unique, short, is))
-placed_said text parts NoMemory read unique short is = tt
+    → OrNoMemory (IsPlacedFault (layout 0 parts)) fault → OrNoMemory (IsFaultOf text) fault
+placed_said text parts fault read unique short (inl none) = inl none
+placed_said text parts fault read unique short (inr is) = inr (placed_fault text parts fault read unique short is)
 
 -- what is true of an error is true of the answer that hands it on
 pub err_is : {A : Type 0} (r : Result A AsmFault) (fault : AsmFault) → IsErrAnd r (λ e. e ≡ fault) → (P : A → Type 0) (Q : AsmFault → Type 0) → Q fault → MatchResult r P Q
@@ -98,7 +104,7 @@ bad_is (Err line) told bad is given = given ∙ sym is
 
 pub range_here : (placed : List Placed) (fault : AsmFault) (labels : Labels) (bad : Option ℕ) → labels ≡ labels_of placed → bad ≡ bad_entry_of placed
     → overlap_line placed ≡ None → unknown_line labels placed ≡ None
-    → (fault ≡ NoMemory) ⊎ ((n : ℕ) × (fault ≡ Range n) × IsFirst line_of (IsOutOfRange labels bad) placed n) → IsPlacedFault placed fault
+    → (fault ≡ NoMemory) ⊎ ((n : ℕ) × (fault ≡ Range n) × IsFirst line_of (IsOutOfRange labels bad) placed n) → OrNoMemory (IsPlacedFault placed) fault
 range_here placed fault labels bad named last apart known said =
     let F : Labels → Option ℕ → Type 0 = λ l b. (fault ≡ NoMemory) ⊎ ((n : ℕ) × (fault ≡ Range n) × IsFirst line_of (IsOutOfRange l b) placed n) in
     range_said placed fault apart (ap (λ (l : Labels). unknown_line l placed) (sym named) ∙ known) (subst (F (labels_of placed)) last (subst (λ (l : Labels). F l bad) named said))

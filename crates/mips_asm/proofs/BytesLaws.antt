@@ -26,7 +26,7 @@ use Rattle.mips_asm.proofs.SizeLaws.{Gives-size}
 -- ---- one statement
 
 -- each statement of a layout has its size
-layout-sized : (place : ℕ) (parts : List Part) → All IsSized (layout place parts)
+pub layout-sized : (place : ℕ) (parts : List Part) → All IsSized (layout place parts)
 unfolding layout
 layout-sized place [] = All-nil IsSized
 layout-sized place (part ∷ parts) = All-cons IsSized (placed_at place part) (layout (after place part.content) parts) refl (layout-sized (after place part.content) parts)

@@ -9,8 +9,11 @@ pub mod RangeLaws
 pub mod AssemblyLaws
 pub mod SameImages
 pub mod SameFaults
-pub mod ImageOrFaultLaws
+pub mod NotBothLaws
 pub mod OneOutcome
 pub mod BytesLaws
 pub mod WrittenLaws
 pub mod CodeLaws
+pub mod FitsLaws
+pub mod GivesLaws
+pub mod SomeOutcome

@@ -40,31 +40,17 @@ IsFirst-same line Bad xs n m p q =
 
 -- ---- one kind of fault after another
 
--- the same fault, but for want of memory
-abbrev pub Same : AsmFault → AsmFault → Type 0
-Same a b = (a ≡ b) ⊎ (a ≡ NoMemory) ⊎ (b ≡ NoMemory)
-
 -- a fault of this kind, where its line was found, or one of a later kind
 abbrev Stage : (ℕ → AsmFault) → Option ℕ → (AsmFault → Type 0) → AsmFault → Type 0
 Stage kind found Later a = ((n : ℕ) × (found ≡ Some n) × (a ≡ kind n)) ⊎ ((found ≡ None) × Later a)
 
 -- two faults that are looked for in stages are the same where those of later stages are
-Stage-same : (kind : ℕ → AsmFault) (found : Option ℕ) (Later : AsmFault → Type 0) (a b : AsmFault) → (Later a → Later b → Same a b)
-    → Stage kind found Later a → Stage kind found Later b → Same a b
-Stage-same kind found Later a b later (inl p) (inl q) = inl (p.2 ∙ ap kind (same_Some p.0 q.0 (sym p.1 ∙ q.1)) ∙ sym q.2)
+Stage-same : (kind : ℕ → AsmFault) (found : Option ℕ) (Later : AsmFault → Type 0) (a b : AsmFault) → (Later a → Later b → a ≡ b)
+    → Stage kind found Later a → Stage kind found Later b → a ≡ b
+Stage-same kind found Later a b later (inl p) (inl q) = p.2 ∙ ap kind (same_Some p.0 q.0 (sym p.1 ∙ q.1)) ∙ sym q.2
 Stage-same kind found Later a b later (inl p) (inr q) = absurd (none-some p.0 (sym q.0 ∙ p.1))
 Stage-same kind found Later a b later (inr p) (inl q) = absurd (none-some q.0 (sym p.0 ∙ q.1))
 Stage-same kind found Later a b later (inr p) (inr q) = later p.1 q.1
-
--- want of memory, or something else
-abbrev Beside : (AsmFault → Type 0) → AsmFault → Type 0
-Beside Said a = (a ≡ NoMemory) ⊎ Said a
-
--- two faults are the same where they are the same beside want of memory
-Beside-same : (Said : AsmFault → Type 0) (a b : AsmFault) → (Said a → Said b → Same a b) → Beside Said a → Beside Said b → Same a b
-Beside-same Said a b said (inl none) other = inr (inl none)
-Beside-same Said a b said (inr p) (inl none) = inr (inr none)
-Beside-same Said a b said (inr p) (inr q) = said p q
 
 -- ---- faults at places
 
@@ -72,9 +58,9 @@ Beside-same Said a b said (inr p) (inr q) = said p q
 abbrev RangeFault : List Placed → AsmFault → Type 0
 RangeFault placed a = (n : ℕ) × (a ≡ Range n) × IsFirst line_of (IsOutOfRange (labels_of placed) (bad_entry_of placed)) placed n
 
-RangeFault-same : (placed : List Placed) (a b : AsmFault) → RangeFault placed a → RangeFault placed b → Same a b
+RangeFault-same : (placed : List Placed) (a b : AsmFault) → RangeFault placed a → RangeFault placed b → a ≡ b
 RangeFault-same placed a b p q =
-    inl (p.1 ∙ ap Range (IsFirst-same line_of (IsOutOfRange (labels_of placed) (bad_entry_of placed)) placed p.0 q.0 p.2 q.2) ∙ sym q.1)
+    p.1 ∙ ap Range (IsFirst-same line_of (IsOutOfRange (labels_of placed) (bad_entry_of placed)) placed p.0 q.0 p.2 q.2) ∙ sym q.1
 
 -- a name of no label, or a later fault
 abbrev UnknownFault : List Placed → AsmFault → Type 0
@@ -85,22 +71,21 @@ abbrev OverlapFault : List Placed → AsmFault → Type 0
 OverlapFault placed = Stage (λ n. Overlap n) (overlap_line placed) (UnknownFault placed)
 
 -- the faults at places, in their order
-placed_stages : (placed : List Placed) (a : AsmFault) → IsPlacedFault placed a → Beside (OverlapFault placed) a
+placed_stages : (placed : List Placed) (a : AsmFault) → IsPlacedFault placed a → OverlapFault placed a
 placed_stages placed (Syntax n) is = absurd is
 placed_stages placed (Duplicate n) is = absurd is
 placed_stages placed (TooLong n) is = absurd is
-placed_stages placed (Overlap n) is = inr (inl (n, is, refl))
-placed_stages placed (UnknownName n) is = inr (inr (is.0, inl (n, is.1, refl)))
-placed_stages placed (Range n) is = inr (inr (is.0, inr (is.1, (n, refl, is.2))))
-placed_stages placed NoMemory is = inl refl
+placed_stages placed (Overlap n) is = inl (n, is, refl)
+placed_stages placed (UnknownName n) is = inr (is.0, inl (n, is.1, refl))
+placed_stages placed (Range n) is = inr (is.0, inr (is.1, (n, refl, is.2)))
+placed_stages placed NoMemory is = absurd is
 
 -- two faults at the same places are the same
-IsPlacedFault-same : (placed : List Placed) (a b : AsmFault) → IsPlacedFault placed a → IsPlacedFault placed b → Same a b
+IsPlacedFault-same : (placed : List Placed) (a b : AsmFault) → IsPlacedFault placed a → IsPlacedFault placed b → a ≡ b
 IsPlacedFault-same placed a b p q =
-    Beside-same (OverlapFault placed) a b
-    (Stage-same (λ n. Overlap n) (overlap_line placed) (UnknownFault placed) a b
+    Stage-same (λ n. Overlap n) (overlap_line placed) (UnknownFault placed) a b
     (Stage-same (λ n. UnknownName n) (unknown_line (labels_of placed) placed) (RangeFault placed) a b
-    (RangeFault-same placed a b)))
+    (RangeFault-same placed a b))
     (placed_stages placed a p)
     (placed_stages placed b q)
 
@@ -122,10 +107,10 @@ parts_stages parts (TooLong n) is = inr (is.0, inl (n, is.1, refl))
 parts_stages parts (Overlap n) is = inr (is.0, inr (is.1, is.2))
 parts_stages parts (UnknownName n) is = inr (is.0, inr (is.1, is.2))
 parts_stages parts (Range n) is = inr (is.0, inr (is.1, is.2))
-parts_stages parts NoMemory is = inr (is.0, inr (is.1, is.2))
+parts_stages parts NoMemory is = absurd is.2
 
 -- two faults of the same labels and statements are the same
-pub IsPartsFault-same : (parts : List Part) (a b : AsmFault) → IsPartsFault parts a → IsPartsFault parts b → Same a b
+pub IsPartsFault-same : (parts : List Part) (a b : AsmFault) → IsPartsFault parts a → IsPartsFault parts b → a ≡ b
 IsPartsFault-same parts a b p q =
     Stage-same (λ n. Duplicate n) (duplicate_line parts) (TooLongFault parts) a b
     (Stage-same (λ n. TooLong n) (too_long_line (layout 0 parts)) (λ f. IsPlacedFault (layout 0 parts) f) a b

@@ -4,7 +4,6 @@ use Rattle.xom_base.specs.declared.image.PlainImage.{PlainImage}
 use Rattle.asm_source.specs.declared.content.Part.{Part}
 use Rattle.asm_syntax.specs.Lines.{source_of}
 use Rattle.mips_asm.specs.declared.fault.AsmFault.{AsmFault}
-use Rattle.mips_asm.specs.declared.fault.AsmFault.TheVariants.{NoMemory}
 use Rattle.mips_asm.specs.declared.placed.Placed.{Placed}
 use Rattle.mips_asm.specs.Encoding.{Gives}
 use Rattle.mips_asm.specs.Layout.{covers, last_end, layout}
@@ -17,13 +16,17 @@ use Rattle.mips_asm.specs.Sources.{IsFaultOf, IsImageOf, labels_of}
 abbrev pub OneImage : Type 0
 OneImage = (text : List ℕ) (a b : PlainImage) → IsImageOf text a → IsImageOf text b → a ≡ b
 
--- a source that has an image has no fault but want of memory
-abbrev pub ImageOrFault : Type 0
-ImageOrFault = (text : List ℕ) (image : PlainImage) (fault : AsmFault) → IsImageOf text image → IsFaultOf text fault → fault ≡ NoMemory
-
--- two faults of a source are the same, line and kind, but for want of memory
+-- two faults of a source are the same, line and kind
 abbrev pub OneFault : Type 0
-OneFault = (text : List ℕ) (a b : AsmFault) → IsFaultOf text a → IsFaultOf text b → (a ≡ b) ⊎ (a ≡ NoMemory) ⊎ (b ≡ NoMemory)
+OneFault = (text : List ℕ) (a b : AsmFault) → IsFaultOf text a → IsFaultOf text b → a ≡ b
+
+-- a source that has an image has no fault
+abbrev pub NotBoth : Type 0
+NotBoth = (text : List ℕ) (image : PlainImage) (fault : AsmFault) → IsImageOf text image → ¬ IsFaultOf text fault
+
+-- each text has an image or a fault
+abbrev pub ImageOrFault : Type 0
+ImageOrFault = (text : List ℕ) → ((image : PlainImage) × IsImageOf text image) ⊎ ((fault : AsmFault) × IsFaultOf text fault)
 
 -- ---- the bytes of an image
 

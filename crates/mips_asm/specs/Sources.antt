@@ -113,6 +113,10 @@ pub record IsPlacedImage (placed : List Placed) (image : PlainImage) : Type 0 wh
   pub writes : Writes (labels_of placed) placed chunks
   pub bytes : IsWritten chunks image.bytes
 
+-- What may be answered where there is no image: a fault that there is, or want of memory, which comes freely.
+abbrev pub OrNoMemory : (AsmFault → Type 0) → AsmFault → Type 0
+OrNoMemory Has fault = (fault ≡ NoMemory) ⊎ Has fault
+
 -- the fault of the first kind that occurs, of those that are looked for at places
 abbrev pub IsPlacedFault : List Placed → AsmFault → Type 0
 IsPlacedFault placed (Overlap n) = overlap_line placed ≡ Some n
@@ -120,7 +124,7 @@ IsPlacedFault placed (UnknownName n) = (overlap_line placed ≡ None) × (unknow
 IsPlacedFault placed (Range n) =
     (overlap_line placed ≡ None) × (unknown_line (labels_of placed) placed ≡ None)
     × IsFirst line_of (IsOutOfRange (labels_of placed) (bad_entry_of placed)) placed n
-IsPlacedFault placed NoMemory = Unit {0}
+IsPlacedFault placed NoMemory = ⊥
 IsPlacedFault placed _ = ⊥
 
 -- ---- sources
@@ -142,8 +146,8 @@ IsPartsFault parts (TooLong n) = (duplicate_line parts ≡ None) × (too_long_li
 IsPartsFault parts fault = (duplicate_line parts ≡ None) × (too_long_line (layout 0 parts) ≡ None) × IsPlacedFault (layout 0 parts) fault
 
 -- The source has this fault: its first line off the grammar, or, where all lines are in it, the first
--- line with a fault of the first kind that occurs. Want of memory comes freely.
+-- line with a fault of the first kind that occurs. Want of memory is no fault of a source.
 abbrev pub IsFaultOf : List ℕ → AsmFault → Type 0
 IsFaultOf text (Syntax n) = source_of text ≡ Err n
-IsFaultOf text NoMemory = Unit {0}
+IsFaultOf text NoMemory = ⊥
 IsFaultOf text fault = (parts : List Part) × (source_of text ≡ Ok parts) × IsPartsFault parts fault

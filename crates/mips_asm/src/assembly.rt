@@ -1,7 +1,8 @@
 ghost use Rattle.xom_base.specs.declared.image.PlainImage.{PlainImage};
-ghost use Rattle.std.specs.Prelude.{◌⊎◌, Err, IfErr, IfOk, Ok, ◌≡◌, All, MatchResult};
+ghost use Rattle.xom_base.specs.Memory.{OrOut};
+ghost use Rattle.std.specs.Prelude.{Err, IfErr, IfOk, Ok, All, MatchResult};
 ghost use Rattle.mips_asm.specs.Layout.{IsInside, IsSized};
-ghost use Rattle.mips_asm.specs.Sources.{IsFaultOf, IsImageOf, IsPlacedFault, IsPlacedImage};
+ghost use Rattle.mips_asm.specs.Sources.{IsFaultOf, IsImageOf, IsPlacedFault, IsPlacedImage, OrNoMemory};
 
 use crate::AsmFault;
 use crate::duplicates::no_duplicate;
@@ -22,15 +23,17 @@ pub fn assemble(alloc: Global, text: &[u8]) -> Result<PlainImage, AsmFault>
     // What is answered is the image of the source.
     ensures found { IfOk result (IsImageOf text.now) }
     // A source that has an image is answered by it, unless memory runs out.
-    ensures only { (image : PlainImage) → IsImageOf text.now image → (result ≡ Ok image) ⊎ (result ≡ Err AsmFault.NoMemory) }
-    // A fault is the least line of its kind, and no kind before it occurs.
-    ensures fault { IfErr result (IsFaultOf text.now) }
+    ensures only { (image : PlainImage) → IsImageOf text.now image → OrOut AsmFault.NoMemory (Ok image) result }
+    // What is answered else is its fault, the least line of the first kind that occurs, or want of memory.
+    ensures fault { IfErr result (OrNoMemory (IsFaultOf text.now)) }
+    // A source that has a fault is answered by it, unless memory runs out.
+    ensures only_fault { (fault : AsmFault) → IsFaultOf text.now fault → OrOut AsmFault.NoMemory (Err fault) result }
 {
     assembled(alloc, text)
 }
 
 fn assembled(alloc: Global, text: &[u8]) -> Result<PlainImage, AsmFault>
-    ensures { MatchResult result (IsImageOf text.now) (IsFaultOf text.now) }
+    ensures { MatchResult result (IsImageOf text.now) (OrNoMemory (IsFaultOf text.now)) }
 {
     let parts = match read_source(alloc, text) {
         Ok(parts) => parts,
@@ -47,7 +50,7 @@ fn assembled(alloc: Global, text: &[u8]) -> Result<PlainImage, AsmFault>
 fn image_of(alloc: Global, placed: &[Placed]) -> Result<PlainImage, AsmFault>
     requires inside { All IsInside placed.now }
     requires sized { All IsSized placed.now }
-    ensures { MatchResult result (IsPlacedImage placed.now) (IsPlacedFault placed.now) }
+    ensures { MatchResult result (IsPlacedImage placed.now) (OrNoMemory (IsPlacedFault placed.now)) }
 {
     no_overlap(alloc, placed)?;
     let labels = all_labels(alloc, placed)?;

@@ -1,12 +1,13 @@
-ghost use Rattle.mips_asm.specs.Laws.{BytesOfStatements, ImageOrFault, OneFault, OneImage};
+ghost use Rattle.mips_asm.specs.Laws.{BytesOfStatements, ImageOrFault, NotBoth, OneFault, OneImage};
 
-/// A law and no code: a source has one outcome. Two images of it are the same, entry and bytes; where it
-/// has an image, it has no fault but want of memory; and two faults of it are the same, kind and line,
-/// but for want of memory.
+/// A law and no code: each text has one outcome as a source, an image or a fault. Two images of it are
+/// the same, entry and bytes; two faults of it are the same, kind and line; it never has both, and it
+/// always has one.
 pub fn sources_have_one_outcome()
     ensures image { OneImage }
-    ensures image_or_fault { ImageOrFault }
     ensures fault { OneFault }
+    ensures not_both { NotBoth }
+    ensures image_or_fault { ImageOrFault }
 {}
 
 /// A law and no code: the bytes of a source's image are those of its statements. What a statement writes

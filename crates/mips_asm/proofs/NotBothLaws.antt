@@ -1,5 +1,5 @@
--- Where there is an image there is no fault but want of memory.
-use Rattle.std.proofs.Common.{◌≡◌, ℕ, inl, inr, List, [], ◌∷◌, ◌++◌, Option, Some, None, refl, sym, subst, ◌∙◌}
+-- Where there is an image there is no fault.
+use Rattle.std.proofs.Common.{◌≡◌, ℕ, inl, inr, List, [], ◌∷◌, ◌++◌, Option, Some, None, sym, subst, ◌∙◌}
 use Rattle.std.proofs.lemmas.Option.{none-some}
 use Rattle.xom_base.specs.declared.image.PlainImage.{PlainImage}
 use Rattle.asm_source.specs.declared.content.Part.{Part}
@@ -34,23 +34,23 @@ image-in_range placed image n is first = elim first.bad [
   | inr bad ↦ entry-not_bad (labels_of placed) (last_entry placed) image.entry (line_of first.first) is.entry bad
 ]
 
--- where places have an image, they have no fault but want of memory
-image_or_placed_fault : (placed : List Placed) (image : PlainImage) (fault : AsmFault) → IsPlacedImage placed image → IsPlacedFault placed fault → fault ≡ NoMemory
-image_or_placed_fault placed image (Syntax n) is wrong = absurd wrong
-image_or_placed_fault placed image (Duplicate n) is wrong = absurd wrong
-image_or_placed_fault placed image (TooLong n) is wrong = absurd wrong
-image_or_placed_fault placed image (Overlap n) is wrong = absurd (both _ n is.no_overlap wrong)
-image_or_placed_fault placed image (UnknownName n) is wrong = absurd (both _ n is.no_unknown wrong.1)
-image_or_placed_fault placed image (Range n) is wrong = absurd (image-in_range placed image n is wrong.2)
-image_or_placed_fault placed image NoMemory is wrong = refl
+-- where places have an image, they have no fault
+not_placed_fault : (placed : List Placed) (image : PlainImage) (fault : AsmFault) → IsPlacedImage placed image → IsPlacedFault placed fault → ⊥
+not_placed_fault placed image (Syntax n) is wrong = wrong
+not_placed_fault placed image (Duplicate n) is wrong = wrong
+not_placed_fault placed image (TooLong n) is wrong = wrong
+not_placed_fault placed image (Overlap n) is wrong = both _ n is.no_overlap wrong
+not_placed_fault placed image (UnknownName n) is wrong = both _ n is.no_unknown wrong.1
+not_placed_fault placed image (Range n) is wrong = image-in_range placed image n is wrong.2
+not_placed_fault placed image NoMemory is wrong = wrong
 
 -- the same of labels and statements
-pub image_or_parts_fault : (parts : List Part) (image : PlainImage) (fault : AsmFault) → duplicate_line parts ≡ None → too_long_line (layout 0 parts) ≡ None
-    → IsPlacedImage (layout 0 parts) image → IsPartsFault parts fault → fault ≡ NoMemory
-image_or_parts_fault parts image (Syntax n) unique short is wrong = absurd wrong
-image_or_parts_fault parts image (Duplicate n) unique short is wrong = absurd (both _ n unique wrong)
-image_or_parts_fault parts image (TooLong n) unique short is wrong = absurd (both _ n short wrong.1)
-image_or_parts_fault parts image (Overlap n) unique short is wrong = image_or_placed_fault (layout 0 parts) image (Overlap n) is wrong.2
-image_or_parts_fault parts image (UnknownName n) unique short is wrong = image_or_placed_fault (layout 0 parts) image (UnknownName n) is wrong.2
-image_or_parts_fault parts image (Range n) unique short is wrong = image_or_placed_fault (layout 0 parts) image (Range n) is wrong.2
-image_or_parts_fault parts image NoMemory unique short is wrong = refl
+pub not_parts_fault : (parts : List Part) (image : PlainImage) (fault : AsmFault) → duplicate_line parts ≡ None → too_long_line (layout 0 parts) ≡ None
+    → IsPlacedImage (layout 0 parts) image → IsPartsFault parts fault → ⊥
+not_parts_fault parts image (Syntax n) unique short is wrong = wrong
+not_parts_fault parts image (Duplicate n) unique short is wrong = both _ n unique wrong
+not_parts_fault parts image (TooLong n) unique short is wrong = both _ n short wrong.1
+not_parts_fault parts image (Overlap n) unique short is wrong = not_placed_fault (layout 0 parts) image (Overlap n) is wrong.2
+not_parts_fault parts image (UnknownName n) unique short is wrong = not_placed_fault (layout 0 parts) image (UnknownName n) is wrong.2
+not_parts_fault parts image (Range n) unique short is wrong = not_placed_fault (layout 0 parts) image (Range n) is wrong.2
+not_parts_fault parts image NoMemory unique short is wrong = wrong.2
