@@ -20,7 +20,7 @@ pub struct Answer {
     pub text: ByteList,
     /// The file that it writes before it prints, if it writes one.
     pub file: Option<OutputFile>,
-    /// Its status: 0, 6, 8 or 9.
+    /// Its status: 0, or 6 to 9.
     pub status: u8,
 }
 

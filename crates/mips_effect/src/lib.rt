@@ -3,7 +3,8 @@
 //!
 //! Effects are those of MIPS I (Kane and Heinrich, MIPS RISC Architecture, appendix A) and of this
 //! project's own forms of COP2. Nothing here has a state: the caller reads the cells that
-//! `sources` names, and carries the answer of `effect` out.
+//! `sources` names, and carries the answer of `effect` out. `target` and `jump_target` are the addresses
+//! that branches and jumps name.
 #![tactic(auto)]
 
 mod accesses;
@@ -21,4 +22,5 @@ pub use acts::effect;
 pub use cells::sources;
 pub use loads::merge;
 pub use seen::{Mode, Seen};
+pub use sums::{after, jump_target, target};
 pub use wish::{Asked, LoadKind, Wish};

@@ -5,7 +5,6 @@ mod disassembly;
 mod law;
 mod pieces;
 mod printing;
-mod targets;
 
 pub use disassembly::listing;
 pub use law::texts_are_exact;

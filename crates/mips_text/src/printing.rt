@@ -5,7 +5,7 @@ ghost use Rattle.mips_forms.specs.Forms.{listed, InRange};
 ghost use Rattle.mips_text.specs.Texts.{text_of, operand_text, offset_text, operands_text, joined};
 
 use crate::pieces::{push_address, push_immediate, push_register};
-use crate::targets::{branch_target, jump_target};
+use mips_effect::{after, jump_target, target};
 use mips_forms::{Operand, Operands, form};
 use mips_instruction::Ins;
 use std::alloc::Global;
@@ -81,8 +81,8 @@ fn push_operand(text: &mut Vec<u8>, operand: Operand, pc: u32) -> Result<(), NoM
         Operand::Signed(imm) => push_immediate(text, imm),
         Operand::Unsigned(imm) => push_decimal(text, u32::from(imm)),
         Operand::Code(code) => push_decimal(text, code),
-        Operand::Branch(imm) => push_address(text, branch_target(pc, imm)),
-        Operand::Jump(index) => push_address(text, jump_target(pc, index)),
+        Operand::Branch(imm) => push_address(text, target(after(pc), imm)),
+        Operand::Jump(index) => push_address(text, jump_target(after(pc), index)),
         Operand::Offset { imm, base } => push_offset(text, imm, base),
     }
 }

@@ -36,6 +36,13 @@ behind-step text step run = ap (λ (t : List ℕ). (t, run.end)) (append_assoc t
 pub stopped : {total : List ℕ × PlainEnd} (text : List ℕ) {run : Run} {end : PlainEnd} → run ≡ stops end → behind text run ≡ total → (text, end) ≡ total
 stopped text {run} {end} is whole = sym (behind-stops text end) ∙ (ap (behind text) (sym is) ∙ whole)
 
+-- the whole, where what is next is no step
+pub ended_next : {total : List ℕ × PlainEnd} (text : List ℕ) (count : ℕ) (p : State) (values : List ℕ) {m : Next} {end : PlainEnd}
+    → 0 < count → m ≡ next p values → ((run : Run) → goes_on m.answer run ≡ stops end) → behind text (run_from count p values) ≡ total
+    → (text, end) ≡ total
+ended_next text count p values {m} {end} some is ends whole =
+    stopped text (one_more count p values some is ∙ ends (run_from (count - 1) m.state m.values)) whole
+
 -- the whole, where one step is made
 pub went_on : {total : List ℕ × PlainEnd} (text new : List ℕ) (step : Step) (rest : Run) {run : Run}
     → new ≡ text ++ step_line step → run ≡ goes_on (Did step) rest → behind text run ≡ total → behind new rest ≡ total

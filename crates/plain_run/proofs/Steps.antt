@@ -1,7 +1,8 @@
 -- What the plain machine answers where nothing, or a value, is given.
-use Rattle.std.proofs.Common.{◌≡◌, ℕ, Bool, true, false, ◌&&◌, if◌then◌else◌, Result, Ok, Err, refl, sym, ap, ◌∙◌}
+use Rattle.std.proofs.Common.{◌≡◌, ℕ, Bool, true, false, ◌&&◌, if◌then◌else◌, Result, Ok, Err, refl, subst, sym, ap, ◌∙◌}
 use Rattle.xom_base.specs.declared.event.OwnFault.{OwnFault}
 use Rattle.xom_base.specs.declared.step.Writes.{Writes}
+use Rattle.xom_base.specs.declared.step.Received.{Received}
 use Rattle.xom_base.specs.declared.step.Received.TheVariants as received
 use Rattle.xom_base.specs.declared.step.StepEnd.{StepEnd}
 use Rattle.xom_base.specs.declared.step.StepEnd.TheVariants as ended
@@ -42,49 +43,41 @@ unfit_stays s g unfit =
 
 -- ---- what a step received
 
-made_nothing : (pc npc : ℕ) (written : Writes) (w : Wish) (word got : ℕ) → receives w ≡ false → (made pc npc written w word got).received ≡ received.Nothing
-made_nothing pc npc written wish.Nothing word got h = refl
-made_nothing pc npc written (wish.Load reg address kind old) word got h = refl
-made_nothing pc npc written (wish.Store address count value) word got h = refl
-made_nothing pc npc written (wish.Release reg value) word got h = refl
-made_nothing pc npc written (wish.Receive reg from) word got h = cc
-made_nothing pc npc written (wish.NullLoad reg address) word got h = cc
-made_nothing pc npc written (wish.NullStore address value) word got h = refl
-made_nothing pc npc written (wish.Hand address) word got h = refl
-made_nothing pc npc written wish.SigRet word got h = refl
-made_nothing pc npc written wish.Exit word got h = refl
-made_nothing pc npc written (wish.Call code) word got h = refl
-made_nothing pc npc written (wish.Do operation) word got h = refl
-made_nothing pc npc written (wish.Ask reg what) word got h = refl
+-- a step that receives was given this value, and any other received nothing
+abbrev HasReceived : Bool → Received → ℕ → Type 0
+HasReceived true got value = given_of got ≡ given.Value value
+HasReceived false got value = got ≡ received.Nothing
 
-made_given : (pc npc : ℕ) (written : Writes) (w : Wish) (word got : ℕ) → receives w ≡ true → given_of (made pc npc written w word got).received ≡ given.Value got
-made_given pc npc written wish.Nothing word got h = cc
-made_given pc npc written (wish.Load reg address kind old) word got h = cc
-made_given pc npc written (wish.Store address count value) word got h = cc
-made_given pc npc written (wish.Release reg value) word got h = cc
-made_given pc npc written (wish.Receive reg from) word got h = refl
-made_given pc npc written (wish.NullLoad reg address) word got h = refl
-made_given pc npc written (wish.NullStore address value) word got h = cc
-made_given pc npc written (wish.Hand address) word got h = cc
-made_given pc npc written wish.SigRet word got h = cc
-made_given pc npc written wish.Exit word got h = cc
-made_given pc npc written (wish.Call code) word got h = cc
-made_given pc npc written (wish.Do operation) word got h = cc
-made_given pc npc written (wish.Ask reg what) word got h = cc
+made_received : (pc npc : ℕ) (written : Writes) (w : Wish) (word got : ℕ) → HasReceived (receives w) (made pc npc written w word got).received got
+made_received pc npc written wish.Nothing word got = refl
+made_received pc npc written (wish.Load reg address kind old) word got = refl
+made_received pc npc written (wish.Store address count value) word got = refl
+made_received pc npc written (wish.Release reg value) word got = refl
+made_received pc npc written (wish.Receive reg from) word got = refl
+made_received pc npc written (wish.NullLoad reg address) word got = refl
+made_received pc npc written (wish.NullStore address value) word got = refl
+made_received pc npc written (wish.Hand address) word got = refl
+made_received pc npc written wish.SigRet word got = refl
+made_received pc npc written wish.Exit word got = refl
+made_received pc npc written (wish.Call code) word got = refl
+made_received pc npc written (wish.Do operation) word got = refl
+made_received pc npc written (wish.Ask reg what) word got = refl
 
 -- the step that an effect does, where a value was received
 abbrev done : State → Effect → ℕ → Step
 done s effect got = step_made s.pc s.npc effect (word_for s.bytes effect.wish) got
 
+done_received : (s : State) (effect : Effect) (got : ℕ) → HasReceived (receives effect.wish) (done s effect got).received got
+unfolding step_made
+done_received s effect got = made_received s.pc s.npc effect.writes effect.wish (word_for s.bytes effect.wish) got
+
 -- the step of an effect that doesn't receive
 step_nothing : (s : State) (effect : Effect) (got : ℕ) → receives effect.wish ≡ false → (done s effect got).received ≡ received.Nothing
-unfolding step_made
-step_nothing s effect got h = made_nothing s.pc s.npc effect.writes effect.wish (word_for s.bytes effect.wish) got h
+step_nothing s effect got h = subst (λ b. HasReceived b (done s effect got).received got) h (done_received s effect got)
 
 -- the step of an effect that receives
 step_given : (s : State) (effect : Effect) (got : ℕ) → receives effect.wish ≡ true → given_of (done s effect got).received ≡ given.Value got
-unfolding step_made
-step_given s effect got h = made_given s.pc s.npc effect.writes effect.wish (word_for s.bytes effect.wish) got h
+step_given s effect got h = subst (λ b. HasReceived b (done s effect got).received got) h (done_received s effect got)
 
 -- the step that an effect does is the one that is answered
 same_did : (s : State) (effect : Effect) (got : ℕ) (step : Step) → (did s effect got).0 ≡ Did step → done s effect got ≡ step

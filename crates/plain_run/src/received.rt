@@ -1,13 +1,10 @@
-ghost use Rattle.std.specs.Prelude.{◌≡◌, ℕ, Ok, map, option_map};
-ghost use Rattle.std.specs.Int.{w32, from_be_bytes};
-ghost use Rattle.xom_base.specs.Hex.{hex_of};
+ghost use Rattle.std.specs.Prelude.{◌≡◌, map};
 ghost use Rattle.xom_base.specs.Lines.{AnswersRead, AnswersText};
 ghost use Rattle.plain_run.specs.Received.{IsBadLine, IsReceived, received_at, value_of};
 
-use hex::FromHex;
 use std::alloc::Global;
-use std::marker::Model;
-use xom_base::{LineFault, LineFormat, List, TextFault, read_lines, words};
+use step_text::hex8_in;
+use xom_base::{List, NoMemory, RowFormat, TextFault, read_rows};
 
 /// The values that a program receives, in their order.
 pub type ReceivedList = List<u32>;
@@ -28,37 +25,22 @@ pub fn read_received(alloc: Global, text: &[u8]) -> Result<ReceivedList, TextFau
 fn read_values(alloc: Global, text: &[u8]) -> Result<ReceivedList, TextFault>
     ensures { AnswersRead (received_at text.now) result }
 {
-    let mut lines = ValueLines;
-    let values = read_lines(alloc, text, &mut lines)?;
-    Ok(ReceivedList::from_vec(values))
+    read_rows(alloc, text, ValueRows)
 }
 
 /// A line of a received file is told by its words alone.
 #[derive(Drop)]
-struct ValueLines;
+struct ValueRows;
 
-impl Model for ValueLines {
-    ghost Value = { Unit {0} };
-
-    ghost view = { λ _. tt };
-}
-
-impl LineFormat for ValueLines {
-    ghost use Rattle.plain_run.specs.Received.{value_step};
+impl RowFormat for ValueRows {
+    ghost use Rattle.plain_run.specs.Received.{value_of};
 
     type Item = u32;
 
-    ghost step = { value_step };
+    ghost said = { value_of };
 
-    fn read(&mut self, alloc: Global, _: u64, line: &[u8]) -> Result<Option<u32>, LineFault> {
-        let words = words(alloc, line)?;
-        if words.is_empty() {
-            return Ok(None);
-        }
-        match value_in(words.as_slice()) {
-            Some(value) => Ok(Some(value)),
-            None => Err(LineFault::Bad),
-        }
+    fn read_row(&self, _: Global, words: &[&[u8]]) -> Result<Option<u32>, NoMemory> {
+        Ok(value_in(words))
     }
 }
 
@@ -68,21 +50,7 @@ fn value_in(words: &[&[u8]]) -> Option<u32>
     ensures { result ≡ value_of (map (λ word. word.now) words.now) }
 {
     match words {
-        [word] => hex4(word),
+        [word] => hex8_in(word),
         _ => None,
     }
-}
-
-/// The number of eight hexadecimal digits.
-fn hex4(word: &[u8]) -> Option<u32>
-    ensures { result ≡ option_map (from_be_bytes w32) (hex_of 4 word.now) }
-{
-    let bytes = bytes4(word)?;
-    Some(u32::from_be_bytes(bytes))
-}
-
-fn bytes4(word: &[u8]) -> Option<[u8; 4]>
-    ensures { result ≡ hex_of 4 word.now }
-{
-    <[u8; 4] as FromHex>::from_hex(word).ok()
 }

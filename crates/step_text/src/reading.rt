@@ -1,11 +1,12 @@
-ghost use Rattle.std.specs.Prelude.{◌≡◌, ◌≤◌, ◌<◌, ◌^◌, List, IfSome, MatchOption, true, false, length, map, option_map};
+ghost use Rattle.std.specs.Prelude.{◌≡◌, ◌≤◌, ◌<◌, List, IfSome, map, option_map};
 ghost use Rattle.std.specs.Int.{w32, from_be_bytes};
 ghost use Rattle.xom_base.specs.Hex.{hex_of};
-ghost use Rattle.xom_base.specs.Numbers.{number_below_of};
 ghost use Rattle.step_text.specs.StepFields.{behind as behind_of, bytes_at_of, cell_of, cell_or_pair_of, count_below_of, end_of, fault_of, hex8_of, low_bytes, named_hex8_of, named_number_of, named_pair_of, pair_of, received_of, released_by, released_of, step_of, stored_bytes_of, stored_of, writes_by, writes_of};
 
-use hex::FromHex;
-use xom_base::{OwnFault, Received, Released, Step, StepEnd, Stored, Writes, cut, number_below};
+use xom_base::{
+    OwnFault, Received, Released, Step, StepEnd, Stored, Writes, cut, hex_array, hex_fills,
+    number_below, number32,
+};
 
 /// What a word of the form that WRITES and RELEASED have in common says.
 #[derive(Clone, Copy)]
@@ -121,7 +122,7 @@ fn low_in(count: u8, digits: &[u8]) -> Option<u32>
 {
     let mut room = [0; 4];
     let front = 4 - usize::from(count);
-    if fills(digits, &mut room[front..]) {
+    if hex_fills(digits, &mut room[front..]) {
         Some(u32::from_be_bytes(room))
     } else {
         None
@@ -242,13 +243,6 @@ fn named_number_in(name: &[u8], word: &[u8]) -> Option<u32>
     number32(rest)
 }
 
-fn number32(word: &[u8]) -> Option<u32>
-    ensures { result ≡ number_below_of (2 ^ 32) word.now }
-{
-    let n = number_below(word, 1 << 32)?;
-    Some(n as u32)
-}
-
 /// A number from 1 on, below a bound.
 #[tactic(auto, unfolding(crate::specs::StepFields::count_below_of))]
 fn count_below(word: &[u8], bound: u8) -> Option<u8>
@@ -266,24 +260,11 @@ fn behind<'a>(name: &[u8], word: &'a [u8]) -> Option<&'a [u8]>
     word.strip_prefix(name)
 }
 
-/// Fills a room with the bytes of a word that has as many: whether it has.
-fn fills(word: &[u8], room: &mut [u8]) -> bool
-    ensures { MatchOption (hex_of (length room.old) word.now) (result ≡ false) (λ bytes. (result ≡ true) × (room.new ≡ bytes)) }
-{
-    hex::decode_to_slice(word, room).is_ok()
-}
-
 /// The number of eight hexadecimal digits.
 #[tactic(auto, unfolding(crate::specs::StepFields::hex8_of))]
 pub fn hex8_in(word: &[u8]) -> Option<u32>
     ensures { result ≡ hex8_of word.now }
 {
-    let bytes = bytes4(word)?;
+    let bytes = hex_array(word)?;
     Some(u32::from_be_bytes(bytes))
-}
-
-fn bytes4(word: &[u8]) -> Option<[u8; 4]>
-    ensures { result ≡ hex_of 4 word.now }
-{
-    <[u8; 4] as FromHex>::from_hex(word).ok()
 }

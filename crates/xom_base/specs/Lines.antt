@@ -132,12 +132,16 @@ with_words row s n (word ∷ words) = option_map (λ read. (Some read.0, read.1)
 abbrev pub step_of : {S X : Type 0} → (S → ℕ → List (List ℕ) → Option (X × S)) → LineStep S X
 step_of row s n line = with_words row s n (words_of line)
 
+-- What the words of a line say: nothing where they are off the grammar.
+abbrev pub RowReading : Type 0 → Type 0
+RowReading X = List (List ℕ) → Option X
+
 -- the same, where the words say the value, wherever the line stands
-abbrev pub rows_step : {X : Type 0} → (List (List ℕ) → Option X) → LineStep (Unit {0}) X
+abbrev pub rows_step : {X : Type 0} → RowReading X → LineStep (Unit {0}) X
 rows_step row = step_of (λ s n words. option_map (λ value. (value, s)) (row words))
 
 -- what the lines of such a text give: their values alone, or the number of the first bad one
-abbrev pub rows_of : {X : Type 0} → (List (List ℕ) → Option X) → List ℕ → Result (List X) ℕ
+abbrev pub rows_of : {X : Type 0} → RowReading X → List ℕ → Result (List X) ℕ
 rows_of row text = made_of (λ values last. values) (read_from (rows_step row) tt 1 (lines_of text))
 
 -- ---- answers

@@ -86,32 +86,3 @@ pub enum Event {
     /// A write by the bus, of at most 8,192 bytes.
     Poke { address: u32, length: u32 },
 }
-
-/// What a kernel does next.
-#[derive(Clone, Copy)]
-pub enum Turn {
-    /// A privileged operation.
-    Do(Op),
-}
-
-/// What an event came to.
-#[derive(Clone, Copy, Debug, PartialEq, Eq)]
-pub enum Outcome {
-    /// It was done or refused, and the machine goes on.
-    Went,
-    /// The running guest left.
-    Left(Cause),
-    /// The kernel halted the machine.
-    Halted,
-}
-
-/// How a run ended.
-#[derive(Clone, Copy, Debug, PartialEq, Eq)]
-pub enum RunEnd {
-    /// The kernel halted.
-    Halted,
-    /// The events reached the budget.
-    Budget,
-    /// No memory was found for the journal.
-    NoMemory,
-}

@@ -6,13 +6,23 @@ use crate::{ByteList, NoMemory};
 use hex::{FromHex, FromHexError};
 use std::alloc::Global;
 
+/// The bytes of a word of two hexadecimal digits for each of `N`, in either case. None exactly where the
+/// word is none.
+pub fn hex_array<const N: usize>(word: &[u8]) -> Option<[u8; N]>
+    ensures exact { (bytes : List ℕ) → (result ≡ Some bytes) ↔ IsHex N word.now bytes }
+    ensures none { IsNone result ↔ ((bytes : List ℕ) → ¬ IsHex N word.now bytes) }
+    ensures value { result ≡ hex_of N word.now }
+{
+    <[u8; N] as FromHex>::from_hex(word).ok()
+}
+
 /// The 32 bytes of a word of 64 hexadecimal digits in either case. None exactly where the word is none.
 pub fn hex32(word: &[u8]) -> Option<[u8; 32]>
     ensures exact { (bytes : List ℕ) → (result ≡ Some bytes) ↔ IsHex 32 word.now bytes }
     ensures none { IsNone result ↔ ((bytes : List ℕ) → ¬ IsHex 32 word.now bytes) }
     ensures value { result ≡ hex_of 32 word.now }
 {
-    <[u8; 32] as FromHex>::from_hex(word).ok()
+    hex_array(word)
 }
 
 /// The 16 bytes of a word of 32 hexadecimal digits in either case. None exactly where the word is none.
@@ -21,7 +31,7 @@ pub fn hex16(word: &[u8]) -> Option<[u8; 16]>
     ensures none { IsNone result ↔ ((bytes : List ℕ) → ¬ IsHex 16 word.now bytes) }
     ensures value { result ≡ hex_of 16 word.now }
 {
-    <[u8; 16] as FromHex>::from_hex(word).ok()
+    hex_array(word)
 }
 
 /// Reads a word of two hexadecimal digits a byte, in either case, into the front of a room: gives how
@@ -47,15 +57,16 @@ fn into_room(word: &[u8], room: &mut [u8]) -> Option<usize>
     if count > room.len() {
         return None;
     }
-    if fills(word, &mut room[..count]) {
+    if hex_fills(word, &mut room[..count]) {
         Some(count)
     } else {
         None
     }
 }
 
-/// Fills a room with the bytes of a word that has as many: whether it has.
-fn fills(word: &[u8], room: &mut [u8]) -> bool
+/// Fills a room with the bytes of a word that has as many: whether it has. Where it hasn't, the room's
+/// bytes may have changed. It takes no memory.
+pub fn hex_fills(word: &[u8], room: &mut [u8]) -> bool
     ensures { MatchOption (hex_of (length room.old) word.now) (result ≡ false) (λ bytes. (result ≡ true) × (room.new ≡ bytes)) }
 {
     hex::decode_to_slice(word, room).is_ok()

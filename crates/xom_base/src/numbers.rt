@@ -1,4 +1,4 @@
-ghost use Rattle.std.specs.Prelude.{◌≡◌, ◌↔◌, ◌<◌, ◌≤◌, ℕ, IsNone, IfSome, Some};
+ghost use Rattle.std.specs.Prelude.{◌≡◌, ◌↔◌, ◌<◌, ◌≤◌, ◌^◌, ℕ, IsNone, IfSome, Some};
 ghost use Rattle.xom_base.specs.Numbers.{IsDecimal, IsNumber, Writes, WritesDecimal, decimal_below_of, numeral_of, number_of, number_below_of};
 
 /// The number of a word: decimal digits, leading zeros allowed, below 2^64, or `0x` and 1 to 16
@@ -19,6 +19,14 @@ pub fn number_below(word: &[u8], bound: u64) -> Option<u64>
     ensures value { result ≡ number_below_of bound word.now }
 {
     below(word, bound)
+}
+
+/// The number of a word, where it is below 2^32.
+pub fn number32(word: &[u8]) -> Option<u32>
+    ensures { result ≡ number_below_of (2 ^ 32) word.now }
+{
+    let n = number_below(word, 1 << 32)?;
+    Some(n as u32)
 }
 
 /// The number of a decimal word: digits alone, leading zeros allowed, below 2^64. None exactly where

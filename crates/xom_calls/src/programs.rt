@@ -3,7 +3,7 @@
 use crate::inputs::{PRIVATE, repeated};
 use asm_syntax::read_source;
 use asm_tokens::{Token, TokenKind, tokens, unquoted};
-use mips_asm::assemble;
+use mips_asm::{AsmFault, assemble};
 use mips_text::listing;
 use std::test::Fail;
 use xom_base::List;
@@ -51,5 +51,22 @@ fn the_last_entry_is_assembled(rt: HostRuntime) -> Result<(), Fail> {
     let image = assemble(rt.alloc(), b".org 0xffffc\nlast: xexit\n.entry last\n")?;
     assert!(rt; image.entry == 0xffffc && image.bytes.len() == PRIVATE);
     assert!(rt; matches!(image.bytes.get(0xfffff), Some(3)));
+    Ok(())
+}
+
+#[test]
+fn faults_of_sources_are_told(rt: HostRuntime) -> Result<(), Fail> {
+    for (fault, told) in [
+        (AsmFault::Syntax(1), "line 1: Syntax"),
+        (AsmFault::Duplicate(2), "line 2: Duplicate"),
+        (AsmFault::TooLong(3), "line 3: TooLong"),
+        (AsmFault::Overlap(4), "line 4: Overlap"),
+        (AsmFault::UnknownName(5), "line 5: UnknownName"),
+        (AsmFault::Range(6), "line 6: Range"),
+        (AsmFault::NoMemory, "out of memory"),
+    ] {
+        let text = format!(in rt.alloc(); "{fault}")?;
+        assert!(rt; text.as_str() == told);
+    }
     Ok(())
 }

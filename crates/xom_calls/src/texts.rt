@@ -5,13 +5,13 @@ use std::alloc::Global;
 use std::test::Fail;
 use text_pieces::{hex8, push_bytes, push_decimal, push_hex8};
 use xom_base::{
-    Block, ByteList, Chunk, Interrupts, LineFault, LineFormat, NumberList, Op, Payload, Short,
-    TextFault, read_lines, split_lines, words,
+    Block, ByteList, Interrupts, LineFault, LineFormat, NumberList, Op, Payload, Short, TextFault,
+    read_lines, split_lines, words,
 };
 use xom_script::{KernelLine, ScriptLine, read_run, read_script};
 
 #[test]
-fn lists_chunks_and_payloads_hold_what_is_put(rt: HostRuntime) -> Result<(), Fail> {
+fn lists_and_payloads_hold_what_is_put(rt: HostRuntime) -> Result<(), Fail> {
     let mut bytes = ByteList::new(rt.alloc());
     bytes.push(7)?;
     bytes.push(9)?;
@@ -20,9 +20,6 @@ fn lists_chunks_and_payloads_hold_what_is_put(rt: HostRuntime) -> Result<(), Fai
     let mut numbers = NumberList::new(rt.alloc());
     numbers.push(5)?;
     assert!(rt; numbers.as_slice() == [5].as_slice());
-    let mut chunk = Chunk::new(rt.alloc())?;
-    chunk.set(8191, 3);
-    assert!(rt; chunk.get(8191) == 3 && chunk.get(0) == 0);
     assert!(rt; Short::new(&[1, 2, 3]).bytes() == [1, 2, 3].as_slice());
     assert!(rt; Block::new(&[0; 260]).bytes().len() == 260);
     assert!(rt; Payload::<2>::new(&[]).is_empty());

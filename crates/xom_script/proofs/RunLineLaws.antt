@@ -7,7 +7,8 @@ use Rattle.std.proofs.lemmas.Bool.Decides.{nat_tests}
 use Rattle.std.proofs.lemmas.Bool.{leb-true, le-leb, ltb-true, lt-ltb, le-ltb}
 use Rattle.std.proofs.lemmas.Option.{none-some, option_and_then_some as steps, same_Some}
 use Rattle.xom_base.specs.Hex.{hex_of}
-use Rattle.xom_base.specs.Numbers.{IsNumber, number_below_of, number_of}
+use Rattle.xom_base.specs.Numbers.{IsNumber, Writes, number_below_of, number_of}
+use Rattle.xom_base.specs.Options.{◌>>=◌}
 use Rattle.xom_base.proofs.CutLaws.{option_map_some}
 use Rattle.xom_base.proofs.HexLaws.{hex_of-exact}
 use Rattle.xom_base.proofs.NumberLaws.{number_below_of-exact, number_of-exact}
@@ -83,6 +84,13 @@ same_length (word ∷ words) (n ∷ times) h = ap suc (same_length words times h
 
 -- ---- rows, as they are read
 
+-- a row of one number below a bound
+number_found : (name : List ℕ) (bound : ℕ) (make : ℕ → RunLine) (w : List ℕ) (value : RunLine) → (number_below_of bound w >>= (λ n. Some (make n))) ≡ Some value
+    → ((n : ℕ) → Writes bound w n → IsRunLine (name ∷ w ∷ []) (make n)) → IsRunLine (name ∷ w ∷ []) value
+number_found name bound make w value h is =
+    steps _ (number_below_of bound w) value h (λ n read same.
+    given (name ∷ w ∷ []) (make n) value (is n ((number_below_of-exact bound w n).0 read)) same)
+
 machine_found : (words : List (List ℕ)) (value : RunLine) → machine_of words ≡ Some value → IsRunLine (codes "machine" ∷ words) value
 unfolding machine_of
 machine_found [] value h = absurd (none-some value h)
@@ -94,9 +102,7 @@ machine_found (k ∷ l ∷ words) value h = absurd (none-some value h)
 boot_found : (words : List (List ℕ)) (value : RunLine) → boot_of words ≡ Some value → IsRunLine (codes "boot" ∷ words) value
 unfolding boot_of
 boot_found [] value h = absurd (none-some value h)
-boot_found (w ∷ []) value h =
-    steps _ (number_below_of (2 ^ 63) w) value h (λ n read same.
-    given (codes "boot" ∷ w ∷ []) (line.Boot n) value (w, refl, (number_below_of-exact (2 ^ 63) w n).0 read) same)
+boot_found (w ∷ []) value h = number_found (codes "boot") (2 ^ 63) line.Boot w value h (λ n is. (w, refl, is))
 boot_found (w ∷ l ∷ words) value h = absurd (none-some value h)
 
 frames_found : (words : List (List ℕ)) (value : RunLine) → frames_of words ≡ Some value → IsRunLine (codes "frames" ∷ words) value
@@ -111,9 +117,7 @@ frames_found (w ∷ l ∷ words) value h = absurd (none-some value h)
 budget_found : (words : List (List ℕ)) (value : RunLine) → budget_of words ≡ Some value → IsRunLine (codes "budget" ∷ words) value
 unfolding budget_of
 budget_found [] value h = absurd (none-some value h)
-budget_found (w ∷ []) value h =
-    steps _ (number_below_of 1048577 w) value h (λ n read same.
-    given (codes "budget" ∷ w ∷ []) (line.Budget n) value (w, refl, (number_below_of-exact 1048577 w n).0 read) same)
+budget_found (w ∷ []) value h = number_found (codes "budget") 1048577 line.Budget w value h (λ n is. (w, refl, is))
 budget_found (w ∷ l ∷ words) value h = absurd (none-some value h)
 
 owner_found : (words : List (List ℕ)) (value : RunLine) → owner_of words ≡ Some value → IsRunLine (codes "owner" ∷ words) value

@@ -4,8 +4,9 @@ use Rattle.std.specs.Prelude.{◌↔◌, codes}
 use Rattle.std.specs.Str.{bytes_eq}
 use Rattle.std.proofs.lemmas.Bool.{and_parts, leb-true, le-leb, ltb-true, lt-ltb}
 use Rattle.std.proofs.lemmas.Option.{none-some, option_and_then_some as steps, same_Some}
-use Rattle.xom_base.specs.Lines.{AnswersRead, AnswersText, Rows, Tells, lines_of, made_of, read_from}
+use Rattle.xom_base.specs.Lines.{AnswersRead, AnswersText, LineStep, Rows, Tells, lines_of, made_of, read_from, rows_step}
 use Rattle.xom_base.specs.Numbers.{Writes, number_below_of}
+use Rattle.xom_base.specs.Results.{◌>>=◌}
 use Rattle.xom_base.proofs.LineLaws.{Tells-rows, bad_from, only_bad, only_reads, reads_from, same_Err, same_Ok}
 use Rattle.xom_base.proofs.NumberLaws.{number_below_of-exact}
 use Rattle.xom_base.proofs.TextLaws.{AnswersText-exact}
@@ -13,7 +14,7 @@ use Rattle.xom_base.specs.declared.lines.TextFault.{TextFault}
 use Rattle.xom_base.specs.declared.event.Op.TheVariants as op
 use Rattle.xom_script.specs.Fields.{Writes32, write_bytes_of}
 use Rattle.xom_script.specs.ScriptLines.{IsScriptLine, none_of, one_of, rows_of_none, rows_of_one, rows_of_three, rows_of_two, script_line_of, three_of, two_of, write_of}
-use Rattle.xom_script.specs.Scripts.{IsBadScript, IsScript, script_at, script_step, script_with}
+use Rattle.xom_script.specs.Scripts.{IsBadScript, IsScript, script_at, script_with}
 use Rattle.xom_script.specs.declared.script.Script.{Script}
 use Rattle.xom_script.specs.declared.script_line.ScriptLine.{ScriptLine}
 use Rattle.xom_script.specs.declared.script_line.ScriptLine.TheVariants as line
@@ -178,33 +179,40 @@ no_words = refl
 -- ---- the whole
 
 -- the lines of a script, one by one
+abbrev script_step : LineStep (Unit {0}) ScriptLine
+script_step = rows_step script_line_of
+
 tells : Tells script_step (Rows IsScriptLine)
 tells = Tells-rows script_line_of IsScriptLine script_line_of-exact no_words
+
+-- the script that is made of what lines gave
+abbrev made : Result (List ScriptLine × Unit {0}) ℕ → Result Script ℕ
+made read = made_of (λ lines last. lines) read >>= (λ lines. Ok (script_with lines))
 
 -- the function has a script exactly where the text is this script
 pub script_at-exact : (text : List ℕ) (script : Script) → (script_at text ≡ Ok script) ↔ IsScript text script
 unfolding script_at
 script_at-exact text script = (
-  λ h. made (read_from script_step tt 1 (lines_of text)) refl h,
+  λ h. found (read_from script_step tt 1 (lines_of text)) refl h,
   λ h. rw (only_reads script_step (Rows IsScriptLine) tells tt 1 (lines_of text) script.lines tt h) refl,
 )
   where
-    made : (read : Result (List ScriptLine × Unit {0}) ℕ) → read_from script_step tt 1 (lines_of text) ≡ read → made_of script_with read ≡ Ok script → IsScript text script
-    made (Ok read) is h =
-        rw (sym (same_Ok (script_with read.0 read.1) script h)) (reads_from script_step (Rows IsScriptLine) tells tt 1 (lines_of text) read.0 read.1 is)
-    made (Err bad) is h = absurd cc
+    found : (read : Result (List ScriptLine × Unit {0}) ℕ) → read_from script_step tt 1 (lines_of text) ≡ read → made read ≡ Ok script → IsScript text script
+    found (Ok read) is h =
+        rw (sym (same_Ok (script_with read.0) script h)) (reads_from script_step (Rows IsScriptLine) tells tt 1 (lines_of text) read.0 read.1 is)
+    found (Err bad) is h = absurd cc
 
 -- and a line exactly where it is the first bad one
 pub script_at-bad : (text : List ℕ) (bad : ℕ) → (script_at text ≡ Err bad) ↔ IsBadScript text bad
 unfolding script_at
 script_at-bad text bad = (
-  λ h. made (read_from script_step tt 1 (lines_of text)) refl h,
+  λ h. found (read_from script_step tt 1 (lines_of text)) refl h,
   λ h. rw (only_bad script_step (Rows IsScriptLine) tells tt 1 (lines_of text) bad h) refl,
 )
   where
-    made : (read : Result (List ScriptLine × Unit {0}) ℕ) → read_from script_step tt 1 (lines_of text) ≡ read → made_of script_with read ≡ Err bad → IsBadScript text bad
-    made (Ok read) is h = absurd cc
-    made (Err other) is h =
+    found : (read : Result (List ScriptLine × Unit {0}) ℕ) → read_from script_step tt 1 (lines_of text) ≡ read → made read ≡ Err bad → IsBadScript text bad
+    found (Ok read) is h = absurd cc
+    found (Err other) is h =
         bad_from script_step (Rows IsScriptLine) tells tt 1 (lines_of text) bad (is ∙ ap Err (same_Err other bad h))
 
 pub script_answers : (text : List ℕ) (r : Result Script TextFault) → AnswersRead (script_at text) r → AnswersText (IsScript text) (IsBadScript text) r

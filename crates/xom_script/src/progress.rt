@@ -232,22 +232,14 @@ fn whole(
 ) -> Progress
     ensures { result ≡ progress.Whole (run_file draft kernel kernel_line interrupts) }
 {
-    let Draft {
-        machine,
-        boot,
-        frames,
-        budget,
-        owners,
-        guests,
-    } = draft;
     let pokes = PokeList::new(alloc);
     Progress::Whole(RunFile {
-        machine,
-        boot,
-        frames,
-        budget,
-        owners,
-        guests,
+        machine: draft.machine,
+        boot: draft.boot,
+        frames: draft.frames,
+        budget: draft.budget,
+        owners: draft.owners,
+        guests: draft.guests,
         kernel,
         kernel_line,
         schedule: Schedule { interrupts, pokes },

@@ -2,10 +2,11 @@ ghost use Rattle.std.specs.Prelude.{◌≡◌, IfOk, map, option_map};
 ghost use Rattle.xom_script.specs.RunLines.{at_of, boot_of, budget_of, every_of, frames_of, guest_of, guest_with_input_of, interrupt_of, kernel_of, machine_of, never_of, owner_of, pages_of, poke_of, run_line_of, times_of};
 
 use crate::run_file::{KernelLine, OwnerFile};
-use crate::words::{name, number32, write_bytes};
+use crate::words::{name, write_bytes};
 use std::alloc::Global;
 use xom_base::{
     ImageId, Interrupts, Key256, NoMemory, NumberList, Poke, hex16, hex32, number, number_below,
+    number32,
 };
 use xom_io::Name;
 

@@ -4,8 +4,7 @@ ghost use Rattle.xom_script.specs.Scripts.{IsBadScript, IsScript, script_at};
 use crate::script_line::script_line;
 use crate::{ScriptLine, ScriptLineList};
 use std::alloc::Global;
-use std::marker::Model;
-use xom_base::{LineFault, LineFormat, TextFault, read_lines, words};
+use xom_base::{NoMemory, RowFormat, TextFault, read_rows};
 
 /// What a kernel that follows a script does, turn by turn.
 #[derive(Drop)]
@@ -31,43 +30,22 @@ pub fn read_script(alloc: Global, text: &[u8]) -> Result<Script, TextFault>
 fn script_in(alloc: Global, text: &[u8]) -> Result<Script, TextFault>
     ensures { AnswersRead (script_at text.now) result }
 {
-    let mut format = ScriptFormat;
-    let lines = read_lines(alloc, text, &mut format)?;
-    Ok(Script {
-        lines: ScriptLineList::from_vec(lines),
-    })
+    let lines = read_rows(alloc, text, ScriptRows)?;
+    Ok(Script { lines })
 }
 
 /// A line of a script is told by its words alone.
 #[derive(Drop)]
-struct ScriptFormat;
+struct ScriptRows;
 
-impl Model for ScriptFormat {
-    ghost Value = { Unit {0} };
-
-    ghost view = { λ _. tt };
-}
-
-impl LineFormat for ScriptFormat {
-    ghost use Rattle.xom_script.specs.Scripts.{script_step};
+impl RowFormat for ScriptRows {
+    ghost use Rattle.xom_script.specs.ScriptLines.{script_line_of};
 
     type Item = ScriptLine;
 
-    ghost step = { script_step };
+    ghost said = { script_line_of };
 
-    fn read(
-        &mut self,
-        alloc: Global,
-        _: u64,
-        line: &[u8],
-    ) -> Result<Option<ScriptLine>, LineFault> {
-        let words = words(alloc, line)?;
-        if words.is_empty() {
-            return Ok(None);
-        }
-        match script_line(alloc, words.as_slice())? {
-            Some(line) => Ok(Some(line)),
-            None => Err(LineFault::Bad),
-        }
+    fn read_row(&self, alloc: Global, words: &[&[u8]]) -> Result<Option<ScriptLine>, NoMemory> {
+        script_line(alloc, words)
     }
 }

@@ -1,9 +1,9 @@
 ghost use Rattle.std.specs.Prelude.{◌≡◌, IfOk, map};
 ghost use Rattle.xom_script.specs.ScriptLines.{none_of, one_of, script_line_of, three_of, two_of, write_of};
 
-use crate::words::{number32, write_bytes};
+use crate::words::write_bytes;
 use std::alloc::Global;
-use xom_base::{ByteList, List, NoMemory, Op};
+use xom_base::{ByteList, List, NoMemory, Op, number32};
 
 /// What a kernel that follows a script does at one turn.
 #[derive(Drop)]

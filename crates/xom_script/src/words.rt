@@ -1,18 +1,9 @@
-ghost use Rattle.std.specs.Prelude.{◌≡◌, ◌^◌, IfOk};
-ghost use Rattle.xom_base.specs.Numbers.{number_below_of};
+ghost use Rattle.std.specs.Prelude.{◌≡◌, IfOk};
 ghost use Rattle.xom_script.specs.Fields.{name_of, write_bytes_of};
 
 use std::alloc::Global;
-use xom_base::{ByteList, NoMemory, hex_list, number_below};
+use xom_base::{ByteList, NoMemory, hex_list};
 use xom_io::Name;
-
-/// A number below 2^32.
-pub fn number32(word: &[u8]) -> Option<u32>
-    ensures { result ≡ number_below_of (2 ^ 32) word.now }
-{
-    let n = number_below(word, 1 << 32)?;
-    Some(n as u32)
-}
 
 /// The bytes of one write: 1 to 8,192.
 #[tactic(auto, unfolding(crate::specs::Fields::write_bytes_of))]

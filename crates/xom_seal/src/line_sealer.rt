@@ -1,10 +1,10 @@
 ghost use Rattle.std.specs.Prelude.{◌≡◌, SomeIff};
-ghost use Rattle.keyed_mac.specs.Hmac.{hmac_sha256};
 ghost use Rattle.xom_seal.specs.Messages.{line_message as line_message_of};
 ghost use Rattle.xom_seal.specs.Sealing.{line_masked, line_opening, line_tag, sealed_line};
 
 use crate::counter::line_counter;
 use crate::mask::{masked, pad_of_two};
+use crate::message::tag_of;
 use crate::{LineKeys, LineName, LineOpening, LineSealing, SealedLine, line_message};
 use aes_block::Schedule;
 use keyed_mac::{MacKey, matches};
@@ -49,7 +49,7 @@ impl LineSealer {
         LineSealing {
             sealed: SealedLine {
                 ct,
-                tag: self.tag_of(&message),
+                tag: tag_of(&self.tag, &message),
             },
             message,
         }
@@ -62,7 +62,7 @@ impl LineSealer {
         ensures { SomeIff result (sealed.now.tag ≡ line_tag name.now self.now sealed.now.ct) (line_opening name.now self.now sealed.now.ct) }
     {
         let message = line_message(name, &sealed.ct);
-        if matches(&sealed.tag, &self.tag_of(&message)) {
+        if matches(&sealed.tag, &tag_of(&self.tag, &message)) {
             Some(LineOpening {
                 plain: self.masked(name, &sealed.ct),
                 message,
@@ -80,12 +80,5 @@ impl LineSealer {
         let first = line_counter(name, 0);
         let second = line_counter(name, 1);
         masked(bytes, &pad_of_two(&self.aes, &first, &second))
-    }
-
-    /// The tag of a message.
-    fn tag_of(&self, message: &Short) -> [u8; 32]
-        ensures { result ≡ hmac_sha256 self.now.tag.0 message.now }
-    {
-        self.tag.tag(message.bytes())
     }
 }

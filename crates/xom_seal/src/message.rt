@@ -1,9 +1,11 @@
 ghost use Rattle.std.specs.Prelude.{◌≡◌};
+ghost use Rattle.keyed_mac.specs.Hmac.{hmac_sha256};
 ghost use Rattle.xom_seal.specs.Messages.{envelope_message as envelope_message_of, line_message as line_message_of, register_message as register_message_of};
 
 use crate::kinds::{ENVELOPE, IMAGE_LINE, REGISTER, RUN_LINE};
 use crate::text::Text;
 use crate::{LineName, RegName};
+use keyed_mac::MacKey;
 use xom_base::Short;
 
 /// The message of a line, whose tag stands beside its ciphertext: 53 bytes for an image line, 61
@@ -61,4 +63,11 @@ pub fn message_of_fields(fields: &[u8; 56]) -> Short
     ensures { result ≡ envelope_message_of fields.now }
 {
     Text::of(ENVELOPE).and(fields).short()
+}
+
+/// The tag of a message, of whichever kind, under a key that was made ready.
+pub fn tag_of(key: &MacKey, message: &Short) -> [u8; 32]
+    ensures { result ≡ hmac_sha256 key.now message.now }
+{
+    key.tag(message.bytes())
 }

@@ -1,10 +1,10 @@
 ghost use Rattle.std.specs.Prelude.{◌≡◌, SomeIff};
-ghost use Rattle.keyed_mac.specs.Hmac.{hmac_sha256};
 ghost use Rattle.xom_seal.specs.Messages.{register_message as register_message_of};
 ghost use Rattle.xom_seal.specs.Sealing.{register_masked, register_opening, register_tag, sealed_register};
 
 use crate::counter::register_counter;
 use crate::mask::masked;
+use crate::message::tag_of;
 use crate::text::part;
 use crate::{RegName, RegisterKeys, RegisterOpening, RegisterSealing, SealedReg, register_message};
 use aes_block::Schedule;
@@ -50,7 +50,7 @@ impl RegisterSealer {
         RegisterSealing {
             sealed: SealedReg {
                 ct,
-                tag: self.tag_of(&message),
+                tag: tag_of(&self.tag, &message),
             },
             message,
         }
@@ -63,7 +63,7 @@ impl RegisterSealer {
         ensures { SomeIff result (sealed.now.tag ≡ register_tag name.now self.now sealed.now.ct) (register_opening name.now self.now sealed.now.ct) }
     {
         let message = register_message(name, &sealed.ct);
-        if matches(&sealed.tag, &self.tag_of(&message)) {
+        if matches(&sealed.tag, &tag_of(&self.tag, &message)) {
             let plain = self.masked(name, &sealed.ct);
             Some(RegisterOpening {
                 value: u32::from_be_bytes(plain),
@@ -81,12 +81,5 @@ impl RegisterSealer {
     {
         let block = self.aes.encrypt(&register_counter(name));
         masked(bytes, &part(&block, 0))
-    }
-
-    /// The tag of a message.
-    fn tag_of(&self, message: &Short) -> [u8; 32]
-        ensures { result ≡ hmac_sha256 self.now.tag.0 message.now }
-    {
-        self.tag.tag(message.bytes())
     }
 }

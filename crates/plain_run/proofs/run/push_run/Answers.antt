@@ -1,23 +1,23 @@
 -- A step that is made adds its line, and what ends the run adds none.
-use Rattle.std.proofs.Common.{sym, ◌-◌, ◌∙◌}
-use Rattle.plain_run.specs.Runs.{run_from}
-use Rattle.plain_run.proofs.RunLaws.{none_more, one_more, stopped, went_on}
+use Rattle.std.proofs.Common.{sym, ap, ◌-◌, ◌∙◌}
+use Rattle.plain_run.specs.Runs.{goes_on, run_from}
+use Rattle.plain_run.proofs.RunLaws.{ended_next, none_more, one_more, stopped, went_on}
 use Rattle.plain_run.proofs.run.push_run.Goals as goal
 
 pub returns-in-Fault : goal.returns-in-Fault
 returns-in-Fault c =
-    let more = one_more c.loop-left.left c.loop-left.plain c.loop-left.values.now c.loop-left-test.true c.next-answer.ensures in
-    stopped c.loop-left.text.items (rw c.in-Fault.is at more) c.loop-left.invariant
+    ended_next c.loop-left.text.items c.loop-left.left c.loop-left.plain c.loop-left.values.now c.loop-left-test.true c.next-answer.ensures
+    (λ run. ap (λ answer. goes_on answer run) c.in-Fault.is) c.loop-left.invariant
 
 pub returns-in-Unfit : goal.returns-in-Unfit
 returns-in-Unfit c =
-    let more = one_more c.loop-left.left c.loop-left.plain c.loop-left.values.now c.loop-left-test.true c.next-answer.ensures in
-    stopped c.loop-left.text.items (rw c.in-Unfit.is at more) c.loop-left.invariant
+    ended_next c.loop-left.text.items c.loop-left.left c.loop-left.plain c.loop-left.values.now c.loop-left-test.true c.next-answer.ensures
+    (λ run. ap (λ answer. goes_on answer run) c.in-Unfit.is) c.loop-left.invariant
 
 pub returns-in-Over : goal.returns-in-Over
 returns-in-Over c =
-    let more = one_more c.loop-left.left c.loop-left.plain c.loop-left.values.now c.loop-left-test.true c.next-answer.ensures in
-    stopped c.loop-left.text.items (rw c.in-Over.is at more) c.loop-left.invariant
+    ended_next c.loop-left.text.items c.loop-left.left c.loop-left.plain c.loop-left.values.now c.loop-left-test.true c.next-answer.ensures
+    (λ run. ap (λ answer. goes_on answer run) c.in-Over.is) c.loop-left.invariant
 
 pub loop-left-preserved : goal.loop-left-preserved
 loop-left-preserved c =

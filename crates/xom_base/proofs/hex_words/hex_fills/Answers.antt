@@ -2,7 +2,7 @@
 use Rattle.std.proofs.Common.{sym, length}
 use Rattle.hex.specs.Hex.{decode_sized}
 use Rattle.xom_base.proofs.HexLaws.{decoded_is, fills_by}
-use Rattle.step_text.proofs.reading.fills.Goals as goal
+use Rattle.xom_base.proofs.hex_words.hex_fills.Goals as goal
 
 pub returns : goal.returns
 returns c =
