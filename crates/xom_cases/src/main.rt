@@ -24,6 +24,8 @@
 //! | `gives STATUS part` | text | the same, but it printed a first part of this: not nothing, and not all |
 //! | `gives STATUS bytes N` | | the same, but it printed N bytes |
 //! | `holds NAME` | its bytes | the name holds these |
+//! | `sums LINES DIGEST NAME` | | the name holds so many lines, and bytes of this SHA-256 |
+//! | `lines FIRST LAST NAME` | text | these lines of what the name holds are this |
 //! | `lacks NAME` | | the name holds nothing |
 //!
 //! A body is all that its lines say, one after the other; without a line it is empty.
@@ -37,7 +39,9 @@
 //!
 //! Names are the rest of the line, blanks too, and aren't empty. Words are parted by blanks; between
 //! two quotes stands one word, which may be empty and may have blanks, but no quote. Calls and puts
-//! count from 1. Numbers are decimal: N is below 2^64, STATUS below 2^8, COUNT below 2^32.
+//! count from 1, and so do the lines of a file, of which the last may lack its end. Numbers are decimal: N,
+//! LINES, FIRST and LAST are below 2^64, STATUS below 2^8, COUNT below 2^32. DIGEST has 64 digits in lower
+//! case. A file that is too long for a book is told of by its sum, and by those of its lines that matter.
 //!
 //! A case fails where an entry can't be read, has a body where the table has none, or isn't met; where a
 //! call isn't told of by one `gives`, before the next call and the case's end; where a `gives` stands
@@ -46,6 +50,7 @@
 
 mod body;
 mod book;
+mod long;
 mod stage;
 mod words;
 

@@ -1,6 +1,7 @@
 //! The files, the sink and the status of a case, and what its entries do with them.
 
 use crate::body::{add_line, image_file, is_body};
+use crate::long::{has_lines, has_sum, two_words};
 use crate::words::words;
 use std::alloc::Global;
 use std::mem;
@@ -93,6 +94,8 @@ impl Stage {
             }
             "gives" => Ok(self.gives(rest, body)),
             "holds" => Ok(self.held(rest)? == Some(body)),
+            "sums" => Ok(body.is_empty() && self.sums(rest)?),
+            "lines" => self.lines(rest, body),
             "lacks" => Ok(body.is_empty() && self.held(rest)?.is_none()),
             _ => Ok(body.is_empty() && self.prepare(head)?),
         }
@@ -108,6 +111,28 @@ impl Stage {
     fn held(&self, name: &str) -> Result<Option<&[u8]>, NoMemory> {
         let name = String::from_str(self.alloc, name)?;
         Ok(self.files.held(&name))
+    }
+
+    // Whether a name holds so many lines with this digest: `LINES DIGEST NAME`.
+    fn sums(&self, rest: &str) -> Result<bool, NoMemory> {
+        let Some((lines, digest, name)) = two_words(rest) else {
+            return Ok(false);
+        };
+        match self.held(name)? {
+            Some(file) => has_sum(self.alloc, file, lines, digest),
+            None => Ok(false),
+        }
+    }
+
+    // Whether these lines of what a name holds are the body: `FIRST LAST NAME`.
+    fn lines(&self, rest: &str, body: &[u8]) -> Result<bool, NoMemory> {
+        let Some((first, last, name)) = two_words(rest) else {
+            return Ok(false);
+        };
+        match self.held(name)? {
+            Some(file) => has_lines(self.alloc, file, first, last, body),
+            None => Ok(false),
+        }
     }
 
     // Makes a call of the files, or a put of the next call's sink, fail, or makes room in that sink.
