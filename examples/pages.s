@@ -1,3 +1,4 @@
+# A guest that stores 1 into its second page, calls, stores 2, calls, and loads.
         addiu $8, $0, 1
         sw    $8, 4096($0)
         syscall

@@ -1,0 +1,3 @@
+        addiu $9, $0, 99
+        xmvtn $9
+        xexit

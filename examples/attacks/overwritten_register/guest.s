@@ -1,0 +1,4 @@
+        addiu $8, $0, 5
+        syscall
+        xmvtn $8
+        xexit
