@@ -6,7 +6,7 @@ use Rattle.std.proofs.lemmas.Nat.{or_shifted}
 use Rattle.mips_instruction.specs.Numbers.{plus_signed, reduced}
 use Rattle.asm_tokens.specs.declared.integers.Integer.{Integer}
 use Rattle.asm_tokens.specs.Integers.{whole}
-use Rattle.mips_asm.specs.Encoding.{wrapped}
+use Rattle.mips_asm.specs.Encoding.{twos_complement}
 use Rattle.mips_asm.specs.Layout.{in_range}
 
 -- a negative number in 32 bits
@@ -22,7 +22,7 @@ wrapped-whole : (b : Bool) (m : ℕ) → cond b (leb m 2147483648) (leb m 429496
 wrapped-whole true m fits = let most = leb-true m 2147483648 fits in sym (reduced-negative m (omega arith))
 wrapped-whole false m fits = omega arith
 
-pub wrapped_32 : (n : Integer) → in_range 2147483648 4294967295 n ≡ true → wrapped 32 n ≡ reduced (whole n)
+pub wrapped_32 : (n : Integer) → in_range 2147483648 4294967295 n ≡ true → twos_complement 32 n ≡ reduced (whole n)
 wrapped_32 n fits = wrapped-whole n.negative n.magnitude fits
 
 -- the number that `li` loads by ori
@@ -38,5 +38,5 @@ signed-whole : (b : Bool) (m : ℕ) → cond b (leb m 32768) (leb m 32767) ≡ t
 signed-whole true m fits = let most = leb-true m 32768 fits in grind (arith, ints)
 signed-whole false m fits = let most = leb-true m 32767 fits in grind (arith, ints)
 
-pub signed_immediate_16 : (n : Integer) → in_range 32768 32767 n ≡ true → plus_signed 0 (wrapped 16 n) ≡ reduced (whole n)
+pub signed_immediate_16 : (n : Integer) → in_range 32768 32767 n ≡ true → plus_signed 0 (twos_complement 16 n) ≡ reduced (whole n)
 signed_immediate_16 n fits = signed-whole n.negative n.magnitude fits

@@ -14,9 +14,9 @@ use Rattle.asm_source.specs.declared.argument.Value.{Value as ValueType}
 use Rattle.asm_source.specs.declared.argument.Value.TheVariants.{Number, Label}
 use Rattle.asm_source.specs.declared.content.Content.{Content}
 use Rattle.asm_source.specs.declared.content.Content.TheVariants as content
-use Rattle.mips_asm.specs.Encoding.{Gives, alone, field_of, instruction_at, IsCode, join_some, load_address, number_of, offset_field, operand_of, operands_of, unsigned, unsigned_below, word_bytes, word_value}
+use Rattle.mips_asm.specs.Encoding.{Gives, IsCode, field_of, instruction_at, join_some, load_address, number_of, offset_field, one_instruction, operand_of, operands_of, unsigned_below, unsigned_number, word_bytes, word_value}
 use Rattle.mips_asm.specs.Passes.{Labels, argument_unknown, content_unknown, value_unknown}
-use Rattle.mips_asm.specs.Sources.{aligned, entry_in}
+use Rattle.mips_asm.specs.Sources.{aligned_address, entry_in}
 use Rattle.asm_laws.specs.Replaced.{NumbersStandForLabels, numbered, numbered_content, numbered_operand, place_or}
 
 -- labels, and the labels of another source, with the same places
@@ -24,9 +24,9 @@ module _ (labels others : Labels) (same : (name : List ℕ) → labels name ≡ 
   -- ---- values
 
   -- what a name stands for
-  named : (name : List ℕ) (place : Option ℕ) → labels name ≡ place → option_map unsigned (labels name) ≡ number_of others (place_or place name)
-  named name None known = ap (option_map unsigned) (same name)
-  named name (Some place) known = ap (option_map unsigned) known
+  named : (name : List ℕ) (place : Option ℕ) → labels name ≡ place → option_map unsigned_number (labels name) ≡ number_of others (place_or place name)
+  named name None known = ap (option_map unsigned_number) (same name)
+  named name (Some place) known = ap (option_map unsigned_number) known
 
   number-numbered : (v : ValueType) → number_of labels v ≡ number_of others (numbered labels v)
   number-numbered (Number n) = refl
@@ -91,7 +91,7 @@ module _ (labels others : Labels) (same : (name : List ℕ) → labels name ≡ 
   -- ---- .entry and la
 
   entry-numbered : (v : ValueType) → entry_in labels (content.Entry v) ≡ entry_in others (content.Entry (numbered labels v))
-  entry-numbered v = ap (λ (n : Option Integer). n >>= (λ m. unsigned_below 1048575 m >>= aligned)) (number-numbered v)
+  entry-numbered v = ap (λ (n : Option Integer). n >>= (λ m. unsigned_below 1048575 m >>= aligned_address)) (number-numbered v)
 
   load_address-same : (r : ℕ) (name : List ℕ) → load_address labels r name ≡ load_address others r name
   unfolding load_address
@@ -110,7 +110,7 @@ module _ (labels others : Labels) (same : (name : List ℕ) → labels name ≡ 
   Gives-numbered place (content.Entry v) own gives = gives
   Gives-numbered place (content.LoadNumber r n) own gives = gives
   Gives-numbered place (content.LoadAddress r name) own gives = subst (λ (made : Option (List Ins)). IsCode place made own) (load_address-same r name) gives
-  Gives-numbered place (content.Instruction name list) own gives = subst (λ (made : Option Ins). IsCode place (option_map alone made) own) (instruction-numbered place name list) gives
+  Gives-numbered place (content.Instruction name list) own gives = subst (λ (made : Option Ins). IsCode place (option_map one_instruction made) own) (instruction-numbered place name list) gives
 
   pub content_unknown-numbered : (c : Content) → content_unknown others (numbered_content labels c) ≡ content_unknown labels c
   content_unknown-numbered (content.Label name) = refl
@@ -143,8 +143,8 @@ numbers_stand labels place name operands vs v own =
     let instructions = instruction-numbered labels labels (λ name. refl) place name operands in
     let words = words-numbered labels labels (λ name. refl) vs in (
       (
-        subst (λ (made : Option Ins). IsCode place (option_map alone made) own) instructions,
-        subst (λ (made : Option Ins). IsCode place (option_map alone made) own) (sym instructions),
+        subst (λ (made : Option Ins). IsCode place (option_map one_instruction made) own) instructions,
+        subst (λ (made : Option Ins). IsCode place (option_map one_instruction made) own) (sym instructions),
       ),
       (λ gives. (gives.0, sym words ∙ gives.1), λ gives. (gives.0, words ∙ gives.1)),
       entry-numbered labels labels (λ name. refl) v,

@@ -10,7 +10,7 @@ use Rattle.mips_effect.specs.declared.seen.Mode.{Mode}
 use Rattle.mips_effect.specs.Effects.{set, sets, jumps}
 use Rattle.asm_tokens.specs.Integers.{whole}
 use Rattle.asm_source.specs.declared.content.Content.TheVariants.{LoadNumber, LoadAddress}
-use Rattle.mips_asm.specs.Encoding.{AreWords, alone, halves, load_number, wrapped}
+use Rattle.mips_asm.specs.Encoding.{AreWords, halves, load_number, one_instruction, twos_complement}
 use Rattle.mips_asm.specs.Layout.{in_range, limit}
 use Rattle.asm_laws.specs.Runs.{Cells, State, cells_after, state, effect_on}
 use Rattle.asm_laws.specs.ShortForms.{BGoesToItsTarget, LaLoadsThePlace, LiLoadsTheNumber, Loads, MoveCopies, NopGoesOn, Sets}
@@ -85,8 +85,8 @@ li_loads memory own labels place reg n stands =
     elim (cases_Bool (in_range 32768 32767 n)) [
       | inl small ↦
           let words = code_as place (load_number reg n) _ own code (li_by_addiu reg n small) in
-          loads_one memory own place reg (reduced (whole n)) (Addiu reg 0 (wrapped 16 n)) stands.inside stands.there (i_word-small 9 0 reg (wrapped 16 n) (omega arith) (omega arith) words.1.0 words.1.2) words
-          (λ mode cells pc npc. addiu_zero mode cells pc npc reg (wrapped 16 n) ∙ ap (λ (v : ℕ). sets reg v npc) (signed_immediate_16 n small))
+          loads_one memory own place reg (reduced (whole n)) (Addiu reg 0 (twos_complement 16 n)) stands.inside stands.there (i_word-small 9 0 reg (twos_complement 16 n) (omega arith) (omega arith) words.1.0 words.1.2) words
+          (λ mode cells pc npc. addiu_zero mode cells pc npc reg (twos_complement 16 n) ∙ ap (λ (v : ℕ). sets reg v npc) (signed_immediate_16 n small))
       | inr more ↦ elim (cases_Bool (in_range 0 65535 n)) [
         | inl low ↦
             let words = code_as place (load_number reg n) _ own code (li_by_ori reg n more low) in
@@ -95,7 +95,7 @@ li_loads memory own labels place reg n stands =
         | inr high ↦
             let found = li_by_halves reg n code.0 more high code.2 in
             subst (λ (v : ℕ). Loads memory place (length own) reg v) (wrapped_32 n found.0)
-            (loads_halves memory own place reg (wrapped 32 n) stands.inside stands.there (subst (λ (is : List Ins). AreWords is own) (sym found.1) code.3))
+            (loads_halves memory own place reg (twos_complement 32 n) stands.inside stands.there (subst (λ (is : List Ins). AreWords is own) (sym found.1) code.3))
       ]
     ]
 
@@ -110,7 +110,7 @@ la_loads memory own labels place reg name address known stands =
 pub move_copies : MoveCopies
 move_copies memory own labels place a b v npc mode cells stands holds fits =
     let code = gives_as memory own labels place _ _ _ stands (move_is a b) in
-    let words = code_as place _ (Addu a b 0 ∷ []) own code (ap (option_map alone) (addu_at labels place a b)) in
+    let words = code_as place _ (Addu a b 0 ∷ []) own code (ap (option_map one_instruction) (addu_at labels place a b)) in
     sets_one memory mode cells place npc a v (Addu a b 0) (read_there memory own place (Addu a b 0) [] (r_word-small b 0 a 33 words.1.1 words.1.2 words.1.0 (omega arith)) words stands.there)
     (addu_zero mode cells place npc a b v holds fits)
 
@@ -119,7 +119,7 @@ move_copies memory own labels place a b v npc mode cells stands holds fits =
 pub nop_goes : NopGoesOn
 nop_goes memory own labels place npc mode cells stands =
     let code = gives_as memory own labels place _ _ _ stands nop_is in
-    let words = code_as place _ (Sll 0 0 0 ∷ []) own code (ap (option_map alone) (sll_at labels place)) in
+    let words = code_as place _ (Sll 0 0 0 ∷ []) own code (ap (option_map one_instruction) (sll_at labels place)) in
     runs_one memory mode cells place npc (Sll 0 0 0) (sets 0 0 npc) (read_there memory own place (Sll 0 0 0) [] (r_word-small 0 0 0 0 (omega arith) (omega arith) (omega arith) (omega arith)) words stands.there)
     (sll_zero mode cells place npc)
 

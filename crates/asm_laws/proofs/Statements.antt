@@ -15,7 +15,7 @@ use Rattle.asm_source.specs.declared.content.Content.{Content}
 use Rattle.asm_source.specs.declared.content.Content.TheVariants.{LoadNumber, LoadAddress, Instruction}
 use Rattle.asm_syntax.specs.Arguments.{zero_argument}
 use Rattle.asm_syntax.specs.Lines.{statement_of, mnemonic_of, li_of, la_of, move_of, nop_of, b_of}
-use Rattle.mips_asm.specs.Encoding.{AreWords, Gives, IsCode, address_of, alone, branch_field, field_of, halves, instruction_at, load_address, load_number, number_of, operand_of, operands_of, wrapped}
+use Rattle.mips_asm.specs.Encoding.{AreWords, Gives, IsCode, address_of, branch_field, field_of, halves, instruction_at, load_address, load_number, number_of, one_instruction, operand_of, operands_of, twos_complement}
 use Rattle.mips_asm.specs.Layout.{in_range}
 use Rattle.mips_asm.specs.Passes.{Labels}
 use Rattle.asm_laws.specs.ShortForms.{StandsIn}
@@ -90,10 +90,10 @@ in_range-below true m fits = let most = leb-true m 0 fits in omega arith
 in_range-below false m fits = let most = leb-true m 4294967295 fits in omega arith
 
 pub has_field : (labels : Labels) (place : ℕ) (target : ValueType) (n : Integer) (own : List ℕ) → number_of labels target ≡ Some n
-    → IsCode place (option_map alone (instruction_at labels place (codes "beq") (Register 0 ∷ Register 0 ∷ Value target ∷ []))) own → HasField place n own
-has_field labels place target n own known code = by_field (address_of n >>= branch_field place) refl (sym (ap (option_map alone) (beq_at labels place target n known)) ∙ code.2)
+    → IsCode place (option_map one_instruction (instruction_at labels place (codes "beq") (Register 0 ∷ Register 0 ∷ Value target ∷ []))) own → HasField place n own
+has_field labels place target n own known code = by_field (address_of n >>= branch_field place) refl (sym (ap (option_map one_instruction) (beq_at labels place target n known)) ∙ code.2)
   where
-    by_field : (field : Option ℕ) → (address_of n >>= branch_field place) ≡ field → option_map alone (beq_of field) ≡ Some code.0 → HasField place n own
+    by_field : (field : Option ℕ) → (address_of n >>= branch_field place) ≡ field → option_map one_instruction (beq_of field) ≡ Some code.0 → HasField place n own
     by_field None is made = absurd (none-some code.0 made)
     by_field (Some imm) is made =
         steps (branch_field place) (address_of n) imm is (λ address given reaches.
@@ -108,7 +108,7 @@ has_field labels place target n own known code = by_field (address_of n >>= bran
         })
 
 -- `li` by its three lengths and instructions
-pub li_by_addiu : (reg : ℕ) (n : Integer) → in_range 32768 32767 n ≡ true → load_number reg n ≡ Some (Addiu reg 0 (wrapped 16 n) ∷ [])
+pub li_by_addiu : (reg : ℕ) (n : Integer) → in_range 32768 32767 n ≡ true → load_number reg n ≡ Some (Addiu reg 0 (twos_complement 16 n) ∷ [])
 unfolding load_number
 li_by_addiu reg n small = rw small refl
 
@@ -117,9 +117,9 @@ unfolding load_number
 li_by_ori reg n large small = rw (large, small) refl
 
 pub li_by_halves : (reg : ℕ) (n : Integer) (is : List Ins) → in_range 32768 32767 n ≡ false → in_range 0 65535 n ≡ false → load_number reg n ≡ Some is
-    → (in_range 2147483648 4294967295 n ≡ true) × (halves reg (wrapped 32 n) ≡ is)
+    → (in_range 2147483648 4294967295 n ≡ true) × (halves reg (twos_complement 32 n) ≡ is)
 unfolding load_number
-li_by_halves reg n is large more found = cond_some (in_range 2147483648 4294967295 n) (halves reg (wrapped 32 n)) is (rw (large, more) at found)
+li_by_halves reg n is large more found = cond_some (in_range 2147483648 4294967295 n) (halves reg (twos_complement 32 n)) is (rw (large, more) at found)
 
 -- `la`
 pub la_by_halves : (labels : Labels) (reg address : ℕ) (name : List ℕ) (is : List Ins) → labels name ≡ Some address → load_address labels reg name ≡ Some is

@@ -9,7 +9,7 @@ use Rattle.asm_source.specs.declared.content.Content.{Content}
 use Rattle.asm_source.specs.declared.content.Content.TheVariants.{Words, Entry, Instruction}
 use Rattle.asm_source.specs.declared.content.Part.{Part}
 use Rattle.asm_syntax.specs.Lines.{source_of}
-use Rattle.mips_asm.specs.Encoding.{Gives, unsigned}
+use Rattle.mips_asm.specs.Encoding.{Gives, unsigned_number}
 use Rattle.mips_asm.specs.Layout.{layout}
 use Rattle.mips_asm.specs.Passes.{Labels}
 use Rattle.mips_asm.specs.Sources.{IsImageOf, entry_in, labels_of}
@@ -17,7 +17,7 @@ use Rattle.mips_asm.specs.Sources.{IsImageOf, entry_in, labels_of}
 -- the number of a place, or the name where it has none
 abbrev pub place_or : Option ℕ → (name : List ℕ) → ValueType
 place_or None name = Label name
-place_or (Some place) name = Number (unsigned place)
+place_or (Some place) name = Number (unsigned_number place)
 
 -- a value, with the number of its place for a label that has one
 abbrev pub numbered : Labels → ValueType → ValueType

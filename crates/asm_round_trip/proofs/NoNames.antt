@@ -14,7 +14,7 @@ use Rattle.asm_source.specs.declared.argument.Value.{Value}
 use Rattle.asm_source.specs.declared.argument.Value.TheVariants as values
 use Rattle.asm_source.specs.declared.content.Content.{Content}
 use Rattle.asm_source.specs.declared.content.Content.TheVariants.{Label, Words, Org, Entry, LoadAddress, Instruction}
-use Rattle.mips_asm.specs.Encoding.{Gives, alone, instruction_at, join_some, load_address, operand_of, operands_of, word_value}
+use Rattle.mips_asm.specs.Encoding.{Gives, instruction_at, join_some, load_address, one_instruction, operand_of, operands_of, word_value}
 use Rattle.mips_asm.specs.Layout.{after, size_of}
 use Rattle.mips_asm.specs.Passes.{Labels, argument_unknown, content_unknown, label_in, value_unknown}
 use Rattle.mips_asm.specs.Sources.{entry_content}
@@ -81,12 +81,12 @@ instruction-known labels pc name arguments i read =
     (h.0, rw (kinds, h.1) made)))
 
 -- and it alone
-alone-known : (labels : Labels) (pc : ℕ) (name : List ℕ) (arguments : List Argument) (is : List Ins) → option_map alone (instruction_at no_labels pc name arguments) ≡ Some is
-    → (list_any (argument_unknown labels) arguments ≡ false) × (option_map alone (instruction_at labels pc name arguments) ≡ Some is)
+alone-known : (labels : Labels) (pc : ℕ) (name : List ℕ) (arguments : List Argument) (is : List Ins) → option_map one_instruction (instruction_at no_labels pc name arguments) ≡ Some is
+    → (list_any (argument_unknown labels) arguments ≡ false) × (option_map one_instruction (instruction_at labels pc name arguments) ≡ Some is)
 alone-known labels pc name arguments is read =
-    let m = option_map_some alone (instruction_at no_labels pc name arguments) is read in
+    let m = option_map_some one_instruction (instruction_at no_labels pc name arguments) is read in
     let h = instruction-known labels pc name arguments m.0 m.1 in
-    (h.0, ap (option_map alone) h.1 ∙ m.2)
+    (h.0, ap (option_map one_instruction) h.1 ∙ m.2)
 
 -- `la` writes nothing without labels
 no_address : (r : ℕ) (name : List ℕ) (is : List Ins) → load_address no_labels r name ≡ Some is → ⊥

@@ -8,7 +8,7 @@ use Rattle.mips_forms.specs.declared.operand.Operand.{Operand}
 use Rattle.mips_forms.specs.declared.operand.Operand.TheVariants.{Register, Shift, Signed, Unsigned, Code, Branch, Jump, Offset}
 use Rattle.asm_source.specs.declared.argument.Argument.{Argument}
 use Rattle.mips_forms.proofs.FormTable.{built_form, kinds_of_forms, operands_fit}
-use Rattle.mips_asm.specs.Encoding.{alone, field_of, instruction_at, operand_of, operands_of}
+use Rattle.mips_asm.specs.Encoding.{field_of, instruction_at, one_instruction, operand_of, operands_of}
 use Rattle.mips_asm.specs.Passes.{Labels}
 use Rattle.asm_round_trip.specs.Printed.{PrintedIsAssembled, Shows}
 use Rattle.asm_round_trip.proofs.FieldLaws.{branch-read, jump-read, signed-read, unsigned-read}
@@ -48,4 +48,4 @@ instruction-read labels pc i arguments even below fits shows =
 
 pub printed_is_assembled : PrintedIsAssembled
 printed_is_assembled labels pc i arguments even below fits shows =
-    (i ∷ [], even, ap (option_map alone) (instruction-read labels pc i arguments even below fits shows), ([], fits, refl, refl))
+    (i ∷ [], even, ap (option_map one_instruction) (instruction-read labels pc i arguments even below fits shows), ([], fits, refl, refl))

@@ -8,7 +8,7 @@ use Rattle.xom_debug.specs.DebugTexts.{debug_text}
 use Rattle.xom_debug.specs.Moments.{Moment, made_of_turn, moments_from, next_made, own_next, with_made}
 use Rattle.xom_debug.specs.declared.command.Command.{Command}
 use Rattle.xom_machine.specs.Runs.{Made}
-use Rattle.xom_model.specs.Event.{running}
+use Rattle.xom_model.specs.Event.{running_slot}
 use Rattle.xom_model.specs.Run.{poke_at}
 use Rattle.xom_model.specs.Seen.{View, view_of}
 use Rattle.xom_model.specs.State.{Record}
@@ -27,7 +27,7 @@ module _ (v : Versions) {K : Type 0} (told : K → View → Option (Turn × (Lis
 
   next_made-some : (g : ℕ) (r : Record) (k : K) (poke : Option Poke) → IsSome (next_made v told schedule g r k poke)
   next_made-some g r k (Some poke) = refl
-  next_made-some g r k None = own_next-some g r k (running r)
+  next_made-some g r k None = own_next-some g r k (running_slot r)
 
   with_made-some : (next : ℕ → Record → K → Option (List Moment)) → ((g : ℕ) (r : Record) (k : K) → IsSome (next g r k))
       → (g : ℕ) (r : Record) (made : Option (Made × K)) → IsSome made → IsSome (with_made v told schedule next g r made)

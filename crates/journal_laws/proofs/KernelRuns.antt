@@ -13,9 +13,9 @@ use Rattle.xom_versions.specs.Versions.{VersionLaw, Versions}
 use Rattle.xom_model.specs.declared.outcome.Turn.{Turn}
 use Rattle.xom_model.specs.Versions.{StandsFor}
 use Rattle.xom_model.specs.State.{Record, power_on}
-use Rattle.xom_model.specs.Event.{on, running}
+use Rattle.xom_model.specs.Event.{on, running_slot}
 use Rattle.xom_model.specs.Honest.{IsBounded}
-use Rattle.xom_model.specs.Run.{event_of, is_flagged, one_event, own_event, poke_at, run_from, turned}
+use Rattle.xom_model.specs.Run.{after_turn, event_of, is_flagged, one_event, own_event, poke_at, run_from}
 use Rattle.xom_model.specs.Seen.{View, view_of}
 use Rattle.xom_model.specs.Sequence.{after_all}
 use Rattle.journal_laws.specs.RulesOfRecord.{StoresKeepRules}
@@ -54,7 +54,7 @@ module _ (v : Versions) {K : Type 0} (told : K → View → Option (Turn × (Lis
   }
 
   module _ (n : ℕ) (next : (guests : ℕ) (r : Record) (k : K) (last : Record) → run_from v told schedule n guests r k ≡ Some last → IsPlainRun v r last) (guests : ℕ) (r last : Record) (k : K) where
-    by_told : (answer : Option (Turn × (List ℕ × K))) → IfSome answer (λ a. IsPlainEvent (event_of a.0, a.1.0)) → turned v told schedule (run_from v told schedule n) guests r answer ≡ Some last → IsPlainRun v r last
+    by_told : (answer : Option (Turn × (List ℕ × K))) → IfSome answer (λ a. IsPlainEvent (event_of a.0, a.1.0)) → after_turn v told schedule (run_from v told schedule n) guests r answer ≡ Some last → IsPlainRun v r last
     by_told None plain is = absurd (cc)
     by_told (Some (t, (chunk, k'))) plain is = first r last (event_of t) chunk plain (next guests _ k' last is)
 
@@ -65,7 +65,7 @@ module _ (v : Versions) {K : Type 0} (told : K → View → Option (Turn × (Lis
     by_poke : (poke : Option Poke) → poke_at schedule.pokes (r.events + 1) ≡ poke → one_event v told schedule (run_from v told schedule n) guests r k poke ≡ Some last → IsPlainRun v r last
     by_poke (Some poke) listed is =
         first r last (event.Poke poke.address (length poke.bytes)) poke.bytes (tt, found-IsPlainPoke _ schedule.pokes poke pokes listed) (next guests _ k last is)
-    by_poke None none is = by_running (running r) is
+    by_poke None none is = by_running (running_slot r) is
 
   run-IsPlainRun : (n guests : ℕ) (r : Record) (k : K) (last : Record) → run_from v told schedule n guests r k ≡ Some last → IsPlainRun v r last
   unfolding run_from

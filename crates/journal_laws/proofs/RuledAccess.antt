@@ -25,9 +25,9 @@ use Rattle.xom_versions.specs.Versions.{VersionLaw, Versions}
 use Rattle.xom_model.specs.declared.reach.Reach.{Reach}
 use Rattle.xom_model.specs.declared.reach.Reach.TheVariants as reach
 use Rattle.xom_model.specs.Versions.{StandsFor}
-use Rattle.xom_model.specs.State.{CoreState, hashed, noted, page_of, session_of, store_of, with_way}
+use Rattle.xom_model.specs.State.{CoreState, core_with_hashes, page_of, session_of, store_of, with_entry, with_way}
 use Rattle.xom_model.specs.Lines.{Who, accept_entry, ct_place, index_of, is_image_at, keys_of, name_of, run_name, seal_entry, sealed_as, sealed_at, who_of, with_sealed}
-use Rattle.xom_model.specs.Access.{access, and_then, brought, cleared, cleared_at, dropped, flushed, gone, looked, mapped, opened, or_stopped, placed, put, raising, read_from, sealed_by_raise, sealing, stopped, taken, taken_out, with_pointers}
+use Rattle.xom_model.specs.Access.{access, after_eviction, after_flush, after_leaving, after_opening, after_raise, after_seal, after_stop, after_victim, and_then, brought, cleared_at, or_stopped, reach_after_placing, reach_after_victim, reach_by_cache, reach_in_frame, read_from, sealed_by_raise, taken_out, with_pointers, without_guest}
 use Rattle.xom_model.specs.Holds.{IsLive}
 use Rattle.xom_model.proofs.RamSize.{area_stays}
 use Rattle.journal_laws.specs.RulesOfRecord.{StoresKeepRules, IsSoundWay, RulesHold}
@@ -36,7 +36,7 @@ use Rattle.journal_laws.proofs.RuledParts.{free_way-sound, hashed-holds, live-ca
 
 -- ---- A stop
 
-pub gone-holds : (core : CoreState) (slot : ℕ) (final : SlotState) → IsLive core slot → RulesHold core → RulesHold (gone core slot final)
+pub gone-holds : (core : CoreState) (slot : ℕ) (final : SlotState) → IsLive core slot → RulesHold core → RulesHold (after_leaving core slot final)
 gone-holds core slot final live holds =
     let sound = session-sound core holds slot in
     out-holds core holds slot (left (session_of core slot) final) (record {
@@ -51,10 +51,10 @@ gone-holds core slot final live holds =
       install = λ _. live-came core holds slot live;
     })
 
-pub stopped-holds : (core : CoreState) (slot : ℕ) (why : Rule) → KeepsRule why → IsLive core slot → RulesHold core → RulesHold (stopped core slot why)
-unfolding dropped
+pub stopped-holds : (core : CoreState) (slot : ℕ) (why : Rule) → KeepsRule why → IsLive core slot → RulesHold core → RulesHold (after_stop core slot why)
+unfolding without_guest
 stopped-holds core slot why keeps live holds =
-    noted-holds (gone core slot (state.Stopped why)) (gone-holds core slot (state.Stopped why) live holds)
+    noted-holds (after_leaving core slot (state.Stopped why)) (gone-holds core slot (state.Stopped why) live holds)
     (entry.Stop (session_of core slot).install why) (live-came core holds slot live, keeps) refl
 
 -- ---- Names and keys of lines
@@ -83,13 +83,13 @@ module _ (core : CoreState) (holds : RulesHold core) (slot line version : ℕ) w
   masked-bytes bytes each = line_masked-bytes (name_of who line version) (keys_of who line version) bytes aes-bytes each
 
   -- a Seal and an Accept of the line
-  seal-holds : (bytes : List ℕ) → IsBytes bytes → RulesHold (noted core (seal_entry who line version bytes))
+  seal-holds : (bytes : List ℕ) → IsBytes bytes → RulesHold (with_entry core (seal_entry who line version bytes))
   seal-holds bytes each =
       let ct = (sealed_as who line version bytes).ct in
       noted-holds core holds (seal_entry who line version bytes)
       (tag-payload, line_message-payload (name_of who line version) ct name-plain (masked-bytes bytes each) (line_masked-short (name_of who line version) (keys_of who line version) bytes)) refl
 
-  accept-holds : (ct : List ℕ) (place : ℕ) → IsBytes ct → length ct ≤ 32 → Is32Bit place → RulesHold (noted core (accept_entry who line version ct place))
+  accept-holds : (ct : List ℕ) (place : ℕ) → IsBytes ct → length ct ≤ 32 → Is32Bit place → RulesHold (with_entry core (accept_entry who line version ct place))
   accept-holds ct place each few short =
       noted-holds core holds (accept_entry who line version ct place)
       (tag-payload, line_message-payload (name_of who line version) ct name-plain each few, short) refl
@@ -134,29 +134,29 @@ Answers answer = RulesHold answer.0 × IsShortReach answer.1
 -- ---- Write-back
 
 module _ (v : Versions) (Stands : StandsFor) (law : VersionLaw v Stands) (rules : StoresKeepRules v) where
-  raising-holds : (core : CoreState) (slot line : ℕ) → line < line_limit → RulesHold core → RulesHold (raising v core slot line)
-  unfolding raising
+  raising-holds : (core : CoreState) (slot line : ℕ) → line < line_limit → RulesHold core → RulesHold (after_raise v core slot line)
+  unfolding after_raise
   raising-holds core slot line low holds =
       let store = store_of core slot in
       let texts = v.texts_of_raise store line core.ram in
       let new = v.store_after_raise store line core.ram in
       let same = law.size_after_raise store line core.ram (holds.areas slot) low in
       let first = hashed-holds core texts (rules.texts_of_raise store line core.ram holds.ram) holds in
-      let second = with_ram-holds (hashed core texts) first (v.ram_after_raise store line core.ram) (rules.ram_after_raise store line core.ram holds.ram) same in
+      let second = with_ram-holds (core_with_hashes core texts) first (v.ram_after_raise store line core.ram) (rules.ram_after_raise store line core.ram holds.ram) same in
       let kept : HoldsArea (v.ram_after_raise store line core.ram) new =
       subst (λ area. IfSome area (λ a. HoldsRange (v.ram_after_raise store line core.ram) a area_size)) (sym (law.area_after_raise store line core.ram))
       (area_stays store.area core.ram (v.ram_after_raise store line core.ram) same (holds.areas slot)) in
-      with_store-holds (record (hashed core texts) { ram = v.ram_after_raise store line core.ram }) second slot new kept
+      with_store-holds (record (core_with_hashes core texts) { ram = v.ram_after_raise store line core.ram }) second slot new kept
 
-  sealing-holds : (core : CoreState) (slot line : ℕ) (bytes : List ℕ) (version : ℕ) → IsBytes bytes → RulesHold core → RulesHold (sealing v core slot line bytes version)
-  unfolding sealing
+  sealing-holds : (core : CoreState) (slot line : ℕ) (bytes : List ℕ) (version : ℕ) → IsBytes bytes → RulesHold core → RulesHold (after_seal v core slot line bytes version)
+  unfolding after_seal
   sealing-holds core slot line bytes version each holds =
       let who = who_of core slot in
       let name = name_of who line version in
       let keys = keys_of who line version in
       let sealed = sealed_as who line version bytes in
       let frame = frame_of core.pages slot (page_of line) in
-      with_ram-holds (noted core (seal_entry who line version bytes)) (seal-holds core holds slot line version bytes each) (with_sealed core.ram frame line sealed)
+      with_ram-holds (with_entry core (seal_entry who line version bytes)) (seal-holds core holds slot line version bytes each) (with_sealed core.ram frame line sealed)
       (with_sealed-bytes core.ram frame line sealed holds.ram (masked-bytes core holds slot line version bytes each) (line_tag-bytes name keys sealed.ct))
       (with_sealed-size core.ram frame line sealed (line_masked-short name keys bytes) (line_tag-size name keys sealed.ct) (λ f is. holds.frames slot (page_of line) f is))
 
@@ -166,11 +166,11 @@ module _ (v : Versions) (Stands : StandsFor) (law : VersionLaw v Stands) (rules 
   write_back-holds core slot line bytes each live holds (Ok version) level = sealing-holds core slot line bytes version each holds
   write_back-holds core slot line bytes each live holds (Err torn) level = stopped-holds core slot (rule.TreeNode torn.level) (level torn refl) live holds
 
-  cleared-holds : (core : CoreState) (way : Way) (dirty : Bool) → way.dirty ≡ dirty → IsSoundWay core.sessions way → RulesHold core → RulesHold (cleared v core way dirty).0
-  unfolding raising
+  cleared-holds : (core : CoreState) (way : Way) (dirty : Bool) → way.dirty ≡ dirty → IsSoundWay core.sessions way → RulesHold core → RulesHold (after_victim v core way dirty).0
+  unfolding after_raise
   cleared-holds core way false is sound holds = holds
   cleared-holds core way true is sound holds =
-      write_back-holds (raising v core way.slot way.line) way.slot way.line way.bytes sound.bytes (sound.live is) (raising-holds core way.slot way.line sound.line holds)
+      write_back-holds (after_raise v core way.slot way.line) way.slot way.line way.bytes sound.bytes (sound.live is) (raising-holds core way.slot way.line sound.line holds)
       (v.answer_of_raise (store_of core way.slot) way.line core.ram) (λ torn its. rules.level_of_raise (store_of core way.slot) way.line core.ram torn its)
 
   pub cleared_at-holds : (core : CoreState) (place : ℕ) → RulesHold core → RulesHold (cleared_at v core place).0
@@ -182,25 +182,25 @@ module _ (v : Versions) (Stands : StandsFor) (law : VersionLaw v Stands) (rules 
   new_way-sound : (core : CoreState) (slot line : ℕ) (bytes : List ℕ) → IsBytes bytes → line < line_limit → IsSoundWay core.sessions (new_way slot line bytes)
   new_way-sound core slot line bytes each low = record { bytes = each; line = low; live = λ dirty. absurd (cc) }
 
-  put-holds : (victim place slot line : ℕ) (bytes : List ℕ) (result : CoreState × Option Rule) → IsBytes bytes → line < line_limit → RulesHold result.0 → Answers (put v victim place slot line bytes result)
+  put-holds : (victim place slot line : ℕ) (bytes : List ℕ) (result : CoreState × Option Rule) → IsBytes bytes → line < line_limit → RulesHold result.0 → Answers (reach_after_victim v victim place slot line bytes result)
   put-holds victim place slot line bytes (core, None) each low holds = (with_way-holds core holds place (new_way slot line bytes) (λ _. new_way-sound core slot line bytes each low), tt)
   put-holds victim place slot line bytes (core, Some why) each low holds =
       cond_both (victim == slot) (core, reach.Stopped why) (with_way core place (new_way slot line bytes), reach.Ready place) Answers
       (λ _. (holds, tt)) (λ _. (with_way-holds core holds place (new_way slot line bytes) (λ _. new_way-sound core slot line bytes each low), tt))
 
-  placed-holds : (core : CoreState) (slot line : ℕ) (bytes : List ℕ) → IsBytes bytes → line < line_limit → RulesHold core → Answers (placed v core slot line bytes)
-  unfolding placed
+  placed-holds : (core : CoreState) (slot line : ℕ) (bytes : List ℕ) → IsBytes bytes → line < line_limit → RulesHold core → Answers (reach_after_placing v core slot line bytes)
+  unfolding reach_after_placing
   placed-holds core slot line bytes each low holds =
       let place = place_for core.ways core.pointers line in
       put-holds (way_at core.ways place).slot place slot line bytes (cleared_at v (with_pointers core line) place) each low
       (cleared_at-holds (with_pointers core line) place (ways-hold core holds core.ways (pointers_after core.ways core.pointers line) holds.ways))
 
   opened-holds : (core : CoreState) (slot line version place : ℕ) (ct : List ℕ) (bytes : Option (List ℕ)) → IfSome bytes IsBytes → IsBytes ct → length ct ≤ 32 → Is32Bit place
-      → line < line_limit → IsLive core slot → RulesHold core → Answers (opened v core slot line version place ct bytes)
+      → line < line_limit → IsLive core slot → RulesHold core → Answers (after_opening v core slot line version place ct bytes)
   opened-holds core slot line version place ct None each cts few short low live holds =
       (stopped-holds core slot (rule.LineTag line) (let small : line < 32768 = low in omega arith) live holds, tt)
   opened-holds core slot line version place ct (Some bytes) each cts few short low live holds =
-      placed-holds (noted core (accept_entry (who_of core slot) line version ct place)) slot line bytes each low (accept-holds core holds slot line version ct place cts few short)
+      placed-holds (with_entry core (accept_entry (who_of core slot) line version ct place)) slot line bytes each low (accept-holds core holds slot line version ct place cts few short)
 
   read_from-holds : (core : CoreState) (slot line frame version : ℕ) → frame_of core.pages slot (page_of line) ≡ Some frame → line < line_limit → IsLive core slot → RulesHold core
       → Answers (read_from v core slot line frame version)
@@ -218,20 +218,20 @@ module _ (v : Versions) (Stands : StandsFor) (law : VersionLaw v Stands) (rules 
       → frame_of core.pages slot (page_of line) ≡ Some frame → line < line_limit → IsLive core slot → RulesHold core → Answers (brought v core slot line frame answer)
   brought-holds core slot line frame (Err torn) level is low live holds = (stopped-holds core slot (rule.TreeNode torn.level) (level torn refl) live holds, tt)
   brought-holds core slot line frame (Ok version) level is low live holds =
-      cond_both (version == 0) (placed v core slot line (replicate 32 0)) (read_from v core slot line frame version) Answers
+      cond_both (version == 0) (reach_after_placing v core slot line (replicate 32 0)) (read_from v core slot line frame version) Answers
       (λ _. placed-holds core slot line (replicate 32 0) (bytes-zeros 32) low holds) (λ _. read_from-holds core slot line frame version is low live holds)
 
   looked-holds : (core : CoreState) (slot line frame : ℕ) (at : Option ℕ) → frame_of core.pages slot (page_of line) ≡ Some frame → line < line_limit → IsLive core slot → RulesHold core
-      → Answers (looked v core slot line frame at)
+      → Answers (reach_by_cache v core slot line frame at)
   looked-holds core slot line frame (Some place) is low live holds = (holds, tt)
   looked-holds core slot line frame None is low live holds =
       let store = store_of core slot in
       let texts = v.texts_of_version store line core.ram in
-      brought-holds (hashed core texts) slot line frame (v.answer_of_version store line core.ram) (λ torn its. rules.level_of_version store line core.ram torn its) is low live
+      brought-holds (core_with_hashes core texts) slot line frame (v.answer_of_version store line core.ram) (λ torn its. rules.level_of_version store line core.ram torn its) is low live
       (hashed-holds core texts (rules.texts_of_version store line core.ram holds.ram) holds)
 
   mapped-holds : (core : CoreState) (slot line : ℕ) (frame : Option ℕ) → frame_of core.pages slot (page_of line) ≡ frame → line < line_limit → IsLive core slot → RulesHold core
-      → Answers (mapped v core slot line frame)
+      → Answers (reach_in_frame v core slot line frame)
   mapped-holds core slot line None is low live holds = (holds, let small : line < 32768 = low in omega arith)
   mapped-holds core slot line (Some frame) is low live holds = looked-holds core slot line frame (found core.ways slot line) is low live holds
 
@@ -241,7 +241,7 @@ module _ (v : Versions) (Stands : StandsFor) (law : VersionLaw v Stands) (rules 
 
   -- ---- Flush
 
-  taken-holds : (place : ℕ) (result : CoreState × Option Rule) → RulesHold result.0 → RulesHold (taken place result).0
+  taken-holds : (place : ℕ) (result : CoreState × Option Rule) → RulesHold result.0 → RulesHold (after_eviction place result).0
   taken-holds place (core, None) holds = with_way-holds core holds place free_way (λ _. free_way-sound core.sessions)
   taken-holds place (core, Some why) holds = holds
 
@@ -253,8 +253,8 @@ module _ (v : Versions) (Stands : StandsFor) (law : VersionLaw v Stands) (rules 
   and_then-holds (core, None) rest holds more = more core holds
   and_then-holds (core, Some why) rest holds more = holds
 
-  pub flushed-holds : (slot count line : ℕ) (core : CoreState) → RulesHold core → RulesHold (flushed v slot count line core).0
-  unfolding flushed
+  pub flushed-holds : (slot count line : ℕ) (core : CoreState) → RulesHold core → RulesHold (after_flush v slot count line core).0
+  unfolding after_flush
   flushed-holds slot zero line core holds = holds
   flushed-holds slot (suc count) line core holds =
-      and_then-holds (taken_out v core (found core.ways slot line)) (flushed v slot count (line + 1)) (taken_out-holds core (found core.ways slot line) holds) (λ mid its. flushed-holds slot count (line + 1) mid its)
+      and_then-holds (taken_out v core (found core.ways slot line)) (after_flush v slot count (line + 1)) (taken_out-holds core (found core.ways slot line) holds) (λ mid its. flushed-holds slot count (line + 1) mid its)

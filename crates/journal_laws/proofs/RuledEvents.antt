@@ -22,8 +22,8 @@ use Rattle.xom_model.specs.Versions.{StandsFor}
 use Rattle.xom_model.specs.State.{CoreState, Record, core_at_start, holds, no_store, with_cells}
 use Rattle.xom_model.specs.Guest.{guest}
 use Rattle.xom_model.specs.Operation.{operation}
-use Rattle.xom_model.specs.Null.{Answer, null_step, poked}
-use Rattle.xom_model.specs.Event.{guest_turn, null_asked, null_turn, on, open_in, operated, ran_on, running, told_in, with_open, with_ram, wrote}
+use Rattle.xom_model.specs.Null.{Answer, null_step, ram_after_write}
+use Rattle.xom_model.specs.Event.{after_kernel_write, after_operation, guest_turn, null_asked, null_turn, on, open_in, ran_on, running_slot, told_in, with_open, with_ram}
 use Rattle.xom_model.specs.Honest.{IsBounded}
 use Rattle.xom_model.proofs.Gone.{frame-none, less}
 use Rattle.xom_model.proofs.RamSize.{length-null, length-poked}
@@ -107,27 +107,27 @@ few-installs core room rules =
     let small : length core.entries < 2 ^ 63 = room in
     omega arith
 
-poked-bytes : (ram : List ℕ) (address : ℕ) (bytes : List ℕ) → IsBytes ram → IsBytes bytes → IsBytes (poked ram address bytes)
-unfolding poked
+poked-bytes : (ram : List ℕ) (address : ℕ) (bytes : List ℕ) → IsBytes ram → IsBytes bytes → IsBytes (ram_after_write ram address bytes)
+unfolding ram_after_write
 poked-bytes ram address bytes each more = cond_both (holds ram address (length bytes)) _ ram IsBytes (λ _. bytes-written ram address bytes each more) (λ _. each)
 
-operated-keeps : (r : Record) (op : Op) (after : CoreState × ℕ) → DoesWell after → RecordKeepsRules r → RecordKeepsRules (operated r op after).0
+operated-keeps : (r : Record) (op : Op) (after : CoreState × ℕ) → DoesWell after → RecordKeepsRules r → RecordKeepsRules (after_operation r op after).0
 operated-keeps r op after well rules = record { core = well.0; npc = rules.npc; status = well.1; cause = rules.cause; who = rules.who }
 
 ran_on-keeps : (r : Record) (slot : ℕ) (result : CoreState × Option Cause) → GoesWell result → Is32Bit slot → RecordKeepsRules r → RecordKeepsRules (ran_on r slot result).0
 ran_on-keeps r slot (core, None) well short rules = record { core = well.0; npc = rules.npc; status = rules.status; cause = rules.cause; who = rules.who }
 ran_on-keeps r slot (core, Some why) well short rules = record { core = well.0; npc = rules.npc; status = rules.status; cause = well.1; who = short }
 
-with_ram-keeps : (r : Record) (address : ℕ) (bytes : List ℕ) → IsBytes bytes → RecordKeepsRules r → RecordKeepsRules (with_ram r (poked r.core.ram address bytes))
+with_ram-keeps : (r : Record) (address : ℕ) (bytes : List ℕ) → IsBytes bytes → RecordKeepsRules r → RecordKeepsRules (with_ram r (ram_after_write r.core.ram address bytes))
 with_ram-keeps r address bytes each rules = record {
-  core = with_ram-holds r.core rules.core (poked r.core.ram address bytes) (poked-bytes r.core.ram address bytes rules.core.ram each) (length-poked r.core.ram address bytes);
+  core = with_ram-holds r.core rules.core (ram_after_write r.core.ram address bytes) (poked-bytes r.core.ram address bytes rules.core.ram each) (length-poked r.core.ram address bytes);
   npc = rules.npc;
   status = rules.status;
   cause = rules.cause;
   who = rules.who;
 }
 
-wrote-keeps : (r : Record) (address : ℕ) (bytes : List ℕ) → IsBytes bytes → RecordKeepsRules r → RecordKeepsRules (wrote r address bytes).0
+wrote-keeps : (r : Record) (address : ℕ) (bytes : List ℕ) → IsBytes bytes → RecordKeepsRules r → RecordKeepsRules (after_kernel_write r address bytes).0
 wrote-keeps r address bytes each rules =
     let next = with_ram-keeps r address bytes each rules in
     record {
@@ -139,7 +139,7 @@ wrote-keeps r address bytes each rules =
     }
 
 module _ (v : Versions) (Stands : StandsFor) (law : VersionLaw v Stands) (hashes : StoresKeepRules v) where
-  turn-keeps : (r : Record) (interrupt : Bool) (at : Option ℕ) → running r ≡ at → RecordKeepsRules r → RecordKeepsRules (guest_turn v r interrupt at).0
+  turn-keeps : (r : Record) (interrupt : Bool) (at : Option ℕ) → running_slot r ≡ at → RecordKeepsRules r → RecordKeepsRules (guest_turn v r interrupt at).0
   turn-keeps r interrupt None is rules = rules
   turn-keeps r interrupt (Some slot) is rules =
       let runs = running-runs r.core slot is in
@@ -164,7 +164,7 @@ module _ (v : Versions) (Stands : StandsFor) (law : VersionLaw v Stands) (hashes
   unfolding on
   events_keep_rules_of r (event.Do op) bytes plain room rules =
       operated-keeps r op (operation v r.core op) (operation-well v Stands law hashes r.core op plain.0 (few-installs r.core room rules.core) rules.core) rules
-  events_keep_rules_of r (event.Guest interrupt) bytes plain room rules = turn-keeps r interrupt (running r) refl rules
+  events_keep_rules_of r (event.Guest interrupt) bytes plain room rules = turn-keeps r interrupt (running_slot r) refl rules
   events_keep_rules_of r event.Null bytes plain room rules =
       null-keeps r (null_step (told_in r) (open_in r))
       (null-open (told_in r) (open_in r) (record { status = rules.status; cause = rules.cause; who = rules.who }) (record { cells = rules.core.cells; ram = rules.core.ram; npc = rules.npc }))

@@ -28,7 +28,7 @@ use Rattle.mips_effect.specs.Effects.{IsInRange, Ranged}
 use Rattle.mips_effect.specs.declared.effects.Effect.{Effect}
 use Rattle.mips_effect.specs.declared.wish.Wish.{Wish}
 use Rattle.mips_effect.specs.declared.wish.Wish.TheVariants as wish
-use Rattle.mips_plain.specs.Instruction.{handler_after, is_code, kept_after, known, made, step_made}
+use Rattle.mips_plain.specs.Instruction.{handler_after, instruction_or_fault, is_code, kept_after, step_made, step_of_wish}
 use Rattle.mips_plain.specs.Memory.{low_bytes, private_size, word_at}
 use Rattle.mips_plain.proofs.Sizes.{private_size_is}
 use Rattle.journal_round_trip.specs.KeepsRules.{Is32Bit, KeepsCause, KeepsReleased, KeepsStep, KeepsWrites}
@@ -45,7 +45,7 @@ use Rattle.xom_model.specs.declared.reach.Reach.TheVariants as reach
 use Rattle.xom_model.specs.Versions.{StandsFor}
 use Rattle.xom_model.specs.State.{CoreState, holds, session_of, with_cells, with_session}
 use Rattle.xom_model.specs.Access.{access}
-use Rattle.xom_model.specs.Guest.{address_in, after_step, cells_after, code_reached, data_of, data_reached, given_out, guest, moved, null_word, ran, received_by, retired, retires, seen_by, stepped, stored_at, stored_way, tagged, trapped, untagged, word_in, word_loaded, word_tried}
+use Rattle.xom_model.specs.Guest.{address_in, after_effect, after_retirement, after_step, after_trap, cells_after, code_reached, core_after_step, data_of, data_reached, given_out, guest, null_word, received_by, retirement, seen_by, session_after_step, stored_at, stored_way, with_release, with_writes, word_in, word_loaded, word_tried}
 use Rattle.xom_model.specs.Holds.{IsLive, IsRunning}
 use Rattle.xom_model.specs.Null.{cause_argument}
 use Rattle.xom_model.proofs.RamSize.{length-given_out}
@@ -60,21 +60,21 @@ use Rattle.journal_laws.proofs.ShortEffects.{IsShortEffect, IsShortSeen, IsShort
 
 -- ---- Cells
 
-tagged-short : (slot : ℕ) (cells : List Cell) (w : Writes) → KeepsWrites w → All IsShortCell cells → All IsShortCell (tagged slot cells w)
+tagged-short : (slot : ℕ) (cells : List Cell) (w : Writes) → KeepsWrites w → All IsShortCell cells → All IsShortCell (with_writes slot cells w)
 tagged-short slot cells writes.Nothing keeps short = short
 tagged-short slot cells (writes.One reg value) keeps short = All-set IsShortCell cells reg (record { value = value; tag = slot }) keeps.2 short
 tagged-short slot cells (writes.Pair hi lo) keeps short =
     All-set IsShortCell (set cells 32 (record { value = hi; tag = slot })) 33 (record { value = lo; tag = slot }) keeps.1
     (All-set IsShortCell cells 32 (record { value = hi; tag = slot }) keeps.0 short)
 
-untagged-short : (cells : List Cell) (out : Released) → KeepsReleased out → All IsShortCell cells → All IsShortCell (untagged cells out)
+untagged-short : (cells : List Cell) (out : Released) → KeepsReleased out → All IsShortCell cells → All IsShortCell (with_release cells out)
 untagged-short cells released.Nothing keeps short = short
 untagged-short cells (released.Cell reg value) keeps short = All-set IsShortCell cells reg (record { value = value; tag = 0 }) keeps.2 short
 untagged-short cells (released.Null address value) keeps short = short
 
 cells_after-short : (slot : ℕ) (cells : List Cell) (step : Step) → KeepsStep step → All IsShortCell cells → All IsShortCell (cells_after slot cells step)
 cells_after-short slot cells step keeps short =
-    untagged-short (tagged slot cells step.writes) step.released keeps.5 (tagged-short slot cells step.writes keeps.2 short)
+    untagged-short (with_writes slot cells step.writes) step.released keeps.5 (tagged-short slot cells step.writes keeps.2 short)
 
 -- ---- RAM
 
@@ -159,7 +159,7 @@ kept_after-short kept (wish.Ask reg what) short = short
 
 -- what a step stores is in its line
 made-StoresIn : (core : CoreState) (slot place pc npc : ℕ) (written : Writes) (wished : Wish) (word got : ℕ) → ((address : ℕ) → address_in wished ≡ Some address → ((way_at core.ways place).slot ≡ slot) ⊎ (length core.ways ≤ place))
-    → StoresIn core slot place (made pc npc written wished word got).stored
+    → StoresIn core slot place (step_of_wish pc npc written wished word got).stored
 made-StoresIn core slot place pc npc written (wish.Store address count value) word got own = own address refl
 made-StoresIn core slot place pc npc written (wish.Load reg at how old) word got own = tt
 made-StoresIn core slot place pc npc written wish.Nothing word got own = tt
@@ -220,7 +220,7 @@ module _ (core : CoreState) (slot : ℕ) (live : IsLive core slot) (rules : Rule
       }) rules.ways k
 
   pub stepped-holds : (place : ℕ) (session : Session) (step : Step) → KeepsStep step → IsSoundSession core.installs session → is_live session.state ≡ true → StoresIn core slot place step.stored
-      → RulesHold (stepped core slot place session step)
+      → RulesHold (core_after_step core slot place session step)
   stepped-holds place session step keeps sound alive own =
       let cells = cells_after slot core.cells step in
       let ways = stored_at core.ways place step.stored in
@@ -232,7 +232,7 @@ module _ (core : CoreState) (slot : ℕ) (live : IsLive core slot) (rules : Rule
       let fourth = with_session-holds (record base { ram = ram }) third slot session sound (λ _. alive) in
       noted-holds (with_session (record base { ram = ram }) slot session) fourth (entry.Step (session_of core slot).install step) (live-came core rules slot live, keeps) refl
 
-  trapped-holds : (why : Cause) → KeepsCause why → RulesHold (trapped core slot why).0
+  trapped-holds : (why : Cause) → KeepsCause why → RulesHold (after_trap core slot why).0
   trapped-holds why keeps =
       let sound = session-sound core rules slot in
       noted-holds (with_session core slot (paused (session_of core slot)))
@@ -255,7 +255,7 @@ module _ (core : CoreState) (slot : ℕ) (live : IsLive core slot) (rules : Rule
 abbrev pub GoesWell : CoreState × Option Cause → Type 0
 GoesWell result = RulesHold result.0 × IfSome result.1 (λ why. Is32Bit (cause_argument why))
 
-trapped-well : (core : CoreState) (slot : ℕ) (why : Cause) → KeepsCause why → Is32Bit (cause_argument why) → IsLive core slot → RulesHold core → GoesWell (trapped core slot why)
+trapped-well : (core : CoreState) (slot : ℕ) (why : Cause) → KeepsCause why → Is32Bit (cause_argument why) → IsLive core slot → RulesHold core → GoesWell (after_trap core slot why)
 trapped-well core slot why keeps short live rules = (trapped-holds core slot live rules why keeps, short)
 
 rule-short : (why : Rule) → Is32Bit (cause_argument (cause.Stopped why))
@@ -283,7 +283,7 @@ module _ (core : CoreState) (slot : ℕ) (interrupt : Bool) (live : IsLive core 
   made_step = step_made (session_of core slot).pc (session_of core slot).npc effect word (received_by core.cells core.ram effect.wish)
 
   abbrev its : Session
-  its = moved (session_of core slot) effect made_step
+  its = session_after_step (session_of core slot) effect made_step
 
   moved-sound : IsSoundSession core.installs its
   moved-sound =
@@ -300,9 +300,9 @@ module _ (core : CoreState) (slot : ℕ) (interrupt : Bool) (live : IsLive core 
         install = λ _. live-came core rules slot live;
       }
 
-  retires-well : KeepsStep made_step → ((address : ℕ) → address_in effect.wish ≡ Some address → ((way_at core.ways place).slot ≡ slot) ⊎ (length core.ways ≤ place)) → GoesWell (retires core slot interrupt effect word place)
+  retires-well : KeepsStep made_step → ((address : ℕ) → address_in effect.wish ≡ Some address → ((way_at core.ways place).slot ≡ slot) ⊎ (length core.ways ≤ place)) → GoesWell (retirement core slot interrupt effect word place)
   retires-well keeps own =
-      let after = retired core slot place effect made_step in
+      let after = after_retirement core slot place effect made_step in
       let now : IsLive after slot = ap (λ (t : Session). is_live t.state) (get_or-set_same core.sessions slot its free (live-within core.sessions slot live)) ∙ live in
       after_step-well after slot interrupt made_step keeps now
       (stepped-holds core slot live rules place its made_step keeps moved-sound live (step-StoresIn core slot place (session_of core slot).pc (session_of core slot).npc effect word (received_by core.cells core.ram effect.wish) own))
@@ -354,12 +354,12 @@ module _ (v : Versions) (Stands : StandsFor) (law : VersionLaw v Stands) (hashes
       data-well core effect (access v core slot (address / 32)) runs short ranged sound.pc sound.npc (reached core (address / 32) runs)
       (access-holds v Stands law hashes core slot (address / 32) (address-low effect.wish address ranged.wish is) (rw runs refl) rules)
 
-  ran-well : (core : CoreState) (word : ℕ) (result : Result Effect OwnFault) → word_tried v core slot word ≡ result → IsRunning core slot → RulesHold core → GoesWell (ran v core slot interrupt result)
+  ran-well : (core : CoreState) (word : ℕ) (result : Result Effect OwnFault) → word_tried v core slot word ≡ result → IsRunning core slot → RulesHold core → GoesWell (after_effect v core slot interrupt result)
   ran-well core word (Err why) is runs rules = trapped-well core slot (cause.Fault why) tt (fault-short why) (rw runs refl) rules
   ran-well core word (Ok effect) is runs rules =
       let s = session_of core slot in
       let sound = session-sound core rules slot in
-      let found = known (read word) in
+      let found = instruction_or_fault (read word) in
       let fits = known-Fits word in
       let short = tried-IsShortEffect (seen_by slot core.cells) s.saved found s.pc s.npc effect fits (seen_by-short core slot rules) sound.saved sound.npc is in
       let ranged = tried-Ranged (seen_by slot core.cells) s.saved found s.pc s.npc effect fits is in
@@ -379,6 +379,6 @@ module _ (v : Versions) (Stands : StandsFor) (law : VersionLaw v Stands) (hashes
   unfolding guest
   guest-well core runs rules =
       let pc = (session_of core slot).pc in
-      cond_both (is_code pc) (code_reached v slot interrupt (access v core slot (pc / 32))) (trapped core slot (cause.Fault own_fault.Address)) GoesWell
+      cond_both (is_code pc) (code_reached v slot interrupt (access v core slot (pc / 32))) (after_trap core slot (cause.Fault own_fault.Address)) GoesWell
       (λ is. code-well core (access v core slot (pc / 32)) runs (reached core (pc / 32) runs) (access-holds v Stands law hashes core slot (pc / 32) (code-low pc is) (rw runs refl) rules))
       (λ _. trapped-well core slot (cause.Fault own_fault.Address) tt (lit< tt) (rw runs refl) rules)

@@ -19,7 +19,7 @@ use Rattle.mips_effect.specs.declared.wish.Asked.{Asked}
 use Rattle.mips_effect.specs.declared.wish.Asked.TheVariants as asked
 use Rattle.mips_effect.specs.declared.wish.Wish.{Wish}
 use Rattle.mips_effect.specs.declared.wish.Wish.TheVariants as wish
-use Rattle.mips_plain.specs.Instruction.{known}
+use Rattle.mips_plain.specs.Instruction.{instruction_or_fault}
 use Rattle.mips_plain.specs.Memory.{low_bytes, word_at}
 use Rattle.journal_round_trip.specs.KeepsRules.{Is32Bit}
 use Rattle.tag_regs.specs.declared.cell.Cell.{Cell}
@@ -27,7 +27,7 @@ use Rattle.tag_regs.specs.TaggedCells.{cell_at, empty}
 use Rattle.xom_model.specs.declared.outcome.NullFault.{NullFault}
 use Rattle.xom_model.specs.declared.outcome.NullFault.TheVariants as null
 use Rattle.xom_model.specs.State.{holds}
-use Rattle.xom_model.specs.Null.{Answer, Open, Told, answer_of, cause_argument, cause_number, fetched_open, granted, loaded_open, null_step, opened, passed, ran_open, seen_open, stopped_by, stored_open, tried_open, went}
+use Rattle.xom_model.specs.Null.{Answer, Open, Told, answer_of, cause_argument, cause_number, done_answer, fetched_open, loaded_open, null_step, open_after, ran_open, seen_open, stopped_by, stored_open, tried_open, wish_answer, with_null_writes}
 use Rattle.journal_laws.specs.RulesOfRecord.{IsShortCell, IsShortOp}
 use Rattle.journal_laws.proofs.PlainBytes.{bytes-low, bytes-written}
 use Rattle.journal_laws.proofs.RuledParts.{All-at}
@@ -83,13 +83,13 @@ fetched_open-Fits : (ram : List ℕ) (pc : ℕ) (ins : Ins) → fetched_open ram
 unfolding fetched_open
 fetched_open-Fits ram pc ins is = by_test _ is
   where
-    by_test : (b : Bool) → cond b (known (read (word_at ram pc))) (Err fault.Address) ≡ Ok ins → Fits ins
+    by_test : (b : Bool) → cond b (instruction_or_fault (read (word_at ram pc))) (Err fault.Address) ≡ Ok ins → Fits ins
     by_test true its = known-Fits (word_at ram pc) ins its
     by_test false its = absurd (cc)
 
 -- ---- What it does
 
-opened-short : (cells : List Cell) (written : Writes) → AreShortWrites written → All IsShortCell cells → All IsShortCell (opened cells written)
+opened-short : (cells : List Cell) (written : Writes) → AreShortWrites written → All IsShortCell cells → All IsShortCell (with_null_writes cells written)
 opened-short cells writes.Nothing keeps short = short
 opened-short cells (writes.One reg value) keeps short = All-set IsShortCell cells reg (record { value = value; tag = 0 }) keeps short
 opened-short cells (writes.Pair hi lo) keeps short =
@@ -97,22 +97,22 @@ opened-short cells (writes.Pair hi lo) keeps short =
     (All-set IsShortCell cells 32 (record { value = hi; tag = 0 }) keeps.0 short)
 
 module _ (told : Told) (s : Open) (short_told : IsShortTold told) (sound : IsOpenPart s) where
-  passed-open : (effect : Effect) (written : Writes) → IsShortEffect effect → AreShortWrites written → IsOpenPart (passed s effect written)
+  passed-open : (effect : Effect) (written : Writes) → IsShortEffect effect → AreShortWrites written → IsOpenPart (open_after s effect written)
   passed-open effect written short keeps = record { cells = opened-short s.cells written keeps sound.cells; ram = sound.ram; npc = short.npc }
 
   stopped-open : (why : NullFault) → GoesOpen (stopped_by s why)
   stopped-open why = (sound, tt)
 
-  granted-open : (effect : Effect) (wished : Wish) → effect.wish ≡ wished → IsShortEffect effect → GoesOpen (granted told s effect wished)
+  granted-open : (effect : Effect) (wished : Wish) → effect.wish ≡ wished → IsShortEffect effect → GoesOpen (wish_answer told s effect wished)
   granted-open effect wish.Nothing is short = (passed-open effect effect.writes short short.writes, tt)
   granted-open effect (wish.Load reg address how old) is short =
       let low : Is32Bit old = (let all = short.wish in rw is at all) in
       let value = merge_of-short how old address (word_at s.ram (address - address % 4)) low (word_at-short s.ram (address - address % 4) sound.ram) in
-      cond_both (holds s.ram (address - address % 4) 4) (went (passed s effect (set_register reg (loaded_open s.ram how old address)))) (stopped_by s null.Address) GoesOpen
+      cond_both (holds s.ram (address - address % 4) 4) (done_answer (open_after s effect (set_register reg (loaded_open s.ram how old address)))) (stopped_by s null.Address) GoesOpen
       (λ _. (passed-open effect (set_register reg (loaded_open s.ram how old address)) short (set-short reg (loaded_open s.ram how old address) value), tt)) (λ _. stopped-open null.Address)
   granted-open effect (wish.Store address count value) is short =
       let next = passed-open effect effect.writes short short.writes in
-      cond_both (holds s.ram address count) (went (stored_open (passed s effect effect.writes) address (low_bytes count value))) (stopped_by s null.Address) GoesOpen
+      cond_both (holds s.ram address count) (done_answer (stored_open (open_after s effect effect.writes) address (low_bytes count value))) (stopped_by s null.Address) GoesOpen
       (λ _. (record { cells = next.cells; ram = bytes-written s.ram address (low_bytes count value) sound.ram (bytes-low count value); npc = next.npc }, tt)) (λ _. stopped-open null.Address)
   granted-open effect (wish.Call code) is short = stopped-open null.Call
   granted-open effect (wish.Do operation) is short = (passed-open effect effect.writes short short.writes, let all = short.wish in rw is at all)

@@ -31,13 +31,13 @@ use Rattle.session_table.specs.Sessions.{entered, free, is_live, resumed}
 use Rattle.xom_versions.specs.Store.{area_size}
 use Rattle.xom_versions.specs.Versions.{VersionLaw, Versions}
 use Rattle.xom_model.specs.Versions.{StandsFor}
-use Rattle.xom_model.specs.State.{CoreState, holds, noted, session_of, with_cells, with_session}
+use Rattle.xom_model.specs.State.{CoreState, holds, session_of, with_cells, with_entry, with_session}
 use Rattle.xom_model.specs.Lines.{who_of}
 use Rattle.xom_model.specs.Saves.{reg_accept_entry, reg_keys, reg_name, reg_seal_entry, saved_at, sealed_reg, with_saved}
-use Rattle.xom_model.specs.Access.{dropped, flushed}
-use Rattle.xom_model.specs.Guest.{delivered, signal_of, signalled}
+use Rattle.xom_model.specs.Access.{after_flush, without_guest}
+use Rattle.xom_model.specs.Guest.{after_delivery, session_after_signal, signal_of}
 use Rattle.xom_model.specs.Holds.{FramesFit, IsLive}
-use Rattle.xom_model.specs.Operation.{enter, envelope_at, epoch_of, go_on, image_tests, install, install_tests, installed, is_cell, is_missing, is_slot, kill, kill_tests, killed, map_page, map_tests, missing, missing_from, operation, reopen, reopened, restore_register, restore_tests, restored, resume, save_register, save_tests, saved, session_for, set_register, takes, tested, unmap_page, unmap_tests, unmapped, unwrap, with_signal}
+use Rattle.xom_model.specs.Operation.{after_install, after_kill, after_reopening, after_restore, after_save, after_unmap, enter, envelope_at, epoch_of, first_refusal_or, go_on, image_tests, install, install_tests, is_cell, is_missing, is_slot, kill, kill_tests, map_page, map_tests, missing_cell, missing_from, operation, reopening, restore_register, restore_tests, resume, save_register, save_tests, session_for, set_register, slot_takes_signal, unmap_page, unmap_tests, unwrap, with_signal}
 use Rattle.xom_model.proofs.WalkEvents.{good_slot, paused_live, slot_from}
 use Rattle.journal_laws.specs.RulesOfRecord.{StoresKeepRules, IsShortCell, IsShortOp, IsSoundSession, RulesHold}
 use Rattle.journal_laws.proofs.PlainBytes.{bytes-number, bytes-take, bytes-drop, bytes-written, envelope_message-payload, from_be_bytes-short, key_masked-payload, register_aes-bytes, register_masked-bytes, register_masked-short, register_message-payload, register_tag-bytes, register_tag-payload, register_tag-size}
@@ -61,10 +61,10 @@ abbrev AreShort : List (Bool × ℕ) → Type 0
 AreShort [] = Unit {0}
 AreShort (test ∷ tests) = Is32Bit test.1 × AreShort tests
 
-tested-well : (core : CoreState) (tests : List (Bool × ℕ)) (deed : CoreState × ℕ) → RulesHold core → AreShort tests → (Passes tests → DoesWell deed) → DoesWell (tested core tests deed)
+tested-well : (core : CoreState) (tests : List (Bool × ℕ)) (deed : CoreState × ℕ) → RulesHold core → AreShort tests → (Passes tests → DoesWell deed) → DoesWell (first_refusal_or core tests deed)
 tested-well core [] deed rules short does = does tt
 tested-well core (test ∷ tests) deed rules short does =
-    cond_both test.0 (core, test.1) (tested core tests deed) DoesWell (λ _. (rules, short.0)) (λ passed. tested-well core tests deed rules short.1 (λ rest. does (passed, rest)))
+    cond_both test.0 (core, test.1) (first_refusal_or core tests deed) DoesWell (λ _. (rules, short.0)) (λ passed. tested-well core tests deed rules short.1 (λ rest. does (passed, rest)))
 
 not-false : (b : Bool) → not b ≡ false → b ≡ true
 not-false true is = refl
@@ -95,8 +95,8 @@ missing_from-below slot mask cells (suc count) reg lost is =
       | false ↦ λ later. let low = missing_from-below slot mask cells count (reg + 1) lost later in omega arith
     ] is
 
-missing-short : (slot mask : ℕ) (cells : List Cell) (lost : ℕ) → missing slot mask cells ≡ Some lost → lost < 2 ^ 8
-unfolding missing
+missing-short : (slot mask : ℕ) (cells : List Cell) (lost : ℕ) → missing_cell slot mask cells ≡ Some lost → lost < 2 ^ 8
+unfolding missing_cell
 missing-short slot mask cells lost is = let low = missing_from-below slot mask cells 33 1 lost is in omega arith
 
 module _ (core : CoreState) (rules : RulesHold core) where
@@ -143,8 +143,8 @@ signal-holds : (core : CoreState) (slot signal : ℕ) → signal < 2 ^ 32 → Is
 signal-holds core slot signal short live rules =
     let s = session_of core slot in
     let sound = session-sound core rules slot in
-    cond_both (signal == 0) core (delivered core slot signal) RulesHold (λ _. rules)
-    (λ _. stepped-holds core slot live rules 0 (signalled s signal) (signal_of s signal) (sound.pc, sound.npc, (lit≤ tt, lit< tt, short), tt, short, tt, tt) (record {
+    cond_both (signal == 0) core (after_delivery core slot signal) RulesHold (λ _. rules)
+    (λ _. stepped-holds core slot live rules 0 (session_after_signal s signal) (signal_of s signal) (sound.pc, sound.npc, (lit≤ tt, lit< tt, short), tt, short, tt, tt) (record {
       entry = sound.entry;
       pc = sound.handler;
       npc = omega arith;
@@ -175,7 +175,7 @@ module _ (core : CoreState) (rules : RulesHold core) (slot signal : ℕ) (is : (
         install = λ _. live-came core rules slot live-here;
       }) (λ _. refl)
 
-  go_on-well : (lost : Option ℕ) → missing slot (session_of core slot).mask core.cells ≡ lost → DoesWell (go_on core slot signal lost)
+  go_on-well : (lost : Option ℕ) → missing_cell slot (session_of core slot).mask core.cells ≡ lost → DoesWell (go_on core slot signal lost)
   go_on-well None none =
       let now = with_session core slot (resumed (session_of core slot)) in
       let alive : IsLive now slot = ap (λ (s : Session). is_live s.state) (get_or-set_same core.sessions slot (resumed (session_of core slot)) free (live-within core.sessions slot live-here)) in
@@ -188,9 +188,9 @@ resume-well core rules slot signal state.Free is = refused-well core rules 1 (li
 resume-well core rules slot signal state.Fresh is = refused-well core rules 2 (lit< tt)
 resume-well core rules slot signal state.Running is = refused-well core rules 2 (lit< tt)
 resume-well core rules slot signal state.Paused is =
-    let gap = missing slot (session_of core slot).mask core.cells in
-    either-well core rules (nat_le signal 63) (cond (takes (session_of core slot) signal) (go_on core slot signal gap) (core, 2)) (core, 7)
-    (λ few. either-well core rules (takes (session_of core slot) signal) (go_on core slot signal gap) (core, 2)
+    let gap = missing_cell slot (session_of core slot).mask core.cells in
+    either-well core rules (nat_le signal 63) (cond (slot_takes_signal (session_of core slot) signal) (go_on core slot signal gap) (core, 2)) (core, 7)
+    (λ few. either-well core rules (slot_takes_signal (session_of core slot) signal) (go_on core slot signal gap) (core, 2)
     (λ _. go_on-well core rules slot signal is (grind (arith, nat_tests)) gap refl) (refused-well core rules 2 (lit< tt))) (refused-well core rules 7 (lit< tt))
 resume-well core rules slot signal state.Ended is = refused-well core rules 2 (lit< tt)
 resume-well core rules slot signal (state.Stopped why) is = refused-well core rules 2 (lit< tt)
@@ -207,8 +207,8 @@ with_saved-size ram address sealed ct tag within =
     let first : length once ≡ length ram = length-written_at ram address sealed.ct (omega arith) in
     length-written_at once (address + 4) sealed.tag (omega arith) ∙ first
 
-saved-holds : (core : CoreState) (slot reg address : ℕ) → reg < 34 → address + 36 ≤ length core.ram → RulesHold core → RulesHold (saved core slot reg address)
-unfolding saved
+saved-holds : (core : CoreState) (slot reg address : ℕ) → reg < 34 → address + 36 ≤ length core.ram → RulesHold core → RulesHold (after_save core slot reg address)
+unfolding after_save
 saved-holds core slot reg address low within rules =
     let who = who_of core slot in
     let epoch = epoch_of core slot in
@@ -220,20 +220,20 @@ saved-holds core slot reg address low within rules =
     let few = register_masked-short name keys (to_be_bytes w32 value) in
     let e = reg_seal_entry who epoch reg value in
     let first = noted-holds core rules e (register_tag-payload who.key who.boot who.install epoch, register_message-payload name sealed.ct (omega arith) cts (omega arith)) refl in
-    with_ram-holds (noted core e) first (with_saved core.ram address sealed)
+    with_ram-holds (with_entry core e) first (with_saved core.ram address sealed)
     (with_saved-bytes core.ram address sealed rules.ram cts (register_tag-bytes name keys sealed.ct)) (with_saved-size core.ram address sealed few (register_tag-size name keys sealed.ct) within)
 
 save-well : (core : CoreState) (slot reg address : ℕ) → RulesHold core → DoesWell (save_register core slot reg address)
 save-well core slot reg address rules =
-    tested-well core (save_tests core slot reg address) (saved core slot reg address, 0) rules (lit< tt, (lit< tt, (lit< tt, (lit< tt, (lit< tt, tt))))) (λ (p : Passes (save_tests core slot reg address)).
+    tested-well core (save_tests core slot reg address) (after_save core slot reg address, 0) rules (lit< tt, (lit< tt, (lit< tt, (lit< tt, (lit< tt, tt))))) (λ (p : Passes (save_tests core slot reg address)).
     (saved-holds core slot reg address (cell-low reg p.1.1.0) (range-held core.ram address 36 (not-false (holds core.ram address 36) p.1.1.1.0)) rules, lit< tt))
 
 module _ (core : CoreState) (slot reg address : ℕ) (rules : RulesHold core) (low : reg < 34) (within : address + 36 ≤ length core.ram) (live : IsLive core slot) where
   abbrev its_ct : List ℕ
   its_ct = (saved_at core.ram address).ct
 
-  restored-holds : (value : ℕ) → Is32Bit value → RulesHold (restored core slot reg address value)
-  unfolding restored
+  restored-holds : (value : ℕ) → Is32Bit value → RulesHold (after_restore core slot reg address value)
+  unfolding after_restore
   restored-holds value short =
       let who = who_of core slot in
       let epoch = epoch_of core slot in
@@ -242,13 +242,13 @@ module _ (core : CoreState) (slot reg address : ℕ) (rules : RulesHold core) (l
       let few = take-short 4 (drop address core.ram) in
       let first = noted-holds core rules e (register_tag-payload who.key who.boot who.install epoch, register_message-payload (reg_name who epoch reg) its_ct (omega arith) (part-bytes core.ram address 4 rules.ram) (omega arith), omega arith) refl in
       let cells = set core.cells reg (record { value = value; tag = slot }) in
-      with_cells-holds (noted core e) first cells (All-set IsShortCell core.cells reg (record { value = value; tag = slot }) short rules.cells)
+      with_cells-holds (with_entry core e) first cells (All-set IsShortCell core.cells reg (record { value = value; tag = slot }) short rules.cells)
 
-  reopened-well : (opens : Option ℕ) → IfSome opens Is32Bit → DoesWell (reopened core slot reg address opens)
+  reopened-well : (opens : Option ℕ) → IfSome opens Is32Bit → DoesWell (after_reopening core slot reg address opens)
   reopened-well None short = (stopped-holds core slot (rule.RegisterTag reg) (omega arith) live rules, lit< tt)
   reopened-well (Some value) short = (restored-holds value short, lit< tt)
 
-  reopen-well : DoesWell (reopen core slot reg address)
+  reopen-well : DoesWell (reopening core slot reg address)
   reopen-well =
       let who = who_of core slot in
       let epoch = epoch_of core slot in
@@ -260,7 +260,7 @@ module _ (core : CoreState) (slot reg address : ℕ) (rules : RulesHold core) (l
 
 restore-well : (core : CoreState) (slot reg address : ℕ) → RulesHold core → DoesWell (restore_register core slot reg address)
 restore-well core slot reg address rules =
-    tested-well core (restore_tests core slot reg address) (reopen core slot reg address) rules (lit< tt, (lit< tt, (lit< tt, (lit< tt, (lit< tt, tt))))) (λ (p : Passes (restore_tests core slot reg address)).
+    tested-well core (restore_tests core slot reg address) (reopening core slot reg address) rules (lit< tt, (lit< tt, (lit< tt, (lit< tt, (lit< tt, tt))))) (λ (p : Passes (restore_tests core slot reg address)).
     reopen-well core slot reg address rules (cell-low reg p.1.1.0) (range-held core.ram address 36 (not-false (holds core.ram address 36) p.1.1.1.0)) (paused_live (session_of core slot).state p.1.0))
 
 -- ---- Pages
@@ -285,24 +285,24 @@ map-well v core slot page frame rules =
     ))
 
 module _ (v : Versions) (Stands : StandsFor) (law : VersionLaw v Stands) (hashes : StoresKeepRules v) where
-  unmapped-well : (slot page : ℕ) (result : CoreState × Option Rule) → RulesHold result.0 → DoesWell (unmapped v slot page result)
+  unmapped-well : (slot page : ℕ) (result : CoreState × Option Rule) → RulesHold result.0 → DoesWell (after_unmap v slot page result)
   unmapped-well slot page (core, None) rules =
       (with_pages-holds core rules (with_page core.pages slot page None) (with_page-fits core.pages core.ram slot page None (λ f is. absurd (cc)) rules.frames), lit< tt)
   unmapped-well slot page (core, Some why) rules = (rules, lit< tt)
 
   unmap-well : (core : CoreState) (slot page : ℕ) → RulesHold core → DoesWell (unmap_page v core slot page)
   unmap-well core slot page rules =
-      tested-well core (unmap_tests core slot page) (unmapped v slot page (flushed v slot 128 (128 * page) core)) rules (lit< tt, (lit< tt, (lit< tt, (lit< tt, tt))))
-      (λ _. unmapped-well slot page (flushed v slot 128 (128 * page) core) (flushed-holds v Stands law hashes slot 128 (128 * page) core rules))
+      tested-well core (unmap_tests core slot page) (after_unmap v slot page (after_flush v slot 128 (128 * page) core)) rules (lit< tt, (lit< tt, (lit< tt, (lit< tt, tt))))
+      (λ _. unmapped-well slot page (after_flush v slot 128 (128 * page) core) (flushed-holds v Stands law hashes slot 128 (128 * page) core rules))
 
   -- ---- Kill
 
   kill-well : (core : CoreState) (slot : ℕ) → RulesHold core → DoesWell (kill v core slot)
-  unfolding dropped
+  unfolding without_guest
   kill-well core slot rules =
-      tested-well core (kill_tests core slot) (killed v core slot, 0) rules (lit< tt, tt) (λ (p : Passes (kill_tests core slot)).
+      tested-well core (kill_tests core slot) (after_kill v core slot, 0) rules (lit< tt, tt) (λ (p : Passes (kill_tests core slot)).
       let came = (session-sound core rules slot).install (good_slot core slot p.0).1 in
-      (noted-holds (with_session (dropped core slot) slot free) (out-holds core rules slot free (free-IsSoundSession core.installs)) (entry.Kill (session_of core slot).install) came refl, lit< tt))
+      (noted-holds (with_session (without_guest core slot) slot free) (out-holds core rules slot free (free-IsSoundSession core.installs)) (entry.Kill (session_of core slot).install) came refl, lit< tt))
 
   -- ---- Install
 
@@ -352,8 +352,8 @@ module _ (v : Versions) (Stands : StandsFor) (law : VersionLaw v Stands) (hashes
     area-fits None is = tt
     area-fits (Some kept) is = subst (λ a. HoldsRange core.ram a area_size) (sym (is kept refl)) roomy
 
-    said-installed : RulesHold (installed v core slot place area said)
-    unfolding installed
+    said-installed : RulesHold (after_install v core slot place area said)
+    unfolding after_install
     said-installed =
         let s = session_for core said in
         let accept = entry.Accept core.machine.0 (envelope_message envelope) place in
@@ -362,7 +362,7 @@ module _ (v : Versions) (Stands : StandsFor) (law : VersionLaw v Stands) (hashes
         let store = v.store_after_build area said.lines core.ram in
         let ram = v.ram_after_build area said.lines core.ram in
         let first = noted-holds core rules accept (rules.machine, envelope_message-payload envelope envelope-bytes, short-place) refl in
-        let second = install-holds (noted core accept) first slot s made (refl, few, from, omega arith, sound.id, said-id, short-place, sound.entry, said-lines) refl sound refl in
+        let second = install-holds (with_entry core accept) first slot s made (refl, few, from, omega arith, sound.id, said-id, short-place, sound.entry, said-lines) refl sound refl in
         let c2 = record core { sessions = set core.sessions slot s; installs = core.installs + 1; entries = (core.entries ++ accept ∷ []) ++ made ∷ [] } in
         let third = with_store-holds c2 second slot store (area-fits store.area (λ kept is. law.area_after_build area said.lines kept core.ram is)) in
         let c3 = record c2 { stores = set core.stores slot store } in
@@ -376,7 +376,7 @@ module _ (v : Versions) (Stands : StandsFor) (law : VersionLaw v Stands) (hashes
     unwrap-well (Some plain) is =
         let same : said ≡ plain = (let_through (tag_in envelope) (envelope_tag core.machine envelope) said plain is).1 in
         subst (λ plain. DoesWell (unwrap v core slot place area (Some plain))) same
-        (tested-well core (image_tests core said) (installed v core slot place area said, 0) rules (lit< tt, tt) (λ _. (said-installed, lit< tt)))
+        (tested-well core (image_tests core said) (after_install v core slot place area said, 0) rules (lit< tt, tt) (λ _. (said-installed, lit< tt)))
 
   install-well : (core : CoreState) (slot place area : ℕ) → core.installs + 1 < 2 ^ 64 → RulesHold core → DoesWell (install v core slot place area)
   install-well core slot place area few rules =

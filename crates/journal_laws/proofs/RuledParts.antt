@@ -20,8 +20,8 @@ use Rattle.session_table.specs.declared.session.SlotState.{SlotState}
 use Rattle.session_table.specs.declared.session.SlotState.TheVariants as state
 use Rattle.session_table.specs.Sessions.{free, is_live, session_at}
 use Rattle.xom_versions.specs.Store.{HoldsArea, Store, hash_entry}
-use Rattle.xom_model.specs.State.{CoreState, hashed, no_store, noted, session_of, store_of, with_cells, with_session, with_way}
-use Rattle.xom_model.specs.Access.{dropped}
+use Rattle.xom_model.specs.State.{CoreState, core_with_hashes, no_store, session_of, store_of, with_cells, with_entry, with_session, with_way}
+use Rattle.xom_model.specs.Access.{without_guest}
 use Rattle.xom_model.specs.Operation.{is_free_state}
 use Rattle.xom_model.specs.Holds.{FramesFit, IsLive}
 use Rattle.xom_model.proofs.Gone.{free_if-other, less, pages-gone, pages-other, way-without}
@@ -153,7 +153,7 @@ module _ (core : CoreState) (holds : RulesHold core) where
   pub cell-short : (reg : ℕ) → Is32Bit (cell_at core.cells reg).value
   cell-short reg = All-at IsShortCell core.cells reg empty (lit< tt) holds.cells
 
-  pub noted-holds : (e : Entry) → KeepsEntry core.installs e → last_behind core.installs e ≡ core.installs → RulesHold (noted core e)
+  pub noted-holds : (e : Entry) → KeepsEntry core.installs e → last_behind core.installs e ≡ core.installs → RulesHold (with_entry core e)
   noted-holds e keeps same = record {
     journal = KeepsRulesBehind-append 0 core.entries e holds.journal (subst (λ last. KeepsEntry last e) (sym holds.last) keeps);
     last = last_install-append 0 core.entries e ∙ ap (λ last. last_behind last e) holds.last ∙ same;
@@ -299,8 +299,8 @@ module _ (core : CoreState) (holds : RulesHold core) where
     | inr differs ↦ holds.frames k page frame (sym (pages-other core.pages slot k page differs.1) ∙ is)
   ]
 
-  pub out-holds : (slot : ℕ) (s : Session) → IsSoundSession core.installs s → RulesHold (with_session (dropped core slot) slot s)
-  unfolding dropped
+  pub out-holds : (slot : ℕ) (s : Session) → IsSoundSession core.installs s → RulesHold (with_session (without_guest core slot) slot s)
+  unfolding without_guest
   out-holds slot s sound = record {
     journal = holds.journal;
     last = holds.last;
@@ -317,10 +317,10 @@ module _ (core : CoreState) (holds : RulesHold core) where
   }
 
 -- the texts that were hashed
-pub hashed-holds : (core : CoreState) (texts : List (List ℕ)) → All (KeepsPayload 260) texts → RulesHold core → RulesHold (hashed core texts)
+pub hashed-holds : (core : CoreState) (texts : List (List ℕ)) → All (KeepsPayload 260) texts → RulesHold core → RulesHold (core_with_hashes core texts)
 hashed-holds core [] all holds = subst (λ es. RulesHold (record core { entries = es })) (sym (append-nil core.entries)) holds
 hashed-holds core (text ∷ texts) all holds =
     let e = hash_entry text in
     let first = noted-holds core holds e (All-head (KeepsPayload 260) text texts all, bytes-sha256 text, length-sha256 text, refl) refl in
     subst (λ es. RulesHold (record core { entries = es })) (append_assoc core.entries (e ∷ []) (map hash_entry texts))
-    (hashed-holds (noted core e) texts (All-tail (KeepsPayload 260) text texts all) first)
+    (hashed-holds (with_entry core e) texts (All-tail (KeepsPayload 260) text texts all) first)

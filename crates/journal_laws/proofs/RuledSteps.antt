@@ -17,7 +17,7 @@ use Rattle.mips_effect.specs.declared.wish.LoadKind.{LoadKind}
 use Rattle.mips_effect.specs.declared.wish.LoadKind.TheVariants as kind
 use Rattle.mips_effect.specs.declared.wish.Wish.{Wish}
 use Rattle.mips_effect.specs.declared.wish.Wish.TheVariants as wish
-use Rattle.mips_plain.specs.Instruction.{known, made, returned, step_made, tried, with_return}
+use Rattle.mips_plain.specs.Instruction.{effect_at, instruction_or_fault, step_made, step_of_wish, with_kept_pair, with_return}
 use Rattle.mips_plain.specs.Memory.{word_at}
 use Rattle.journal_round_trip.specs.KeepsRules.{Is32Bit, KeepsStep, KeepsWrites}
 use Rattle.journal_laws.specs.RulesOfRecord.{IsShortPair}
@@ -73,13 +73,13 @@ KeepsWrites-of (writes.One reg value) cells short = (cells.0, cells.1, short)
 KeepsWrites-of (writes.Pair hi lo) cells short = short
 
 KeepsWrites-set : (reg value : ℕ) → reg < 32 → Is32Bit value → KeepsWrites (set_register reg value)
-KeepsWrites-set reg value known short =
+KeepsWrites-set reg value instruction_or_fault short =
     cond_both (reg == 0) _ _ KeepsWrites (λ _. tt) (λ some. let differs =
     eqb-false reg 0 some in (omega arith, omega arith, short))
 
 module _ (pc npc word got : ℕ) (short_pc : Is32Bit pc) (short_npc : Is32Bit npc) (short_word : Is32Bit word) (short_got : Is32Bit got) where
   made-KeepsStep : (written : Writes) (wished : Wish) → KeepsWrites written → IsInRange wished
-      → IsShortWish wished → KeepsStep (made pc npc written wished word got)
+      → IsShortWish wished → KeepsStep (step_of_wish pc npc written wished word got)
   made-KeepsStep written wish.Nothing keeps range short =
       (short_pc, short_npc, keeps, tt, tt, tt, tt)
   made-KeepsStep written (wish.Load reg address how old) keeps range short =
@@ -117,10 +117,10 @@ module _ (pc npc word got : ℕ) (short_pc : Is32Bit pc) (short_npc : Is32Bit np
       made-KeepsStep effect.writes effect.wish (KeepsWrites-of effect.writes ranged.writes short.writes) ranged.wish short.wish
 
 -- an instruction that is read has its operands in their ranges
-pub known-Fits : (word : ℕ) (ins : Ins) → known (read word) ≡ Ok ins → Fits ins
+pub known-Fits : (word : ℕ) (ins : Ins) → instruction_or_fault (read word) ≡ Ok ins → Fits ins
 known-Fits word ins is = by_found (read word) refl is
   where
-    by_found : (found : Option Ins) → read word ≡ found → known found ≡ Ok ins → Fits ins
+    by_found : (found : Option Ins) → read word ≡ found → instruction_or_fault found ≡ Ok ins → Fits ins
     by_found None has its = absurd (cc)
     by_found (Some i) has its = let same : i ≡ ins = cc in subst Fits same (read-Fits i word has)
 
@@ -150,14 +150,14 @@ returned-short_at kept before effect (wish.Call code) pair short is = ok_short b
 returned-short_at kept before effect (wish.Do operation) pair short is = ok_short before effect short is
 returned-short_at kept before effect (wish.Ask reg what) pair short is = ok_short before effect short is
 
-returned-short : (kept : Option (ℕ × ℕ)) (found : Result Effect OwnFault) (effect : Effect) → IfSome kept IsShortPair → ((before : Effect) → found ≡ Ok before → IsShortEffect before) → returned kept found ≡ Ok effect → IsShortEffect effect
+returned-short : (kept : Option (ℕ × ℕ)) (found : Result Effect OwnFault) (effect : Effect) → IfSome kept IsShortPair → ((before : Effect) → found ≡ Ok before → IsShortEffect before) → with_kept_pair kept found ≡ Ok effect → IsShortEffect effect
 returned-short kept (Err fault) effect pair short is = absurd (cc)
 returned-short kept (Ok before) effect pair short is = returned-short_at kept before effect before.wish pair (short before refl) is
 
 -- an effect that is tried is short where what is seen is, and the pair that a signal kept
 pub tried-IsShortEffect : (see : ℕ → Seen) (kept : Option (ℕ × ℕ)) (found : Result Ins OwnFault) (pc npc : ℕ) (effect : Effect)
     → ((ins : Ins) → found ≡ Ok ins → Fits ins) → ((reg : ℕ) → IsShortSeen (see reg)) → IfSome kept IsShortPair → Is32Bit npc
-    → tried see kept found pc npc ≡ Ok effect → IsShortEffect effect
+    → effect_at see kept found pc npc ≡ Ok effect → IsShortEffect effect
 tried-IsShortEffect see kept (Err fault) pc npc effect fits short pair short_npc is = absurd (cc)
 tried-IsShortEffect see kept (Ok ins) pc npc effect fits short pair short_npc is =
     returned-short kept _ effect pair (λ before found. effect_of-IsShortEffect ins Guest _ _ _ pc npc before (fits ins refl) (short _) (short _) (short _) short_npc found) is

@@ -7,14 +7,14 @@ use Rattle.xom_script.specs.declared.script_line.ScriptLine.{ScriptLine}
 use Rattle.xom_versions.specs.Versions.{Versions}
 use Rattle.xom_model.specs.declared.outcome.Turn.{Turn}
 use Rattle.xom_model.specs.State.{Record}
-use Rattle.xom_model.specs.Event.{running}
+use Rattle.xom_model.specs.Event.{running_slot}
 use Rattle.xom_model.specs.Seen.{View, view_of}
-use Rattle.xom_model.specs.Run.{one_event, own_event, poke_at, run_from, turned}
+use Rattle.xom_model.specs.Run.{after_turn, one_event, own_event, poke_at, run_from}
 use Rattle.kernels.specs.Turns.{image_told, script_told}
 
 module _ (v : Versions) {K : Type 0} (told : K → View → Option (Turn × (List ℕ × K))) (schedule : Schedule) (next : ℕ → Record → K → Option Record)
     (some : (g : ℕ) (r : Record) (k : K) → IsSome (next g r k)) where
-  turned-some : (g : ℕ) (r : Record) (turn : Option (Turn × (List ℕ × K))) → IsSome turn → IsSome (turned v told schedule next g r turn)
+  turned-some : (g : ℕ) (r : Record) (turn : Option (Turn × (List ℕ × K))) → IsSome turn → IsSome (after_turn v told schedule next g r turn)
   turned-some g r None is = absurd (cc)
   turned-some g r (Some (t, (chunk, k))) is = some g _ k
 
@@ -25,7 +25,7 @@ module _ (v : Versions) {K : Type 0} (told : K → View → Option (Turn × (Lis
 
     one_event-some : (g : ℕ) (r : Record) (k : K) (poke : Option Poke) → IsSome (one_event v told schedule next g r k poke)
     one_event-some g r k (Some poke) = some g _ k
-    one_event-some g r k None = own_event-some g r k (running r)
+    one_event-some g r k None = own_event-some g r k (running_slot r)
 
 -- a run of a kernel that tells each turn is told
 pub run_from-some : (v : Versions) {K : Type 0} (told : K → View → Option (Turn × (List ℕ × K))) → ((k : K) (view : View) → IsSome (told k view))

@@ -8,7 +8,7 @@ use Rattle.mips_instruction.specs.declared.instruction.Ins.{Ins}
 use Rattle.asm_source.specs.declared.content.Content.{Content}
 use Rattle.asm_source.specs.declared.content.Content.TheVariants.{Label, Words, Bytes, Ascii, Space, Align, Org, Entry, LoadNumber, LoadAddress, Instruction}
 use Rattle.asm_syntax.specs.Forms.{map_some}
-use Rattle.mips_asm.specs.Encoding.{AreWords, Gives, IsAligned, IsCode, alone, byte_value, instruction_at, join_some, load_address, load_number, word_value}
+use Rattle.mips_asm.specs.Encoding.{AreWords, Gives, IsAligned, IsCode, byte_value, instruction_at, join_some, load_address, load_number, one_instruction, word_value}
 use Rattle.mips_asm.specs.Layout.{padding}
 use Rattle.mips_asm.specs.Passes.{Labels}
 use Rattle.mips_asm.proofs.FitsLaws.{Fits-decided}
@@ -72,4 +72,4 @@ Gives-found labels place (Org n) = inl ([], refl)
 Gives-found labels place (Entry v) = inl ([], refl)
 Gives-found labels place (LoadNumber r n) = IsCode-found place (load_number r n)
 Gives-found labels place (LoadAddress r name) = IsCode-found place (load_address labels r name)
-Gives-found labels place (Instruction name arguments) = IsCode-found place (option_map alone (instruction_at labels place name arguments))
+Gives-found labels place (Instruction name arguments) = IsCode-found place (option_map one_instruction (instruction_at labels place name arguments))

@@ -13,7 +13,7 @@ use Rattle.asm_source.specs.declared.argument.Value.{Value}
 use Rattle.asm_source.specs.declared.content.Content.{Content}
 use Rattle.asm_source.specs.declared.content.Content.TheVariants.{Label, Words, Bytes, Ascii, Space, Align, Org, Entry, LoadNumber, LoadAddress, Instruction}
 use Rattle.asm_syntax.specs.Forms.{map_some}
-use Rattle.mips_asm.specs.Encoding.{AreWords, Gives, IsCode, alone, byte_value, halves, instruction_at, join_some, load_address, load_number, number_of, word_value, wrapped}
+use Rattle.mips_asm.specs.Encoding.{AreWords, Gives, IsCode, byte_value, halves, instruction_at, join_some, load_address, load_number, number_of, one_instruction, twos_complement, word_value}
 use Rattle.mips_asm.specs.Layout.{in_range, padding, size_of}
 use Rattle.mips_asm.specs.Passes.{Labels}
 
@@ -56,7 +56,7 @@ word_value-length : (labels : Labels) (v : Value) (bytes : List ℕ) → word_va
 unfolding word_value
 word_value-length labels v bytes read =
     steps _ (number_of labels v) bytes read (λ n number given.
-    sym (ap length (guarded (in_range 2147483648 4294967295 n) (to_be_bytes w32 (wrapped 32 n)) bytes given)) ∙ length-word (wrapped 32 n))
+    sym (ap length (guarded (in_range 2147483648 4294967295 n) (to_be_bytes w32 (twos_complement 32 n)) bytes given)) ∙ length-word (twos_complement 32 n))
 
 -- ---- instructions
 
@@ -83,11 +83,11 @@ load_number-length : (place r : ℕ) (n : Integer) (is : List Ins) → load_numb
 unfolding load_number size_of
 load_number-length place r n is read =
     elim (cases_Bool (in_range 32768 32767 n)) [
-      | inl signed ↦ rw (small_signed n.negative n.magnitude signed) (ap (λ (k : ℕ). 4 * k) (same_length (Addiu r 0 (wrapped 16 n) ∷ []) is (rw signed at read)))
+      | inl signed ↦ rw (small_signed n.negative n.magnitude signed) (ap (λ (k : ℕ). 4 * k) (same_length (Addiu r 0 (twos_complement 16 n) ∷ []) is (rw signed at read)))
       | inr more ↦ elim (cases_Bool (in_range 0 65535 n)) [
         | inl unsigned ↦ rw (small_unsigned n.negative n.magnitude unsigned) (ap (λ (k : ℕ). 4 * k) (same_length (Ori r 0 n.magnitude ∷ []) is (rw (more, unsigned) at read)))
         | inr most ↦ rw (large n.negative n.magnitude more most)
-            (ap (λ (k : ℕ). 4 * k) (sym (ap length (guarded (in_range 2147483648 4294967295 n) (halves r (wrapped 32 n)) is (rw (more, most) at read)))))
+            (ap (λ (k : ℕ). 4 * k) (sym (ap length (guarded (in_range 2147483648 4294967295 n) (halves r (twos_complement 32 n)) is (rw (more, most) at read)))))
       ]
     ]
 
@@ -97,10 +97,10 @@ load_address-length labels r name is read =
     steps _ (labels name) is read (λ place known given.
     sym (ap length (guarded _ (halves r place) is given)))
 
-alone-length : (made : Option Ins) (is : List Ins) → option_map alone made ≡ Some is → length is ≡ 1
+alone-length : (made : Option Ins) (is : List Ins) → option_map one_instruction made ≡ Some is → length is ≡ 1
 alone-length made is read =
-    let m = option_map_some alone made is read in
-    sym (ap length (same_Some (alone m.0) is m.2))
+    let m = option_map_some one_instruction made is read in
+    sym (ap length (same_Some (one_instruction m.0) is m.2))
 
 -- what a statement writes has its size
 pub Gives-size : (labels : Labels) (place : ℕ) (content : Content) (bytes : List ℕ) → Gives labels place content bytes → length bytes ≡ size_of place content
@@ -118,4 +118,4 @@ Gives-size labels place (LoadNumber r n) bytes given =
 Gives-size labels place (LoadAddress r name) bytes given =
     code-length place (load_address labels r name) bytes 2 (load_address-length labels r name) given
 Gives-size labels place (Instruction name arguments) bytes given =
-    code-length place (option_map alone (instruction_at labels place name arguments)) bytes 1 (alone-length (instruction_at labels place name arguments)) given
+    code-length place (option_map one_instruction (instruction_at labels place name arguments)) bytes 1 (alone-length (instruction_at labels place name arguments)) given

@@ -24,21 +24,21 @@ use Rattle.mips_asm.specs.Passes.{Labels}
 -- ---- numbers
 
 -- the number without a sign
-abbrev pub unsigned : ℕ → Integer
-unsigned n = record { negative = false; magnitude = n }
+abbrev pub unsigned_number : ℕ → Integer
+unsigned_number n = record { negative = false; magnitude = n }
 
 -- what a value stands for: a number for itself, a name for the place of its label
 abbrev pub number_of : Labels → Value → Option Integer
 number_of labels (values.Number n) = Some n
-number_of labels (values.Label name) = option_map unsigned (labels name)
+number_of labels (values.Label name) = option_map unsigned_number (labels name)
 
 -- the value where the test holds
 abbrev pub where_holds : {A : Type 0} → Bool → A → Option A
 where_holds test x = if test then Some x else None
 
 -- a number from -2^bits on as a number below 2^bits: two's complement
-abbrev pub wrapped : (bits : ℕ) → Integer → ℕ
-wrapped bits n = (if n.negative then 2 ^ bits - n.magnitude else n.magnitude) % 2 ^ bits
+abbrev pub twos_complement : (bits : ℕ) → Integer → ℕ
+twos_complement bits n = (if n.negative then 2 ^ bits - n.magnitude else n.magnitude) % 2 ^ bits
 
 -- ---- data
 
@@ -52,20 +52,20 @@ join_some f (x ∷ xs) = do
 
 -- the four bytes of one value of `.word`: from -2^31 to 2^32 - 1
 abbrev pub word_bytes : Integer → Option (List ℕ)
-word_bytes n = where_holds (in_range 2147483648 4294967295 n) (to_be_bytes w32 (wrapped 32 n))
+word_bytes n = where_holds (in_range 2147483648 4294967295 n) (to_be_bytes w32 (twos_complement 32 n))
 
 unfoldable pub word_value : Labels → Value → Option (List ℕ)
 word_value labels v = number_of labels v >>= word_bytes
 
 -- the byte of one value of `.byte`: from -128 to 255
 abbrev pub byte_value : Integer → Option ℕ
-byte_value n = where_holds (in_range 128 255 n) (wrapped 8 n)
+byte_value n = where_holds (in_range 128 255 n) (twos_complement 8 n)
 
 -- ---- instructions
 
 -- from -32768 to 32767
 abbrev pub signed_immediate : Integer → Option ℕ
-signed_immediate n = where_holds (in_range 32768 32767 n) (wrapped 16 n)
+signed_immediate n = where_holds (in_range 32768 32767 n) (twos_complement 16 n)
 
 -- from 0 to high
 abbrev pub unsigned_below : ℕ → Integer → Option ℕ
@@ -132,9 +132,9 @@ halves r n = Lui r (n / 2 ^ 16) ∷ Ori r r (n % 2 ^ 16) ∷ []
 -- `li`: addiu from $0 for a number from -32768 to 32767, ori from $0 up to 65535, else the two halves
 unfoldable pub load_number : (r : ℕ) → Integer → Option (List Ins)
 load_number r n =
-    if in_range 32768 32767 n then Some (Addiu r 0 (wrapped 16 n) ∷ [])
+    if in_range 32768 32767 n then Some (Addiu r 0 (twos_complement 16 n) ∷ [])
     else (if in_range 0 65535 n then Some (Ori r 0 n.magnitude ∷ [])
-    else (if in_range 2147483648 4294967295 n then Some (halves r (wrapped 32 n)) else None))
+    else (if in_range 2147483648 4294967295 n then Some (halves r (twos_complement 32 n)) else None))
 
 -- `la`: the two halves of a place below 2^32
 unfoldable pub load_address : Labels → (r : ℕ) → (name : List ℕ) → Option (List Ins)
@@ -166,8 +166,8 @@ AreWords (i ∷ is) bytes = (more : List ℕ) × Fits i × (bytes ≡ to_be_byte
 abbrev pub IsCode : ℕ → Option (List Ins) → List ℕ → Type 0
 IsCode place instructions bytes = (is : List Ins) × (place % 4 ≡ 0) × (instructions ≡ Some is) × AreWords is bytes
 
-abbrev pub alone : Ins → List Ins
-alone i = i ∷ []
+abbrev pub one_instruction : Ins → List Ins
+one_instruction i = i ∷ []
 
 -- ---- statements
 
@@ -192,4 +192,4 @@ Gives labels place (Org n) bytes = bytes ≡ []
 Gives labels place (Entry v) bytes = bytes ≡ []
 Gives labels place (LoadNumber r n) bytes = IsCode place (load_number r n) bytes
 Gives labels place (LoadAddress r name) bytes = IsCode place (load_address labels r name) bytes
-Gives labels place (Instruction name arguments) bytes = IsCode place (option_map alone (instruction_at labels place name arguments)) bytes
+Gives labels place (Instruction name arguments) bytes = IsCode place (option_map one_instruction (instruction_at labels place name arguments)) bytes

@@ -28,15 +28,15 @@ abbrev pub last_entry : List Placed → Option Placed
 last_entry placed = find is_entry (reverse placed)
 
 -- the address itself, where it is a multiple of 4
-abbrev pub aligned : ℕ → Option ℕ
-aligned n = where_holds (n % 4 == 0) n
+abbrev pub aligned_address : ℕ → Option ℕ
+aligned_address n = where_holds (n % 4 == 0) n
 
 -- the entry that a statement says: a multiple of 4 below 2^20
 abbrev pub entry_in : Labels → Content → Option ℕ
 entry_in labels (Entry v) = do
   n ← number_of labels v
   address ← unsigned_below 1048575 n
-  aligned address
+  aligned_address address
 entry_in labels _ = None
 
 -- the entry by the last `.entry`, or 0 where there is none

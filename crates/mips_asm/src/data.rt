@@ -2,7 +2,7 @@ ghost use Rattle.std.specs.Prelude.{◌≡◌, ◌<◌, ◌≤◌, ◌+◌, ◌%
 ghost use Rattle.asm_syntax.specs.Forms.{map_some};
 ghost use Rattle.mips_asm.specs.LabelMaps.{place_in};
 ghost use Rattle.mips_asm.specs.Layout.{limit, padding, size_of};
-ghost use Rattle.mips_asm.specs.Encoding.{Comes, Gives, GivesWords, IsAligned, IsCode, Tells, alone, byte_value, join_some, word_bytes, word_value};
+ghost use Rattle.mips_asm.specs.Encoding.{Comes, Gives, GivesWords, IsAligned, IsCode, Tells, byte_value, join_some, one_instruction, word_bytes, word_value};
 
 use crate::fields::{number_of, wrapped};
 use crate::instructions::{instruction_at, load_address, load_number, words};
@@ -167,7 +167,7 @@ fn add_instruction(
     bytes: &mut Vec<u8>,
 ) -> Result<bool, NoMemory>
     requires { bytes.old.items ≡ [] }
-    ensures { IfOk result (λ written. Tells (IsCode place (option_map alone instruction)) written bytes.new.items) }
+    ensures { IfOk result (λ written. Tells (IsCode place (option_map one_instruction instruction)) written bytes.new.items) }
 {
     if place % 4 != 0 {
         return Ok(false);

@@ -1,6 +1,6 @@
 ghost use Rattle.std.specs.Prelude.{◌≡◌, ◌≤◌, ◌<◌, ◌%◌, ◌^◌, IfSome};
 ghost use Rattle.mips_asm.specs.LabelMaps.{place_in};
-ghost use Rattle.mips_asm.specs.Encoding.{address_of, branch_field, distance, field_of, jump_field, number_of, offset_field, operand_of, signed_immediate, unsigned_below, wrapped};
+ghost use Rattle.mips_asm.specs.Encoding.{address_of, branch_field, distance, field_of, jump_field, number_of, offset_field, operand_of, signed_immediate, twos_complement, unsigned_below};
 
 use crate::labels::Labels;
 use crate::layout::in_range;
@@ -28,7 +28,7 @@ pub fn number_of(labels: &Labels, value: &Value) -> Option<Integer>
 pub fn wrapped(bits: u32, number: Integer) -> u64
     requires few { bits ≤ 32 }
     requires fits { number.magnitude < 2 ^ bits }
-    ensures value { result ≡ wrapped bits number }
+    ensures value { result ≡ twos_complement bits number }
     ensures small { result < 2 ^ bits }
 {
     let end = 1 << bits;

@@ -24,13 +24,13 @@ abbrev pub is_code : ℕ → Bool
 is_code pc = (pc % 4 == 0) && nat_lt pc private_size
 
 -- a word is an instruction, or Reserved
-abbrev pub known : Option Ins → Result Ins OwnFault
-known None = Err fault.Reserved
-known (Some ins) = Ok ins
+abbrev pub instruction_or_fault : Option Ins → Result Ins OwnFault
+instruction_or_fault None = Err fault.Reserved
+instruction_or_fault (Some ins) = Ok ins
 
 -- the instruction at an address
-unfoldable pub fetched : List ℕ → ℕ → Result Ins OwnFault
-fetched bytes pc = if is_code pc then known (read (word_at bytes pc)) else Err fault.Address
+unfoldable pub instruction_in : List ℕ → ℕ → Result Ins OwnFault
+instruction_in bytes pc = if is_code pc then instruction_or_fault (read (word_at bytes pc)) else Err fault.Address
 
 -- the return from a signal goes to the pair that was kept, and is Reserved where none was; every other effect is as it is
 abbrev pub returns_to : Option (ℕ × ℕ) → Effect → Result Effect OwnFault
@@ -41,14 +41,14 @@ abbrev pub with_return : Option (ℕ × ℕ) → Effect → Wish → Result Effe
 with_return kept effect wish.SigRet = returns_to kept effect
 with_return kept effect other = Ok effect
 
-abbrev pub returned : Option (ℕ × ℕ) → Result Effect OwnFault → Result Effect OwnFault
-returned kept (Err fault) = Err fault
-returned kept (Ok effect) = with_return kept effect effect.wish
+abbrev pub with_kept_pair : Option (ℕ × ℕ) → Result Effect OwnFault → Result Effect OwnFault
+with_kept_pair kept (Err fault) = Err fault
+with_kept_pair kept (Ok effect) = with_return kept effect effect.wish
 
 -- what a fetched instruction comes to at a pair, where a signal kept a pair or none: its effect, or an own fault
-abbrev pub tried : (ℕ → Seen) → Option (ℕ × ℕ) → Result Ins OwnFault → ℕ → ℕ → Result Effect OwnFault
-tried see kept (Err fault) pc npc = Err fault
-tried see kept (Ok ins) pc npc = returned kept (effect_of ins Guest (see (sources_of ins).0) (see (sources_of ins).1) (see (sources_of ins).2) pc npc)
+abbrev pub effect_at : (ℕ → Seen) → Option (ℕ × ℕ) → Result Ins OwnFault → ℕ → ℕ → Result Effect OwnFault
+effect_at see kept (Err fault) pc npc = Err fault
+effect_at see kept (Ok ins) pc npc = with_kept_pair kept (effect_of ins Guest (see (sources_of ins).0) (see (sources_of ins).1) (see (sources_of ins).2) pc npc)
 
 -- the handler, and the kept pair, after a wish
 abbrev pub handler_after : ℕ → Wish → ℕ
@@ -72,10 +72,10 @@ abbrev pub signal_step : ℕ → ℕ → ℕ → Step
 signal_step pc npc n = record { pc = pc; npc = npc; writes = writes.One 26 n; stored = stored.Nothing; received = received.Signal n; released = released.Nothing; end = ended.Goes }
 
 -- it takes a value from outside
-abbrev pub receives : Wish → Bool
-receives (wish.Receive reg from) = true
-receives (wish.NullLoad reg address) = true
-receives other = false
+abbrev pub receives_value : Wish → Bool
+receives_value (wish.Receive reg from) = true
+receives_value (wish.NullLoad reg address) = true
+receives_value other = false
 
 -- the word that a load is made of, the one that holds its address; 0 where nothing is loaded
 abbrev pub word_for : List ℕ → Wish → ℕ
@@ -83,21 +83,21 @@ word_for bytes (wish.Load reg address kind old) = word_at bytes (address - addre
 word_for bytes other = 0
 
 -- the step of a wish at a pair, of the word that it loads, where a value was received; a wish that never comes to a guest makes the step of none
-abbrev pub made : ℕ → ℕ → Writes → Wish → ℕ → ℕ → Step
-made pc npc written wish.Nothing word got = record { pc = pc; npc = npc; writes = written; stored = stored.Nothing; received = received.Nothing; released = released.Nothing; end = ended.Goes }
-made pc npc written (wish.Load reg address kind old) word got = record { pc = pc; npc = npc; writes = set reg (merge_of kind old address word); stored = stored.Nothing; received = received.Nothing; released = released.Nothing; end = ended.Goes }
-made pc npc written (wish.Store address count value) word got = record { pc = pc; npc = npc; writes = written; stored = stored.Bytes address count value; received = received.Nothing; released = released.Nothing; end = ended.Goes }
-made pc npc written (wish.Release reg value) word got = record { pc = pc; npc = npc; writes = written; stored = stored.Nothing; received = received.Nothing; released = released.Cell reg value; end = ended.Goes }
-made pc npc written (wish.Receive reg from) word got = record { pc = pc; npc = npc; writes = set reg got; stored = stored.Nothing; received = received.Cell got; released = released.Nothing; end = ended.Goes }
-made pc npc written (wish.NullLoad reg address) word got = record { pc = pc; npc = npc; writes = set reg got; stored = stored.Nothing; received = received.Null address got; released = released.Nothing; end = ended.Goes }
-made pc npc written (wish.NullStore address value) word got = record { pc = pc; npc = npc; writes = written; stored = stored.Nothing; received = received.Nothing; released = released.Null address value; end = ended.Goes }
-made pc npc written (wish.Hand address) word got = record { pc = pc; npc = npc; writes = written; stored = stored.Nothing; received = received.Nothing; released = released.Nothing; end = ended.Goes }
-made pc npc written wish.SigRet word got = record { pc = pc; npc = npc; writes = written; stored = stored.Nothing; received = received.Nothing; released = released.Nothing; end = ended.Goes }
-made pc npc written wish.Exit word got = record { pc = pc; npc = npc; writes = written; stored = stored.Nothing; received = received.Nothing; released = released.Nothing; end = ended.Exit }
-made pc npc written (wish.Call code) word got = record { pc = pc; npc = npc; writes = written; stored = stored.Nothing; received = received.Nothing; released = released.Nothing; end = ended.Call code }
-made pc npc written (wish.Do operation) word got = record { pc = pc; npc = npc; writes = written; stored = stored.Nothing; received = received.Nothing; released = released.Nothing; end = ended.Goes }
-made pc npc written (wish.Ask reg what) word got = record { pc = pc; npc = npc; writes = written; stored = stored.Nothing; received = received.Nothing; released = released.Nothing; end = ended.Goes }
+abbrev pub step_of_wish : ℕ → ℕ → Writes → Wish → ℕ → ℕ → Step
+step_of_wish pc npc written wish.Nothing word got = record { pc = pc; npc = npc; writes = written; stored = stored.Nothing; received = received.Nothing; released = released.Nothing; end = ended.Goes }
+step_of_wish pc npc written (wish.Load reg address kind old) word got = record { pc = pc; npc = npc; writes = set reg (merge_of kind old address word); stored = stored.Nothing; received = received.Nothing; released = released.Nothing; end = ended.Goes }
+step_of_wish pc npc written (wish.Store address count value) word got = record { pc = pc; npc = npc; writes = written; stored = stored.Bytes address count value; received = received.Nothing; released = released.Nothing; end = ended.Goes }
+step_of_wish pc npc written (wish.Release reg value) word got = record { pc = pc; npc = npc; writes = written; stored = stored.Nothing; received = received.Nothing; released = released.Cell reg value; end = ended.Goes }
+step_of_wish pc npc written (wish.Receive reg from) word got = record { pc = pc; npc = npc; writes = set reg got; stored = stored.Nothing; received = received.Cell got; released = released.Nothing; end = ended.Goes }
+step_of_wish pc npc written (wish.NullLoad reg address) word got = record { pc = pc; npc = npc; writes = set reg got; stored = stored.Nothing; received = received.Null address got; released = released.Nothing; end = ended.Goes }
+step_of_wish pc npc written (wish.NullStore address value) word got = record { pc = pc; npc = npc; writes = written; stored = stored.Nothing; received = received.Nothing; released = released.Null address value; end = ended.Goes }
+step_of_wish pc npc written (wish.Hand address) word got = record { pc = pc; npc = npc; writes = written; stored = stored.Nothing; received = received.Nothing; released = released.Nothing; end = ended.Goes }
+step_of_wish pc npc written wish.SigRet word got = record { pc = pc; npc = npc; writes = written; stored = stored.Nothing; received = received.Nothing; released = released.Nothing; end = ended.Goes }
+step_of_wish pc npc written wish.Exit word got = record { pc = pc; npc = npc; writes = written; stored = stored.Nothing; received = received.Nothing; released = released.Nothing; end = ended.Exit }
+step_of_wish pc npc written (wish.Call code) word got = record { pc = pc; npc = npc; writes = written; stored = stored.Nothing; received = received.Nothing; released = released.Nothing; end = ended.Call code }
+step_of_wish pc npc written (wish.Do operation) word got = record { pc = pc; npc = npc; writes = written; stored = stored.Nothing; received = received.Nothing; released = released.Nothing; end = ended.Goes }
+step_of_wish pc npc written (wish.Ask reg what) word got = record { pc = pc; npc = npc; writes = written; stored = stored.Nothing; received = received.Nothing; released = released.Nothing; end = ended.Goes }
 
 -- the step that an effect makes
 unfoldable pub step_made : ℕ → ℕ → Effect → ℕ → ℕ → Step
-step_made pc npc effect word got = made pc npc effect.writes effect.wish word got
+step_made pc npc effect word got = step_of_wish pc npc effect.writes effect.wish word got

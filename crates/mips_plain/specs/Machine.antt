@@ -20,7 +20,7 @@ use Rattle.mips_plain.specs.declared.given.Given.TheVariants as given
 use Rattle.mips_plain.specs.declared.given.PlainStep.{PlainStep}
 use Rattle.mips_plain.specs.declared.given.PlainStep.TheVariants.{Did, Fault, Unfit, Over}
 use Rattle.mips_plain.specs.Memory.{private_size, stored_in}
-use Rattle.mips_plain.specs.Instruction.{fetched, tried, receives, step_made, word_for, handler_after, kept_after, is_signal, is_signal_ready, signal_step}
+use Rattle.mips_plain.specs.Instruction.{effect_at, handler_after, instruction_in, is_signal, is_signal_ready, kept_after, receives_value, signal_step, step_made, word_for}
 
 -- the whole state. Cells have 34 places: $1 to $31, HI at 32 and LO at 33; place 0 isn't used
 pub record State : Type 0 where
@@ -46,29 +46,29 @@ abbrev pub seen_in : PlainCell → Seen
 seen_in (Own value) = Value value
 seen_in Lent = Foreign
 
-abbrev pub seen : List PlainCell → ℕ → Seen
-seen cells reg = if reg == 0 then Value 0 else seen_in (cell_at cells reg)
+abbrev pub seen_of_cell : List PlainCell → ℕ → Seen
+seen_of_cell cells reg = if reg == 0 then Value 0 else seen_in (cell_at cells reg)
 
 -- a written cell is owned
-abbrev pub owned : List PlainCell → Writes → List PlainCell
-owned cells writes.Nothing = cells
-owned cells (writes.One reg value) = slice_set cells reg (Own value)
-owned cells (writes.Pair hi lo) = slice_set (slice_set cells 32 (Own hi)) 33 (Own lo)
+abbrev pub with_owned : List PlainCell → Writes → List PlainCell
+with_owned cells writes.Nothing = cells
+with_owned cells (writes.One reg value) = slice_set cells reg (Own value)
+with_owned cells (writes.Pair hi lo) = slice_set (slice_set cells 32 (Own hi)) 33 (Own lo)
 
 -- a released cell is lent
-abbrev pub lent : List PlainCell → Released → List PlainCell
-lent cells released.Nothing = cells
-lent cells (released.Cell reg value) = slice_set cells reg Lent
-lent cells (released.Null address value) = cells
+abbrev pub with_lent : List PlainCell → Released → List PlainCell
+with_lent cells released.Nothing = cells
+with_lent cells (released.Cell reg value) = slice_set cells reg Lent
+with_lent cells (released.Null address value) = cells
 
 abbrev pub is_exit : StepEnd → Bool
 is_exit ended.Exit = true
 is_exit other = false
 
 -- the state after a step of this effect
-abbrev pub stepped : State → Effect → Step → State
-stepped s effect step = record {
-  cells = lent (owned s.cells step.writes) step.released;
+abbrev pub state_after_step : State → Effect → Step → State
+state_after_step s effect step = record {
+  cells = with_lent (with_owned s.cells step.writes) step.released;
   pc = effect.pc;
   npc = effect.npc;
   bytes = stored_in s.bytes step.stored;
@@ -78,27 +78,27 @@ stepped s effect step = record {
 }
 
 -- the step of an effect is done, where a value was received
-abbrev pub did : State → Effect → ℕ → PlainStep × State
-did s effect got =
-    (Did (step_made s.pc s.npc effect (word_for s.bytes effect.wish) got), stepped s effect (step_made s.pc s.npc effect (word_for s.bytes effect.wish) got))
+abbrev pub step_done : State → Effect → ℕ → PlainStep × State
+step_done s effect got =
+    (Did (step_made s.pc s.npc effect (word_for s.bytes effect.wish) got), state_after_step s effect (step_made s.pc s.npc effect (word_for s.bytes effect.wish) got))
 
 -- the state after a signal: the pair is kept, and the program goes on at its handler
-abbrev pub signalled : State → ℕ → State
-signalled s n = record s { cells = owned s.cells (writes.One 26 n); pc = s.handler; npc = (s.handler + 4) % 2 ^ 32; kept = Some (s.pc, s.npc) }
+abbrev pub state_after_signal : State → ℕ → State
+state_after_signal s n = record s { cells = with_owned s.cells (writes.One 26 n); pc = s.handler; npc = (s.handler + 4) % 2 ^ 32; kept = Some (s.pc, s.npc) }
 
 abbrev pub signal_answered : State → ℕ → PlainStep × State
-signal_answered s n = if is_signal n && is_signal_ready s.handler s.kept then (Did (signal_step s.pc s.npc n), signalled s n) else (Unfit, s)
+signal_answered s n = if is_signal n && is_signal_ready s.handler s.kept then (Did (signal_step s.pc s.npc n), state_after_signal s n) else (Unfit, s)
 
 -- an own fault comes before what is given is looked at, but for a signal; what is given has to fit
-abbrev pub answered : State → Given → Result Effect OwnFault → PlainStep × State
-answered s (given.Signal n) result = signal_answered s n
-answered s given.Nothing (Err fault) = (Fault fault, s)
-answered s given.Nothing (Ok effect) = if receives effect.wish then (Unfit, s) else did s effect 0
-answered s (given.Value value) (Err fault) = (Fault fault, s)
-answered s (given.Value value) (Ok effect) = if receives effect.wish then did s effect value else (Unfit, s)
+abbrev pub answer_to : State → Given → Result Effect OwnFault → PlainStep × State
+answer_to s (given.Signal n) result = signal_answered s n
+answer_to s given.Nothing (Err fault) = (Fault fault, s)
+answer_to s given.Nothing (Ok effect) = if receives_value effect.wish then (Unfit, s) else step_done s effect 0
+answer_to s (given.Value value) (Err fault) = (Fault fault, s)
+answer_to s (given.Value value) (Ok effect) = if receives_value effect.wish then step_done s effect value else (Unfit, s)
 
 -- one step of the plain machine, given a value, a signal or nothing
 unfoldable pub plain : State → Given → PlainStep × State
 plain s given =
     if s.over then (Over, s)
-    else answered s given (tried (seen s.cells) s.kept (fetched s.bytes s.pc) s.pc s.npc)
+    else answer_to s given (effect_at (seen_of_cell s.cells) s.kept (instruction_in s.bytes s.pc) s.pc s.npc)

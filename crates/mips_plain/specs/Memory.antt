@@ -9,8 +9,8 @@ unfoldable pub private_size : ℕ
 private_size = 2 ^ 20
 
 -- memory before anything was stored
-abbrev pub blank : List ℕ
-blank = replicate private_size 0
+abbrev pub blank_memory : List ℕ
+blank_memory = replicate private_size 0
 
 -- the word whose first byte is at the address
 abbrev pub word_at : List ℕ → ℕ → ℕ

@@ -1,7 +1,7 @@
 ghost use Rattle.std.specs.Prelude.{◌≡◌, ◌&&◌, IfOk};
 ghost use Rattle.mips_instruction.specs.Words.{Fits};
 ghost use Rattle.mips_effect.specs.Effects.{Ranged, set as set_of};
-ghost use Rattle.mips_plain.specs.Instruction.{fetched, handler_after as handler_of, is_signal, is_signal_ready, kept_after as kept_of, signal_step as signal_step_of, step_made as made_of, with_return, word_for as word_of};
+ghost use Rattle.mips_plain.specs.Instruction.{handler_after as handler_of, instruction_in, is_signal, is_signal_ready, kept_after as kept_of, signal_step as signal_step_of, step_made as made_of, with_return, word_for as word_of};
 ghost use Rattle.mips_plain.specs.Inside.{IsInside};
 
 use crate::Memory;
@@ -13,9 +13,9 @@ use xom_base::{OwnFault, Received, Released, Step, StepEnd, Stored, Writes};
 
 /// The instruction at an address of private memory. Faults are Address off a multiple of 4 or
 /// outside, and Reserved for a word that is no instruction.
-#[tactic(auto, using(crate::proofs::Sizes::private_size_is), unfolding(crate::specs::Instruction::fetched))]
+#[tactic(auto, using(crate::proofs::Sizes::private_size_is), unfolding(crate::specs::Instruction::instruction_in))]
 pub fn fetch(memory: &Memory, pc: u32) -> Result<Ins, OwnFault>
-    ensures value { result ≡ fetched memory.now pc }
+    ensures value { result ≡ instruction_in memory.now pc }
     ensures fits { IfOk result Fits }
 {
     if pc % 4 != 0 || pc >= Memory::SIZE {

@@ -1,8 +1,8 @@
 ghost use Rattle.std.specs.Prelude.{◌≡◌, ◌≤◌, ◌<◌, IfOk, length, slice_index};
 ghost use Rattle.mips_effect.specs.Effects.{AreCells, Ranged};
-ghost use Rattle.mips_plain.specs.Instruction.{fetched, tried};
+ghost use Rattle.mips_plain.specs.Instruction.{effect_at, instruction_in};
 ghost use Rattle.mips_plain.specs.Inside.{IsLent};
-ghost use Rattle.mips_plain.specs.Machine.{answered, cell_at, did, lent, owned, plain, seen as seen_at, signal_answered, start};
+ghost use Rattle.mips_plain.specs.Machine.{answer_to, cell_at, plain, seen_of_cell as seen_at, signal_answered, start, step_done, with_lent, with_owned};
 ghost use Rattle.mips_plain.specs.Memory.{private_size};
 
 use crate::{
@@ -122,7 +122,7 @@ impl Plain {
 
     /// What the instruction at the pair comes to.
     fn effect(&self) -> Result<Effect, OwnFault>
-        ensures value { result ≡ tried (seen_at self.now.cells) self.now.kept (fetched self.now.bytes self.now.pc) self.now.pc self.now.npc }
+        ensures value { result ≡ effect_at (seen_at self.now.cells) self.now.kept (instruction_in self.now.bytes self.now.pc) self.now.pc self.now.npc }
         ensures ranged { IfOk result Ranged }
     {
         let ins = fetch(&self.memory, self.pc)?;
@@ -142,8 +142,8 @@ impl Plain {
     /// Does an effect, where what is given fits it.
     fn answer(&mut self, given: Given, effect: &Effect) -> PlainStep
         requires { Ranged effect.now }
-        ensures answer { result ≡ (answered self.old given (Ok effect.now)).0 }
-        ensures state { self.new ≡ (answered self.old given (Ok effect.now)).1 }
+        ensures answer { result ≡ (answer_to self.old given (Ok effect.now)).0 }
+        ensures state { self.new ≡ (answer_to self.old given (Ok effect.now)).1 }
     {
         let receives = matches!(effect.wish, Wish::Receive { .. } | Wish::NullLoad { .. });
         match given {
@@ -157,8 +157,8 @@ impl Plain {
     /// Does the step of an effect, where a value was received.
     fn perform(&mut self, effect: &Effect, got: u32) -> PlainStep
         requires { Ranged effect.now }
-        ensures answer { result ≡ (did self.old effect.now got).0 }
-        ensures state { self.new ≡ (did self.old effect.now got).1 }
+        ensures answer { result ≡ (step_done self.old effect.now got).0 }
+        ensures state { self.new ≡ (step_done self.old effect.now got).1 }
     {
         let word = word_for(&self.memory, effect);
         let step = step_made(self.pc, self.npc, effect, word, got);
@@ -209,7 +209,7 @@ fn seen(cells: &[PlainCell], reg: u8) -> Seen
 fn own(cells: &mut [PlainCell], writes: Writes)
     requires whole { length cells.old ≡ 34 }
     requires few { AreCells writes }
-    ensures { cells.new ≡ owned cells.old writes }
+    ensures { cells.new ≡ with_owned cells.old writes }
 {
     match writes {
         Writes::Nothing => {}
@@ -225,7 +225,7 @@ fn own(cells: &mut [PlainCell], writes: Writes)
 fn lend(cells: &mut [PlainCell], released: Released)
     requires whole { length cells.old ≡ 34 }
     requires few { IsLent released }
-    ensures { cells.new ≡ lent cells.old released }
+    ensures { cells.new ≡ with_lent cells.old released }
 {
     if let Released::Cell { reg, value: _value } = released {
         cells[usize::from(reg)] = PlainCell::Lent;

@@ -1,6 +1,6 @@
 ghost use Rattle.std.specs.Prelude.{◌≡◌, ◌≤◌, ◌<◌, ◌+◌, ◌-◌, ◌++◌, ◌∷◌, [], IfOk, slice_index, length, replicate, vec_len, vec_capacity};
 ghost use Rattle.xom_base.specs.Padded.{filled};
-ghost use Rattle.mips_plain.specs.Memory.{blank, low_bytes, private_size, word_at, written_at};
+ghost use Rattle.mips_plain.specs.Memory.{blank_memory, low_bytes, private_size, word_at, written_at};
 
 use std::alloc::Global;
 use std::marker::Model;
@@ -33,7 +33,7 @@ impl Memory {
     /// All zeros.
     #[tactic(auto, using(crate::proofs::Sizes::private_size_is))]
     pub fn new(alloc: Global) -> Result<Memory, NoMemory>
-        ensures { IfOk result (λ m. m ≡ blank) }
+        ensures { IfOk result (λ m. m ≡ blank_memory) }
     {
         let bytes = Vec::with_capacity(alloc, Memory::SIZE as usize)?;
         Ok(Memory { bytes })

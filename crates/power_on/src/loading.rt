@@ -6,7 +6,7 @@ use xom_machine::Machine;
 use xom_versions::VersionStore;
 
 /// Puts bytes into RAM before the first event.
-#[tactic(auto, unfolding(xom_model::specs::Null::poked), using(crate::proofs::Sizes::stored_size))]
+#[tactic(auto, unfolding(xom_model::specs::Null::ram_after_write), using(crate::proofs::Sizes::stored_size))]
 pub fn put<V: VersionStore>(machine: &mut Machine<V>, address: u32, bytes: &[u8])
     requires first { machine.old.state.events ≡ 0 }
     requires holds { HoldsRange (ram_of machine.old) address (length bytes.now) }

@@ -36,8 +36,8 @@ told_by None = record { steps = []; end = Running }
 told_by (Some trail) = record { steps = trail.steps.items; end = trail.end }
 
 -- what the map tells of an install
-abbrev pub told : Trails → ℕ → Told
-told trails n = told_by (get nat_cmp trails.trails n)
+abbrev pub told_of_install : Trails → ℕ → Told
+told_of_install trails n = told_by (get nat_cmp trails.trails n)
 
 -- the line of an Install entry, by what is told of each install
 abbrev pub line_by : List Owner → (ℕ → Told) → Entry → Option GuestLine

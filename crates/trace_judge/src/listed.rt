@@ -3,7 +3,7 @@ ghost use Rattle.std.specs.List.{filter_map};
 ghost use Rattle.xom_owners.specs.Owners.{owner_of as first_owner};
 ghost use Rattle.mips_plain.specs.Follows.{verdict_from};
 ghost use Rattle.trace_judge.specs.Judgement.{guest_lines as lines_of, verdict_by};
-ghost use Rattle.trace_judge.specs.Trails.{line_by, told};
+ghost use Rattle.trace_judge.specs.Trails.{line_by, told_of_install};
 ghost use Rattle.trace_judge.specs.Verdicts.{AreVerdicts};
 
 use crate::steps::does;
@@ -36,7 +36,7 @@ fn lines_by(
     trails: &Trails,
     entries: &[Entry],
 ) -> Result<GuestLineList, NoMemory>
-    ensures { IfOk result (λ lines. lines ≡ filter_map (line_by owners.now (told trails.now)) entries.now) }
+    ensures { IfOk result (λ lines. lines ≡ filter_map (line_by owners.now (told_of_install trails.now)) entries.now) }
 {
     let mut found = Verdicts::new(alloc);
     let mut lines = GuestLineList::new(alloc);
@@ -56,9 +56,9 @@ fn line_of(
     found: &mut Verdicts,
     entry: &Entry,
 ) -> Result<Option<GuestLine>, NoMemory>
-    requires { AreVerdicts owners.now (told trails.now) found.old }
-    ensures line { IfOk result (λ line. line ≡ line_by owners.now (told trails.now) entry.now) }
-    ensures found { OnOk result (AreVerdicts owners.now (told trails.now) found.new) }
+    requires { AreVerdicts owners.now (told_of_install trails.now) found.old }
+    ensures line { IfOk result (λ line. line ≡ line_by owners.now (told_of_install trails.now) entry.now) }
+    ensures found { OnOk result (AreVerdicts owners.now (told_of_install trails.now) found.new) }
 {
     match *entry {
         Entry::Install {
@@ -87,9 +87,9 @@ fn verdict(
     install: u64,
     id: &ImageId,
 ) -> Result<Verdict, NoMemory>
-    requires { AreVerdicts owners.now (told trails.now) found.old }
-    ensures value { IfOk result (λ v. v ≡ verdict_by (first_owner owners.now id.now) (told trails.now install).steps) }
-    ensures found { OnOk result (AreVerdicts owners.now (told trails.now) found.new) }
+    requires { AreVerdicts owners.now (told_of_install trails.now) found.old }
+    ensures value { IfOk result (λ v. v ≡ verdict_by (first_owner owners.now id.now) (told_of_install trails.now install).steps) }
+    ensures found { OnOk result (AreVerdicts owners.now (told_of_install trails.now) found.new) }
 {
     if let Some(verdict) = found.get(install, id) {
         return Ok(verdict);

@@ -1,5 +1,5 @@
 ghost use Rattle.std.specs.Prelude.{◌≡◌, ◌==◌, ℕ, [], IfOk, OnOk, if◌then◌else◌};
-ghost use Rattle.trace_judge.specs.Trails.{told, told_after, told_by, told_of};
+ghost use Rattle.trace_judge.specs.Trails.{told_after, told_by, told_of, told_of_install};
 
 use crate::GuestEnd;
 use crate::guests::next_end;
@@ -48,7 +48,7 @@ pub struct Trails {
 impl Trails {
     /// Nothing is told. It takes no memory.
     fn new(alloc: Global) -> Trails
-        ensures { (n : ℕ) → told result n ≡ told_of [] n }
+        ensures { (n : ℕ) → told_of_install result n ≡ told_of [] n }
     {
         Trails {
             trails: BTreeMap::new(alloc),
@@ -58,7 +58,7 @@ impl Trails {
 
     /// Takes the next entry. Costs a look-up among the install numbers.
     fn add(&mut self, entry: &Entry) -> Result<(), NoMemory>
-        ensures { OnOk result ((n : ℕ) → told self.new n ≡ told_after (told self.old n) n entry.now) }
+        ensures { OnOk result ((n : ℕ) → told_of_install self.new n ≡ told_after (told_of_install self.old n) n entry.now) }
     {
         match *entry {
             Entry::Step { install, .. } => self.put(install, entry),
@@ -70,7 +70,7 @@ impl Trails {
 
     /// Takes an entry as what it tells of this install.
     fn put(&mut self, install: u64, entry: &Entry) -> Result<(), NoMemory>
-        ensures { OnOk result ((n : ℕ) → told self.new n ≡ (if install == n then told_after (told self.old n) n entry.now else told self.old n)) }
+        ensures { OnOk result ((n : ℕ) → told_of_install self.new n ≡ (if install == n then told_after (told_of_install self.old n) n entry.now else told_of_install self.old n)) }
     {
         let found = match self.trails.remove(&install) {
             Some(trail) => trail,
@@ -83,7 +83,7 @@ impl Trails {
 
     /// The steps of an install.
     pub fn steps(&self, install: u64) -> &[Step]
-        ensures { result.now ≡ (told self.now install).steps }
+        ensures { result.now ≡ (told_of_install self.now install).steps }
     {
         match self.trails.get(&install) {
             Some(trail) => trail.steps.as_slice(),
@@ -93,7 +93,7 @@ impl Trails {
 
     /// The end of an install.
     pub fn end(&self, install: u64) -> GuestEnd
-        ensures { result ≡ (told self.now install).end }
+        ensures { result ≡ (told_of_install self.now install).end }
     {
         match self.trails.get(&install) {
             Some(trail) => trail.end,
@@ -104,7 +104,7 @@ impl Trails {
 
 /// What entries tell of each install.
 pub fn trails_of(alloc: Global, entries: &[Entry]) -> Result<Trails, NoMemory>
-    ensures { IfOk result (λ trails. (n : ℕ) → told trails n ≡ told_of entries.now n) }
+    ensures { IfOk result (λ trails. (n : ℕ) → told_of_install trails n ≡ told_of entries.now n) }
 {
     let mut trails = Trails::new(alloc);
     for entry in entries {

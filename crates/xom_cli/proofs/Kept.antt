@@ -15,10 +15,10 @@ use Rattle.cli_base.specs.declared.refusal.Stop.{Stop}
 use Rattle.cli_base.specs.declared.refusal.Stop.TheVariants as stop
 use Rattle.cli_runs.specs.declared.parts.Parts.{Parts}
 use Rattle.cli_runs.specs.Parts.{parts_of}
-use Rattle.xom_cli.specs.Endings.{Disk, Ends, EndsRow, EndsWords, Finishes, IsSilent, Outside, Output, PrintsBehind, PutsFile, RowFollows, ended, refused, status_of}
+use Rattle.xom_cli.specs.Endings.{Disk, Ends, EndsRow, EndsWords, Finishes, IsSilent, Output, Outside, PrintsBehind, PutsFile, RowFollows, ending_after, ending_of_refusal, status_of}
 use Rattle.cli_base.specs.Commands.{IsDone}
 use Rattle.cli_base.specs.Inputs.{Held, without}
-use Rattle.xom_cli.specs.Outcome.{IsOutcome, IsPrinted, IsPrintedBy, Printed, printed, printed_words}
+use Rattle.xom_cli.specs.Outcome.{IsOutcome, IsPrinted, IsPrintedBy, Printed, printed_text, printed_words}
 use Rattle.xom_cli.specs.Promises.{AsksForRun, ChangesOnly, FailsWriting, IsReadBy, IsUnprinted, IsJudged, IsUnput, Promises, WritesFile, WritesPrefix, WritesWhole, target_in}
 use Rattle.cli_base.specs.Readings.{IsRead, Meets, Refuses}
 use Rattle.cli_base.specs.Refusals.{line_of, refusal_status, words_line}
@@ -144,16 +144,16 @@ module _ (words : List (List ℕ)) (before after : Outside) where
       debugs = λ held told run commands row d. absurd (done_not_1 d);
     }
 
-    words_end : after.disk ≡ before.disk → after.reads ≡ before.reads → (put : Result (Unit {0}) SinkFault) → Took before.output after.output words_line put → Promises words before after (status_of (ended ending.NoRow ending.NoRow put))
+    words_end : after.disk ≡ before.disk → after.reads ≡ before.reads → (put : Result (Unit {0}) SinkFault) → Took before.output after.output words_line put → Promises words before after (status_of (ending_after ending.NoRow ending.NoRow put))
     words_end same stays (Ok done) takes = words_said same stays (Ok done) (λ e. absurd (cc)) takes
     words_end same stays (Err sink_fault.Failed) takes = words_said same stays (Err sink_fault.Failed) (λ e. absurd (cc)) takes
     words_end same stays (Err sink_fault.NoMemory) takes = no_memory (words_prefix same (Err sink_fault.NoMemory) takes) (same_leaves same)
 
   -- ---- words of a row
   module _ (row : Row) (is_row : row_of words ≡ Some row) where
-    row_printed : (held : Held) (result : Result Answer Refusal) → IsOutcome row held result → IsPrinted words held (printed result)
+    row_printed : (held : Held) (result : Result Answer Refusal) → IsOutcome row held result → IsPrinted words held (printed_text result)
     unfolding IsPrinted
-    row_printed held result is = subst (λ o. IsPrintedBy o held (printed result)) (sym is_row) (result, is, refl)
+    row_printed held result is = subst (λ o. IsPrintedBy o held (printed_text result)) (sym is_row) (result, is, refl)
 
     has_row : ¬ (row_of words ≡ None)
     has_row none = cc
@@ -163,11 +163,11 @@ module _ (words : List (List ℕ)) (before after : Outside) where
 
     -- ---- a command that was carried out
     module _ (answer : Answer) (done : IsDone answer.status) (stays : after.reads ≡ before.reads) (wanted : (held : Held) → before.disk.held ≡ Some held → IsOutcome row held (Ok answer)) (follows : RowFollows before.disk.held row) where
-      answer_printed : (held : Held) → before.disk.held ≡ Some held → IsPrinted words held (printed (Ok answer))
+      answer_printed : (held : Held) → before.disk.held ≡ Some held → IsPrinted words held (printed_text (Ok answer))
       answer_printed held told = row_printed held (Ok answer) (wanted held told)
 
       answer_prefix : (u : Unit {0}) → PutsFile before.disk after.disk answer.file (Ok u) → (put : Result (Unit {0}) SinkFault) → Took before.output after.output answer.text put → WritesPrefix words before after
-      answer_prefix u puts put takes = part_prefix answer.text (λ held told. (printed (Ok answer), answer_printed held told, puts-file before.disk after.disk answer.file u puts, refl)) put takes
+      answer_prefix u puts put takes = part_prefix answer.text (λ held told. (printed_text (Ok answer), answer_printed held told, puts-file before.disk after.disk answer.file u puts, refl)) put takes
 
       answer_changes : (put : Result (Unit {0}) FileFault) → PutsFile before.disk after.disk answer.file put → ChangesOnly words before after
       answer_changes put puts =
@@ -178,7 +178,7 @@ module _ (words : List (List ℕ)) (before after : Outside) where
       answer_unput put puts held told none = puts-nothing row answer before.disk after.disk put wanted answer.file refl puts held told (sym row_target ∙ none)
 
       answer_whole : (put : Result (Unit {0}) FileFault) → PutsFile before.disk after.disk answer.file put → WritesWhole words before after
-      answer_whole (Ok u) puts held told calm = inr (printed (Ok answer), answer_printed held told, puts-file before.disk after.disk answer.file u puts)
+      answer_whole (Ok u) puts held told calm = inr (printed_text (Ok answer), answer_printed held told, puts-file before.disk after.disk answer.file u puts)
       answer_whole (Err file_fault.Failed) puts held told calm = absurd (calm (fails-rising before.disk after.disk answer.file puts))
       answer_whole (Err file_fault.TooLong) puts held told calm = absurd (never-long before.disk after.disk answer.file puts)
       answer_whole (Err file_fault.NoMemory) puts held told calm = inl (lacks-held before.disk after.disk answer.file puts)
@@ -274,16 +274,16 @@ module _ (words : List (List ℕ)) (before after : Outside) where
         unread = λ rises. absurd (omega arith);
         write_cause = λ e. absurd (done_not_3 (subst IsDone e done));
         done_cause = λ _. (stays, puts-count before.disk after.disk answer.file u puts, takes.0);
-        defined = λ held told a b c. (printed (Ok answer), answer_printed held told, refl);
-        sure = λ held told _. inr (printed (Ok answer), answer_printed held told, inl refl);
-        all = λ held told _ calm found. (printed (Ok answer), answer_printed held told, takes.1, puts-file before.disk after.disk answer.file u puts);
+        defined = λ held told a b c. (printed_text (Ok answer), answer_printed held told, refl);
+        sure = λ held told _. inr (printed_text (Ok answer), answer_printed held told, inl refl);
+        all = λ held told _ calm found. (printed_text (Ok answer), answer_printed held told, takes.1, puts-file before.disk after.disk answer.file u puts);
         prefix = answer_prefix u puts (Ok v) takes;
         changes = answer_changes (Ok u) puts;
         unput = answer_unput (Ok u) puts;
         whole = answer_whole (Ok u) puts;
         keeps = λ one. absurd (elim one [ inl e ↦ done_not_1 (subst IsDone e done) | inr other ↦ elim other [ inl e ↦ done_not_2 (subst IsDone e done) | inr e ↦ done_not_4 (subst IsDone e done) ] ]);
         unprinted = λ rises. absurd (let is : after.disk.writes ≡ before.disk.writes = puts-count before.disk after.disk answer.file u puts in omega arith);
-        done_all = λ held told _. (printed (Ok answer), answer_printed held told, refl, takes.1, puts-file before.disk after.disk answer.file u puts);
+        done_all = λ held told _. (printed_text (Ok answer), answer_printed held told, refl, takes.1, puts-file before.disk after.disk answer.file u puts);
         headline = λ held told run journal named _. headline_here takes.1 (puts-file before.disk after.disk answer.file u puts) held told run journal named;
         console = λ held told run named _. console_here takes.1 held told run named;
         finding_cause = λ held told run named nine. finding_here nine held told run named;
@@ -301,7 +301,7 @@ module _ (words : List (List ℕ)) (before after : Outside) where
         write_cause = λ _. fails;
         done_cause = λ d. absurd (done_not_3 d);
         defined = λ held told a b c. absurd (b refl);
-        sure = λ held told _. inr (printed (Ok answer), answer_printed held told, inr (refl, fails, done));
+        sure = λ held told _. inr (printed_text (Ok answer), answer_printed held told, inr (refl, fails, done));
         all = λ held told _ calm found. absurd (calm fails);
         prefix = prefix;
         changes = leaves.changes;
@@ -320,7 +320,7 @@ module _ (words : List (List ℕ)) (before after : Outside) where
       uncounted : after.disk.writes ≡ before.disk.writes → IsUnprinted before after
       uncounted is rises = absurd (omega arith)
 
-      text_end : (u : Unit {0}) → PutsFile before.disk after.disk answer.file (Ok u) → (put : Result (Unit {0}) SinkFault) → Took before.output after.output answer.text put → Promises words before after (status_of (ended (ending.Done answer.status) ending.WriteFault put))
+      text_end : (u : Unit {0}) → PutsFile before.disk after.disk answer.file (Ok u) → (put : Result (Unit {0}) SinkFault) → Took before.output after.output answer.text put → Promises words before after (status_of (ending_after (ending.Done answer.status) ending.WriteFault put))
       text_end u puts (Ok v) takes = delivered u puts v takes
       text_end u puts (Err sink_fault.Failed) takes = broken (inl takes.2) (answer_prefix u puts (Err sink_fault.Failed) takes) (answer_leaves (Ok u) puts (uncounted (puts-count before.disk after.disk answer.file u puts)))
       text_end u puts (Err sink_fault.NoMemory) takes = no_memory (answer_prefix u puts (Err sink_fault.NoMemory) takes) (answer_leaves (Ok u) puts (uncounted (puts-count before.disk after.disk answer.file u puts)))
@@ -337,11 +337,11 @@ module _ (words : List (List ℕ)) (before after : Outside) where
 
     -- ---- bad input
     module _ (refusal : Refusal) (bad : refusal_status refusal ≡ 4) (same : after.disk ≡ before.disk) (stays : after.reads ≡ before.reads) (wanted : (held : Held) → before.disk.held ≡ Some held → IsOutcome row held (Err refusal)) where
-      bad_printed : (held : Held) → before.disk.held ≡ Some held → IsPrinted words held (printed (Err refusal))
+      bad_printed : (held : Held) → before.disk.held ≡ Some held → IsPrinted words held (printed_text (Err refusal))
       bad_printed held told = row_printed held (Err refusal) (wanted held told)
 
       bad_prefix : (put : Result (Unit {0}) SinkFault) → Took before.output after.output (line_of refusal) put → WritesPrefix words before after
-      bad_prefix put takes = part_prefix (line_of refusal) (λ held told. (printed (Err refusal), bad_printed held told, no_file same, refl)) put takes
+      bad_prefix put takes = part_prefix (line_of refusal) (λ held told. (printed_text (Err refusal), bad_printed held told, no_file same, refl)) put takes
 
       bad_said : (put : Result (Unit {0}) SinkFault) → put ≢ Err sink_fault.NoMemory → Took before.output after.output (line_of refusal) put → Promises words before after 4
       bad_said put found takes = record {
@@ -351,9 +351,9 @@ module _ (words : List (List ℕ)) (before after : Outside) where
         unread = λ rises. absurd (omega arith);
         write_cause = λ e. absurd (omega arith);
         done_cause = λ d. absurd (done_not_4 d);
-        defined = λ held told a b c. (printed (Err refusal), bad_printed held told, bad);
-        sure = λ held told _. inr (printed (Err refusal), bad_printed held told, inl (sym bad));
-        all = λ held told _ calm _. (printed (Err refusal), bad_printed held told, whole_put (line_of refusal) put takes found (λ rises. calm (inl rises)), ap (λ (d : Disk). d.held) same);
+        defined = λ held told a b c. (printed_text (Err refusal), bad_printed held told, bad);
+        sure = λ held told _. inr (printed_text (Err refusal), bad_printed held told, inl (sym bad));
+        all = λ held told _ calm _. (printed_text (Err refusal), bad_printed held told, whole_put (line_of refusal) put takes found (λ rises. calm (inl rises)), ap (λ (d : Disk). d.held) same);
         prefix = bad_prefix put takes;
         changes = (same_leaves same).changes;
         unput = (same_leaves same).unput;
@@ -368,7 +368,7 @@ module _ (words : List (List ℕ)) (before after : Outside) where
         debugs = λ held told run commands row d. absurd (done_not_4 d);
       }
 
-      bad_end : (put : Result (Unit {0}) SinkFault) → Took before.output after.output (line_of refusal) put → Promises words before after (status_of (ended ending.BadInput ending.BadInput put))
+      bad_end : (put : Result (Unit {0}) SinkFault) → Took before.output after.output (line_of refusal) put → Promises words before after (status_of (ending_after ending.BadInput ending.BadInput put))
       bad_end (Ok done) takes = bad_said (Ok done) (λ e. absurd (cc)) takes
       bad_end (Err sink_fault.Failed) takes = bad_said (Err sink_fault.Failed) (λ e. absurd (cc)) takes
       bad_end (Err sink_fault.NoMemory) takes = no_memory (bad_prefix (Err sink_fault.NoMemory) takes) (same_leaves same)
@@ -384,11 +384,11 @@ module _ (words : List (List ℕ)) (before after : Outside) where
       told-lacks None held told lacks = absurd lacks
       told-lacks (Some h) held told lacks = subst (λ x. IsOutcome row x (Err (Unread name))) (let here : h ≡ held = cc in here) lacks
 
-      lacks-file : (o : Told) → IsSomeAnd o (λ h. IsOutcome row h (Err (Unread name))) → IsSomeAnd o (λ held. (n : List ℕ) × (held n ≡ None) × IsPrinted words held (printed (Err (Unread n))))
+      lacks-file : (o : Told) → IsSomeAnd o (λ h. IsOutcome row h (Err (Unread name))) → IsSomeAnd o (λ held. (n : List ℕ) × (held n ≡ None) × IsPrinted words held (printed_text (Err (Unread n))))
       lacks-file None lacks = absurd lacks
       lacks-file (Some h) lacks = (name, row-unread row h name lacks, row_printed h (Err (Unread name)) lacks)
 
-      unread_printed : (held : Held) → before.disk.held ≡ Some held → ¬ Rises before.reads after.reads → IsPrinted words held (printed (Err (Unread name)))
+      unread_printed : (held : Held) → before.disk.held ≡ Some held → ¬ Rises before.reads after.reads → IsPrinted words held (printed_text (Err (Unread name)))
       unread_printed held told stays = elim cause [
         | inl rises ↦ absurd (stays rises)
         | inr lacks ↦ row_printed held (Err (Unread name)) (told-lacks before.disk.held held told lacks)
@@ -399,7 +399,7 @@ module _ (words : List (List ℕ)) (before after : Outside) where
           let part = takes-prefix _ _ (line_of (Unread name)) _ _ put takes in
           elim cause [
             | inl rises ↦ inr (inr (rises, (name, read_by held told, (part.0, part.1))))
-            | inr lacks ↦ inr (inl (printed (Err (Unread name)), row_printed held (Err (Unread name)) (told-lacks before.disk.held held told lacks), no_file same, (part.0, part.1)))
+            | inr lacks ↦ inr (inl (printed_text (Err (Unread name)), row_printed held (Err (Unread name)) (told-lacks before.disk.held held told lacks), no_file same, (part.0, part.1)))
           ]
 
       unread_said : (put : Result (Unit {0}) SinkFault) → put ≢ Err sink_fault.NoMemory → Took before.output after.output (line_of (Unread name)) put → Promises words before after 2
@@ -411,8 +411,8 @@ module _ (words : List (List ℕ)) (before after : Outside) where
         write_cause = λ e. absurd (omega arith);
         done_cause = λ d. absurd (done_not_2 d);
         defined = λ held told a b c. absurd (a refl);
-        sure = λ held told stays. inr (printed (Err (Unread name)), unread_printed held told stays, inl refl);
-        all = λ held told stays calm _. (printed (Err (Unread name)), unread_printed held told stays, whole_put (line_of (Unread name)) put takes found (λ rises. calm (inl rises)), ap (λ (d : Disk). d.held) same);
+        sure = λ held told stays. inr (printed_text (Err (Unread name)), unread_printed held told stays, inl refl);
+        all = λ held told stays calm _. (printed_text (Err (Unread name)), unread_printed held told stays, whole_put (line_of (Unread name)) put takes found (λ rises. calm (inl rises)), ap (λ (d : Disk). d.held) same);
         prefix = unread_prefix put takes;
         changes = (same_leaves same).changes;
         unput = (same_leaves same).unput;
@@ -427,13 +427,13 @@ module _ (words : List (List ℕ)) (before after : Outside) where
         debugs = λ held told run commands row d. absurd (done_not_2 d);
       }
 
-      unread_end : (put : Result (Unit {0}) SinkFault) → Took before.output after.output (line_of (Unread name)) put → Promises words before after (status_of (ended ending.Unread ending.Unread put))
+      unread_end : (put : Result (Unit {0}) SinkFault) → Took before.output after.output (line_of (Unread name)) put → Promises words before after (status_of (ending_after ending.Unread ending.Unread put))
       unread_end (Ok done) takes = unread_said (Ok done) (λ e. absurd (cc)) takes
       unread_end (Err sink_fault.Failed) takes = unread_said (Err sink_fault.Failed) (λ e. absurd (cc)) takes
       unread_end (Err sink_fault.NoMemory) takes = no_memory (unread_prefix (Err sink_fault.NoMemory) takes) (same_leaves same)
 
     -- ---- whatever was answered
-    refusal_end : (refusal : Refusal) → after.disk ≡ before.disk → Refuses before.disk.held (IsOutcome row) before.reads after.reads refusal → (put : Result (Unit {0}) SinkFault) → Took before.output after.output (line_of refusal) put → Promises words before after (status_of (ended (refused refusal) (refused refusal) put))
+    refusal_end : (refusal : Refusal) → after.disk ≡ before.disk → Refuses before.disk.held (IsOutcome row) before.reads after.reads refusal → (put : Result (Unit {0}) SinkFault) → Took before.output after.output (line_of refusal) put → Promises words before after (status_of (ending_after (ending_of_refusal refusal) (ending_of_refusal refusal) put))
     refusal_end (Unread name) same why put takes = unread_end name same why.1 why.2 put takes
     refusal_end (Bad name fault) same why put takes = bad_end (Bad name fault) refl same why.0 why.1 put takes
 

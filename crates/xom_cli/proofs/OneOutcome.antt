@@ -10,7 +10,7 @@ use Rattle.cli_programs.specs.Assembly.{AssemblesRead, AssemblesText, image_answ
 use Rattle.cli_base.specs.Inputs.{Held, fetched}
 use Rattle.cli_programs.specs.Programs.{source_limit}
 use Rattle.xom_cli.specs.Laws.{HaveOneOutcome}
-use Rattle.xom_cli.specs.Outcome.{IsOutcome, IsPrinted, IsPrintedBy, Printed, printed}
+use Rattle.xom_cli.specs.Outcome.{IsOutcome, IsPrinted, IsPrintedBy, Printed, printed_text}
 use Rattle.xom_cli.specs.Rows.{Row, Asm, Disasm, Plain, Seal, Run, Trace, Judge, Debug, row_of}
 
 same-some : (o : Option Refusal) (a b : Refusal) → o ≡ Some a → o ≡ Some b → a ≡ b
@@ -46,7 +46,7 @@ row-one (Debug run commands) held x y p q = sym p ∙ q
 
 printed-one : (o : Option Row) (held : Held) (p q : Printed) → IsPrintedBy o held p → IsPrintedBy o held q → p ≡ q
 printed-one None held p q a b = a ∙ sym b
-printed-one (Some row) held p q a b = a.2 ∙ ap printed (row-one row held a.0 b.0 a.1 b.1) ∙ sym b.2
+printed-one (Some row) held p q a b = a.2 ∙ ap printed_text (row-one row held a.0 b.0 a.1 b.1) ∙ sym b.2
 
 pub one_outcome : HaveOneOutcome
 unfolding IsPrinted

@@ -58,24 +58,24 @@ status_of ending.NoMemory = 5
 -- ---- The sink
 
 -- the ending of a call whose text was put with this answer of the sink
-abbrev pub ended : Ending → Ending → Result (Unit {0}) SinkFault → Ending
-ended whole broken (Ok done) = whole
-ended whole broken (Err sink_fault.Failed) = broken
-ended whole broken (Err sink_fault.NoMemory) = ending.NoMemory
+abbrev pub ending_after : Ending → Ending → Result (Unit {0}) SinkFault → Ending
+ending_after whole broken (Ok done) = whole
+ending_after whole broken (Err sink_fault.Failed) = broken
+ending_after whole broken (Err sink_fault.NoMemory) = ending.NoMemory
 
 -- a text was put, and the call ends by that
 abbrev pub Prints : Output → Output → List ℕ → Ending → Ending → Ending → Type 0
 Prints before after text whole broken result =
-    (put : Result (Unit {0}) SinkFault) × TakesAll before.written after.written text before.faults after.faults put × (result ≡ ended whole broken put)
+    (put : Result (Unit {0}) SinkFault) × TakesAll before.written after.written text before.faults after.faults put × (result ≡ ending_after whole broken put)
 
 -- nothing was put, and the call ends so
 abbrev pub IsSilent : Output → Output → Ending → Ending → Type 0
 IsSilent before after wanted result = (result ≡ wanted) × (after ≡ before)
 
 -- the ending of a refusal, whether or not its line could be printed
-abbrev pub refused : Refusal → Ending
-refused (Unread name) = ending.Unread
-refused (Bad name fault) = ending.BadInput
+abbrev pub ending_of_refusal : Refusal → Ending
+ending_of_refusal (Unread name) = ending.Unread
+ending_of_refusal (Bad name fault) = ending.BadInput
 
 -- ---- The files
 
@@ -100,7 +100,7 @@ Delivers disk_before disk_after before after answer result =
 
 -- the line of a refusal was printed, unless memory ran out
 abbrev pub PrintsRefusal : Output → Output → Refusal → Ending → Type 0
-PrintsRefusal before after refusal result = IsSilent before after ending.NoMemory result ⊎ Prints before after (line_of refusal) (refused refusal) (refused refusal) result
+PrintsRefusal before after refusal result = IsSilent before after ending.NoMemory result ⊎ Prints before after (line_of refusal) (ending_of_refusal refusal) (ending_of_refusal refusal) result
 
 -- what was answered is delivered
 abbrev pub Finishes : Disk → Disk → Output → Output → Result Answer Stop → Ending → Type 0

@@ -33,13 +33,13 @@ pub record Printed : Type 0 where
 abbrev pub printed_words : Printed
 printed_words = record { text = words_line; file = None; status = 1 }
 
-abbrev pub printed : Result Answer Refusal → Printed
-printed (Ok answer) = record { text = answer.text; file = answer.file; status = answer.status }
-printed (Err refusal) = record { text = line_of refusal; file = None; status = refusal_status refusal }
+abbrev pub printed_text : Result Answer Refusal → Printed
+printed_text (Ok answer) = record { text = answer.text; file = answer.file; status = answer.status }
+printed_text (Err refusal) = record { text = line_of refusal; file = None; status = refusal_status refusal }
 
 abbrev pub IsPrintedBy : Option Row → Held → Printed → Type 0
 IsPrintedBy None held p = p ≡ printed_words
-IsPrintedBy (Some row) held p = (result : Result Answer Refusal) × IsOutcome row held result × (p ≡ printed result)
+IsPrintedBy (Some row) held p = (result : Result Answer Refusal) × IsOutcome row held result × (p ≡ printed_text result)
 
 -- This is what words print and write, and the status that they end with, over files that hold this.
 unfoldable pub IsPrinted : List (List ℕ) → Held → Printed → Type 0

@@ -8,7 +8,7 @@ use Rattle.cli_base.specs.declared.refusal.Refusal.TheVariants.{Unread}
 use Rattle.xom_cli.specs.Endings.{Disk, Outside}
 use Rattle.cli_base.specs.Commands.{IsDone}
 use Rattle.cli_base.specs.Inputs.{Held, without}
-use Rattle.xom_cli.specs.Outcome.{IsPrinted, Printed, printed}
+use Rattle.xom_cli.specs.Outcome.{IsPrinted, Printed, printed_text}
 use Rattle.cli_base.specs.Refusals.{line_of}
 use Rattle.xom_cli.specs.Rows.{Run, Trace, Judge, Debug, row_of, target_of}
 use Rattle.xom_base.specs.declared.entry.Entry.{Entry}
@@ -37,11 +37,11 @@ pub record WordsCause (words : List (List ℕ)) (status : ℕ) : Type 0 where
 -- 2 only where the count of reads rose or, where it is told, a file that is read isn't held
 abbrev pub ReadCause : List (List ℕ) → Outside → Outside → ℕ → Type 0
 ReadCause words before after status =
-    status ≡ 2 → Rises before.reads after.reads ⊎ IsSomeAnd before.disk.held (λ held. (name : List ℕ) × (held name ≡ None) × IsPrinted words held (printed (Err (Unread name))))
+    status ≡ 2 → Rises before.reads after.reads ⊎ IsSomeAnd before.disk.held (λ held. (name : List ℕ) × (held name ≡ None) × IsPrinted words held (printed_text (Err (Unread name))))
 
 -- the command reads a file of this name: were it not held, that would be said
 abbrev pub IsReadBy : List (List ℕ) → Held → List ℕ → Type 0
-IsReadBy words held name = IsPrinted words (without name held) (printed (Err (Unread name)))
+IsReadBy words held name = IsPrinted words (without name held) (printed_text (Err (Unread name)))
 
 -- the line that says of a file that it can't be read was written; where it is told what files hold, the command reads that file
 abbrev pub SaysUnread : List (List ℕ) → Outside → Outside → Type 0

@@ -1,5 +1,5 @@
 ghost use Rattle.std.specs.Prelude.{◌≡◌, ◌++◌, IfOk, string_bytes};
-ghost use Rattle.xom_cli.specs.Endings.{Delivers, Finishes, Prints, PrintsRefusal, PutsFile, disk, output, refused as refused_by};
+ghost use Rattle.xom_cli.specs.Endings.{Delivers, Finishes, Prints, PrintsRefusal, PutsFile, disk, ending_of_refusal as refused_by, output};
 ghost use Rattle.cli_base.specs.Commands.{IsDone};
 ghost use Rattle.cli_base.specs.Refusals.{fault_text as fault_text_of, line_of, source_word as source_word_of};
 

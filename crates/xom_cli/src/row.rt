@@ -1,6 +1,6 @@
 ghost use Rattle.std.specs.Prelude.{◌≡◌, map, option_map, string_bytes};
 ghost use Rattle.xom_cli.specs.Rows.{plain_row as plain_row_of, row_of, row_of_five as row_of_five_words, row_of_one as row_of_one_word, row_of_three as row_of_three_words, row_of_two as row_of_two_words, seal_row as seal_row_of};
-ghost use Rattle.xom_cli.specs.Words.{shown};
+ghost use Rattle.xom_cli.specs.Words.{row_of_words_of};
 
 use xom_base::{ImageId, Key256, hex16, hex32, number_below};
 
@@ -56,7 +56,7 @@ pub enum Row<'a> {
 
 /// The row that the words match, or none. The words come after the program's name.
 pub fn row_named(words: &[String]) -> Option<Row<'_>>
-    ensures { option_map shown result ≡ row_of (map string_bytes words.now) }
+    ensures { option_map row_of_words_of result ≡ row_of (map string_bytes words.now) }
 {
     match words {
         [command, a] => row_of_one(command, a),
@@ -69,7 +69,7 @@ pub fn row_named(words: &[String]) -> Option<Row<'_>>
 
 /// The row of a command with one word.
 fn row_of_one<'a>(command: &String, a: &'a String) -> Option<Row<'a>>
-    ensures { option_map shown result ≡ row_of_one_word (string_bytes command.now) (string_bytes a.now) }
+    ensures { option_map row_of_words_of result ≡ row_of_one_word (string_bytes command.now) (string_bytes a.now) }
 {
     match command.as_str() {
         "disasm" => Some(Row::Disasm { image: a }),
@@ -84,7 +84,7 @@ fn row_of_one<'a>(command: &String, a: &'a String) -> Option<Row<'a>>
 
 /// The row of a command with two words.
 fn row_of_two<'a>(command: &String, a: &'a String, b: &'a String) -> Option<Row<'a>>
-    ensures { option_map shown result ≡ row_of_two_words (string_bytes command.now) (string_bytes a.now) (string_bytes b.now) }
+    ensures { option_map row_of_words_of result ≡ row_of_two_words (string_bytes command.now) (string_bytes a.now) (string_bytes b.now) }
 {
     match command.as_str() {
         "asm" => Some(Row::Asm {
@@ -107,7 +107,7 @@ fn row_of_two<'a>(command: &String, a: &'a String, b: &'a String) -> Option<Row<
 
 /// The row of a command with three words.
 fn row_of_three<'a>(command: &String, a: &'a String, b: &String, c: &'a String) -> Option<Row<'a>>
-    ensures { option_map shown result ≡ row_of_three_words (string_bytes command.now) (string_bytes a.now) (string_bytes b.now) (string_bytes c.now) }
+    ensures { option_map row_of_words_of result ≡ row_of_three_words (string_bytes command.now) (string_bytes a.now) (string_bytes b.now) (string_bytes c.now) }
 {
     match command.as_str() {
         "plain" => plain_row(a, b, Some(c)),
@@ -124,7 +124,7 @@ fn row_of_five<'a>(
     d: &String,
     e: &'a String,
 ) -> Option<Row<'a>>
-    ensures { option_map shown result ≡ row_of_five_words (string_bytes command.now) (string_bytes a.now) (string_bytes b.now) (string_bytes c.now) (string_bytes d.now) (string_bytes e.now) }
+    ensures { option_map row_of_words_of result ≡ row_of_five_words (string_bytes command.now) (string_bytes a.now) (string_bytes b.now) (string_bytes c.now) (string_bytes d.now) (string_bytes e.now) }
 {
     match command.as_str() {
         "seal" => seal_row(a, b, c, d, e),
@@ -134,7 +134,7 @@ fn row_of_five<'a>(
 
 /// The row of `plain`, where the word for the steps is a number of at most 1,048,576.
 fn plain_row<'a>(image: &'a String, steps: &String, received: Option<&'a String>) -> Option<Row<'a>>
-    ensures { option_map shown result ≡ plain_row_of (string_bytes image.now) (string_bytes steps.now) (option_map (λ name. string_bytes name.now) received.entry) }
+    ensures { option_map row_of_words_of result ≡ plain_row_of (string_bytes image.now) (string_bytes steps.now) (option_map (λ name. string_bytes name.now) received.entry) }
 {
     let steps = number_below(steps.as_bytes(), MOST_STEPS + 1)?;
     Some(Row::Plain {
@@ -153,7 +153,7 @@ fn seal_row<'a>(
     machine: &String,
     sealed: &'a String,
 ) -> Option<Row<'a>>
-    ensures { option_map shown result ≡ seal_row_of (string_bytes image.now) (string_bytes key.now) (string_bytes id.now) (string_bytes machine.now) (string_bytes sealed.now) }
+    ensures { option_map row_of_words_of result ≡ seal_row_of (string_bytes image.now) (string_bytes key.now) (string_bytes id.now) (string_bytes machine.now) (string_bytes sealed.now) }
 {
     let key = hex32(key.as_bytes())?;
     let id = hex16(id.as_bytes())?;

@@ -4,7 +4,7 @@ ghost use Rattle.cli_base.specs.Commands.{IsDone};
 ghost use Rattle.xom_cli.specs.Outcome.{IsOutcome};
 ghost use Rattle.xom_cli.specs.Promises.{Promises};
 ghost use Rattle.cli_base.specs.Readings.{Meets};
-ghost use Rattle.xom_cli.specs.Words.{shown};
+ghost use Rattle.xom_cli.specs.Words.{row_of_words_of};
 
 use crate::delivery::{finish, print};
 use crate::ending::Ending;
@@ -77,9 +77,9 @@ fn call<F: Files, O: Sink>(alloc: Global, words: &[String], files: &mut F, out: 
 
 /// What a row's command answers.
 fn answer<F: Files>(alloc: Global, row: Row<'_>, files: &mut F) -> Result<Answer, Stop>
-    ensures meets { Meets (F.held files.old) (IsOutcome (shown row.entry)) (F.reads files.old) (F.reads files.new) result }
+    ensures meets { Meets (F.held files.old) (IsOutcome (row_of_words_of row.entry)) (F.reads files.old) (F.reads files.new) result }
     ensures done { IfOk result (λ answer. IsDone answer.status) }
-    ensures follow { IfOk result (λ _. RowFollows (F.held files.old) (shown row.entry)) }
+    ensures follow { IfOk result (λ _. RowFollows (F.held files.old) (row_of_words_of row.entry)) }
     ensures names { F.held files.new ≡ F.held files.old }
     ensures writes { F.writes files.new ≡ F.writes files.old }
 {

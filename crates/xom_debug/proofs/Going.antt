@@ -8,7 +8,7 @@ use Rattle.xom_base.specs.declared.event.Event.TheVariants as event
 use Rattle.xom_base.specs.declared.schedule.Schedule.{Schedule}
 use Rattle.xom_versions.specs.Versions.{Versions}
 use Rattle.xom_model.specs.declared.outcome.Turn.{Turn}
-use Rattle.xom_model.specs.Event.{on, running}
+use Rattle.xom_model.specs.Event.{on, running_slot}
 use Rattle.xom_model.specs.Run.{poke_at}
 use Rattle.xom_model.specs.Seen.{View, view_of}
 use Rattle.xom_model.specs.State.{Record}
@@ -69,7 +69,7 @@ module _ {K : Type 0} (told : K → View → Option (Turn × (List ℕ × K))) (
 
   pub goes-one : (s : Session) (m : Whole) (k : K) (e : Event) (s' : Session) (m' : Whole) (k' : K) → (makes : Makes told schedule v s m k e s' m' k') → Goes told schedule v s m k ((e, makes.chunk) ∷ []) s' m' k'
   goes-one s m k e s' m' k' makes = record {
-    made = (makes.fits, next-due s.guests m.state k e makes.chunk k' (poke_at schedule.pokes (m.state.events + 1)) (running m.state) makes.next, makes.state);
+    made = (makes.fits, next-due s.guests m.state k e makes.chunk k' (poke_at schedule.pokes (m.state.events + 1)) (running_slot m.state) makes.next, makes.state);
     counted = makes.counted;
     guests = omega (arith, makes.guests);
     few = λ few. let one = at_most_one e in omega (arith, one, few, makes.guests, makes.counted);

@@ -10,7 +10,7 @@ use Rattle.xom_base.specs.declared.schedule.Schedule.{Schedule}
 use Rattle.xom_versions.specs.Versions.{Versions}
 use Rattle.xom_model.specs.declared.outcome.Outcome.{Outcome}
 use Rattle.xom_model.specs.declared.outcome.Turn.{Turn}
-use Rattle.xom_model.specs.Event.{on, running}
+use Rattle.xom_model.specs.Event.{on, running_slot}
 use Rattle.xom_model.specs.Run.{event_of, is_flagged, poke_at}
 use Rattle.xom_model.specs.Seen.{View, view_of}
 use Rattle.xom_model.specs.State.{Record}
@@ -93,13 +93,13 @@ module _ {K : Type 0} (told : K → View → Option (Turn × (List ℕ × K))) (
   own_told g r k e chunk k' None next = turn_told g r e chunk k' (told k (view_of r)) next.1
 
   -- whatever comes next is the first of the moments that are told
-  next_told : (g : ℕ) (r : Record) (k : K) (e : Event) (chunk : List ℕ) (k' : K) (poke : Option Poke) → IsNextWhere told schedule g r k e chunk k' poke (running r)
+  next_told : (g : ℕ) (r : Record) (k : K) (e : Event) (chunk : List ℕ) (k' : K) (poke : Option Poke) → IsNextWhere told schedule g r k e chunk k' poke (running_slot r)
       → IfSome (with_made v told schedule later g r (next_made v told schedule g r k poke)) (GoesOn told schedule v r ((e, chunk) ∷ []) (later (g + guests_in e) (on v r e chunk).0 k'))
   next_told g r k e chunk k' (Some poke) next =
       let is : e ≡ event.Poke poke.address (length poke.bytes) = next.0.0 in
       let its : bytes_of e poke.bytes ≡ poke.bytes = subst (λ x. bytes_of x poke.bytes ≡ poke.bytes) (sym is) (take_all (length poke.bytes) poke.bytes (omega arith)) in
       alike g r e (event.Poke poke.address (length poke.bytes)) chunk poke.bytes k' k is (next.0.1 ∙ sym its) next.1
-  next_told g r k e chunk k' None next = own_told g r k e chunk k' (running r) next
+  next_told g r k e chunk k' None next = own_told g r k e chunk k' (running_slot r) next
 
   -- a run that goes on makes one event first
   from-one : (g : ℕ) (r : Record) (k : K) → r.halted ≡ false
@@ -107,7 +107,7 @@ module _ {K : Type 0} (told : K → View → Option (Turn × (List ℕ × K))) (
   unfolding moments_from
   from-one g r k going = cond-false r.halted (Some []) (with_made v told schedule later g r (next_made v told schedule g r k (poke_at schedule.pokes (r.events + 1)))) going
 
-  pub one_told : (g : ℕ) (r : Record) (k : K) (e : Event) (chunk : List ℕ) (k' : K) → r.halted ≡ false → IsNextWhere told schedule g r k e chunk k' (poke_at schedule.pokes (r.events + 1)) (running r)
+  pub one_told : (g : ℕ) (r : Record) (k : K) (e : Event) (chunk : List ℕ) (k' : K) → r.halted ≡ false → IsNextWhere told schedule g r k e chunk k' (poke_at schedule.pokes (r.events + 1)) (running_slot r)
       → IfSome (moments_from v told schedule (suc more) g r k) (GoesOn told schedule v r ((e, chunk) ∷ []) (later (g + guests_in e) (on v r e chunk).0 k'))
   one_told g r k e chunk k' going next =
       subst (λ (o : Option (List Moment)). IfSome o (GoesOn told schedule v r ((e, chunk) ∷ []) (later (g + guests_in e) (on v r e chunk).0 k'))) (sym (from-one g r k going))

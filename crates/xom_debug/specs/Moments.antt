@@ -9,7 +9,7 @@ use Rattle.xom_base.specs.declared.schedule.Poke.{Poke}
 use Rattle.xom_base.specs.declared.schedule.Schedule.{Schedule}
 use Rattle.xom_versions.specs.Versions.{Versions}
 use Rattle.xom_model.specs.declared.outcome.Turn.{Turn}
-use Rattle.xom_model.specs.Event.{on, running}
+use Rattle.xom_model.specs.Event.{on, running_slot}
 use Rattle.xom_model.specs.Run.{event_of, is_flagged, poke_at}
 use Rattle.xom_model.specs.Seen.{View, view_of}
 use Rattle.xom_model.specs.State.{Record}
@@ -65,7 +65,7 @@ module _ (v : Versions) {K : Type 0} (told : K → View → Option (Turn × (Lis
   -- the write of the bus that is listed for its number, else one of the machine's own
   abbrev pub next_made : ℕ → Record → K → Option Poke → Option (Made × K)
   next_made guests r k (Some poke) = Some ((event.Poke poke.address (length poke.bytes), poke.bytes), k)
-  next_made guests r k None = own_next guests r k (running r)
+  next_made guests r k None = own_next guests r k (running_slot r)
 
   -- how a run goes on: guest events so far, record and kernel
   abbrev pub NextMoments : Type 0

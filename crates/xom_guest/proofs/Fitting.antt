@@ -10,7 +10,7 @@ use Rattle.mips_effect.specs.declared.effects.Effect.{Effect}
 use Rattle.mips_effect.specs.declared.wish.Wish.{Wish}
 use Rattle.mips_effect.specs.declared.wish.Wish.TheVariants as wish
 use Rattle.mips_effect.specs.Effects.{IsInRange, Ranged}
-use Rattle.mips_plain.specs.Instruction.{made, step_made}
+use Rattle.mips_plain.specs.Instruction.{step_made, step_of_wish}
 use Rattle.mips_plain.specs.Memory.{low_bytes}
 use Rattle.line_cache.specs.declared.way.Way.{Way}
 use Rattle.line_cache.specs.Ways.{way_at}
@@ -21,7 +21,7 @@ use Rattle.session_table.specs.Sessions.{free, is_live, paused, session_at}
 use Rattle.slot_keys.specs.GuestKeys.{GuestKeys, OthersKeep, keys_at, with_registers}
 use Rattle.xom_seal.specs.Keys.{register_keys}
 use Rattle.xom_versions.specs.Store.{Store}
-use Rattle.xom_model.specs.Guest.{address_in, moved, stored_at, stored_way}
+use Rattle.xom_model.specs.Guest.{address_in, session_after_step, stored_at, stored_way}
 use Rattle.xom_model.specs.State.{page_of}
 use Rattle.xom_model.proofs.Gone.{less}
 use Rattle.xom_model.proofs.RamSize.{area_stays, frames_stay}
@@ -33,7 +33,7 @@ use Rattle.xom_guest.specs.Places.{CanStore, IsPlaceFor, IsPlaceOf, StoresIn}
 
 -- it lies in the line of its address
 made_stores : (ways : List Way) (slot place pc npc : ℕ) (written : Writes) (wished : Wish) (word got : ℕ) → IsInRange wished → IsPlaceFor ways slot place (address_in wished)
-    → StoresIn ways slot place (made pc npc written wished word got).stored
+    → StoresIn ways slot place (step_of_wish pc npc written wished word got).stored
 made_stores ways slot place pc npc written (wish.Store at count value) word got range its = (its, range.some, range.few, let one : at % 4 + count ≤ 4 = range.one_word in omega arith)
 made_stores ways slot place pc npc written (wish.Load reg at how old) word got range its = tt
 made_stores ways slot place pc npc written wish.Nothing word got range its = tt
@@ -142,14 +142,14 @@ module _ (sessions : List Session) (pages : Pages) (ways : List Way) (ram new_ra
   }
 
 pub fits_retired : (sessions : List Session) (pages : Pages) (ways new_ways : List Way) (ram new_ram : List ℕ) (stores : List Store) (keys : List GuestKeys) (boot slot place : ℕ) (s : Session) (effect : Effect) (step : Step)
-    → 1 ≤ slot → (session_at sessions slot).state ≡ state.Running → s ≡ moved (session_at sessions slot) effect step
+    → 1 ≤ slot → (session_at sessions slot).state ≡ state.Running → s ≡ session_after_step (session_at sessions slot) effect step
     → StoresIn ways slot place step.stored → new_ways ≡ stored_at ways place step.stored → length new_ram ≡ length ram
     → Fits sessions pages ways ram stores keys boot → Fits (set sessions slot s) pages new_ways new_ram stores keys boot
 fits_retired sessions pages ways new_ways ram new_ram stores keys boot slot place s effect step some runs s_is its ways_are size fits =
     let live : IsLiveIn sessions slot = ap is_live runs in
     let serves = fits.ready slot live in
     rw (s_is, ways_are)
-    (fits_session sessions pages (stored_at ways place step.stored) new_ram stores keys keys boot slot (moved (session_at sessions slot) effect step)
+    (fits_session sessions pages (stored_at ways place step.stored) new_ram stores keys keys boot slot (session_after_step (session_at sessions slot) effect step)
     live (ap is_live runs) (record { image = serves.image; run = serves.run; registers = serves.registers }) (λ _ _. refl)
     (fits_ram sessions pages (stored_at ways place step.stored) ram new_ram stores keys boot slot place some size
     (fits_stored sessions pages ways ram new_ram stores keys boot slot place some step.stored its fits)))

@@ -13,10 +13,10 @@ use Rattle.xom_versions.specs.declared.store.Torn.{Torn}
 use Rattle.xom_versions.specs.Versions.{Versions}
 use Rattle.xom_model.specs.declared.reach.Reach.{Reach}
 use Rattle.xom_model.specs.declared.reach.Reach.TheVariants as reach
-use Rattle.xom_model.specs.State.{CoreState, hashed, noted, page_of, session_of, store_of, with_way}
+use Rattle.xom_model.specs.State.{CoreState, core_with_hashes, page_of, session_of, store_of, with_entry, with_way}
 use Rattle.xom_model.specs.Lines.{accept_entry, ct_place, keys_of, name_of, sealed_at, who_of}
-use Rattle.xom_model.specs.Access.{access, brought, cleared_at, looked, mapped, opened, placed, put, read_from, with_pointers}
-use Rattle.xom_model.specs.Guest.{moved, retired}
+use Rattle.xom_model.specs.Access.{access, after_opening, brought, cleared_at, reach_after_placing, reach_after_victim, reach_by_cache, reach_in_frame, read_from, with_pointers}
+use Rattle.xom_model.specs.Guest.{after_retirement, session_after_step}
 use Rattle.xom_model.specs.Holds.{IsRunning}
 use Rattle.xom_model.proofs.AccessKept.{found-low, place_for-low}
 use Rattle.xom_model.proofs.Walk.{IsOwnPlace, Parts, Reached, running-within, walk_access}
@@ -30,34 +30,34 @@ IsLow (reach.PageFault page) = Unit {0}
 IsLow (reach.Stopped why) = Unit {0}
 
 module _ (v : Versions) (slot line : ℕ) where
-  low_put : (victim place : ℕ) (bytes : List ℕ) (result : CoreState × Option Rule) → place < 128 → IsLow (put v victim place slot line bytes result).1
+  low_put : (victim place : ℕ) (bytes : List ℕ) (result : CoreState × Option Rule) → place < 128 → IsLow (reach_after_victim v victim place slot line bytes result).1
   low_put victim place bytes (core, None) low = low
   low_put victim place bytes (core, Some why) low = cond_both (victim == slot) _ _ (λ (r : CoreState × Reach). IsLow r.1) (λ _. tt) (λ _. low)
 
-  low_placed : (core : CoreState) (bytes : List ℕ) → IsLow (placed v core slot line bytes).1
-  unfolding placed
+  low_placed : (core : CoreState) (bytes : List ℕ) → IsLow (reach_after_placing v core slot line bytes).1
+  unfolding reach_after_placing
   low_placed core bytes =
       let place = place_for core.ways core.pointers line in
       low_put (way_at core.ways place).slot place bytes (cleared_at v (with_pointers core line) place) (place_for-low core.ways core.pointers line)
 
-  low_opened : (core : CoreState) (version at : ℕ) (ct : List ℕ) (bytes : Option (List ℕ)) → IsLow (opened v core slot line version at ct bytes).1
+  low_opened : (core : CoreState) (version at : ℕ) (ct : List ℕ) (bytes : Option (List ℕ)) → IsLow (after_opening v core slot line version at ct bytes).1
   low_opened core version at ct None = tt
-  low_opened core version at ct (Some bytes) = low_placed (noted core (accept_entry (who_of core slot) line version ct at)) bytes
+  low_opened core version at ct (Some bytes) = low_placed (with_entry core (accept_entry (who_of core slot) line version ct at)) bytes
 
   low_brought : (core : CoreState) (frame : ℕ) (answer : Result ℕ Torn) → IsLow (brought v core slot line frame answer).1
   low_brought core frame (Err torn) = tt
   low_brought core frame (Ok version) =
-      cond_both (version == 0) (placed v core slot line (replicate 32 0)) (read_from v core slot line frame version) (λ (r : CoreState × Reach). IsLow r.1)
+      cond_both (version == 0) (reach_after_placing v core slot line (replicate 32 0)) (read_from v core slot line frame version) (λ (r : CoreState × Reach). IsLow r.1)
       (λ _. low_placed core (replicate 32 0))
       (λ _. low_opened core version (ct_place frame line) (sealed_at core.ram frame line).ct
       (unsealed_line (name_of (who_of core slot) line version) (keys_of (who_of core slot) line version) (sealed_at core.ram frame line)))
 
-  low_looked : (core : CoreState) (frame : ℕ) (at : Option ℕ) → length core.ways ≡ 128 → found core.ways slot line ≡ at → IsLow (looked v core slot line frame at).1
+  low_looked : (core : CoreState) (frame : ℕ) (at : Option ℕ) → length core.ways ≡ 128 → found core.ways slot line ≡ at → IsLow (reach_by_cache v core slot line frame at).1
   low_looked core frame (Some place) places is = found-low core.ways slot line place places is
   low_looked core frame None places is =
-      low_brought (hashed core (v.texts_of_version (store_of core slot) line core.ram)) frame (v.answer_of_version (store_of core slot) line core.ram)
+      low_brought (core_with_hashes core (v.texts_of_version (store_of core slot) line core.ram)) frame (v.answer_of_version (store_of core slot) line core.ram)
 
-  low_mapped : (core : CoreState) (frame : Option ℕ) → length core.ways ≡ 128 → IsLow (mapped v core slot line frame).1
+  low_mapped : (core : CoreState) (frame : Option ℕ) → length core.ways ≡ 128 → IsLow (reach_in_frame v core slot line frame).1
   low_mapped core None places = tt
   low_mapped core (Some frame) places = low_looked core frame (found core.ways slot line) places refl
 
@@ -103,8 +103,8 @@ pub made_comes : (v : Versions) (core new : CoreState) (slot line : ℕ) (answer
 made_comes v core new slot line answer places runs new_is answer_is = rw (new_is, answer_is) (access_comes v core slot line places runs)
 
 -- the guest runs on where its instruction retired
-pub retired_runs : (core new : CoreState) (slot place : ℕ) (effect : Effect) (step : Step) → new ≡ retired core slot place effect step → IsRunning core slot → RunsOn core new slot
+pub retired_runs : (core new : CoreState) (slot place : ℕ) (effect : Effect) (step : Step) → new ≡ after_retirement core slot place effect step → IsRunning core slot → RunsOn core new slot
 retired_runs core new slot place effect step is runs =
-    let here : session_of (retired core slot place effect step) slot ≡ moved (session_of core slot) effect step = get_or-set_same core.sessions slot _ free (running-within core slot runs) in
-    let now : session_of new slot ≡ moved (session_of core slot) effect step = ap (λ c. session_of c slot) is ∙ here in
+    let here : session_of (after_retirement core slot place effect step) slot ≡ session_after_step (session_of core slot) effect step = get_or-set_same core.sessions slot _ free (running-within core slot runs) in
+    let now : session_of new slot ≡ session_after_step (session_of core slot) effect step = ap (λ c. session_of c slot) is ∙ here in
     record { runs = ap (λ s. s.state) now ∙ runs; epoch = ap (λ s. s.epoch) now }

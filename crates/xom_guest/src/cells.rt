@@ -1,7 +1,7 @@
 ghost use Rattle.std.specs.Prelude.{◌≡◌, ◌≤◌, ◌<◌};
 ghost use Rattle.mips_effect.specs.Effects.{AreCells, IsInRange};
 ghost use Rattle.mips_plain.specs.Inside.{IsInside, IsLent};
-ghost use Rattle.xom_model.specs.Guest.{cells_after, open_value as open_value_of, received_by, seen_as as seen_as_of, seen_by as seen_by_of, tagged, untagged};
+ghost use Rattle.xom_model.specs.Guest.{cells_after, open_value as open_value_of, received_by, seen_as as seen_as_of, seen_by as seen_by_of, with_release, with_writes};
 
 use crate::memory::null_word;
 use line_ram::LineRam;
@@ -68,7 +68,7 @@ pub fn carry_out(slot: u8, cells: &mut Cells, step: &Step)
 fn write(slot: u8, cells: &mut Cells, writes: Writes)
     requires known { slot ≤ 16 }
     requires cells { AreCells writes }
-    ensures { cells.new ≡ tagged slot cells.old writes }
+    ensures { cells.new ≡ with_writes slot cells.old writes }
 {
     match writes {
         Writes::Nothing => {}
@@ -83,7 +83,7 @@ fn write(slot: u8, cells: &mut Cells, writes: Writes)
 /// A released cell is of the null compartment, and keeps its value.
 fn release(cells: &mut Cells, released: Released)
     requires { IsLent released }
-    ensures { cells.new ≡ untagged cells.old released }
+    ensures { cells.new ≡ with_release cells.old released }
 {
     if let Released::Cell { reg, value } = released {
         cells.set(reg, value, 0);

@@ -1,7 +1,7 @@
 ghost use Rattle.std.specs.Prelude.{◌≡◌, ◌≤◌, ◌<◌, ◌+◌, ◌^◌, IfOk, IfSome, IsTrue};
 ghost use Rattle.mips_effect.specs.Effects.{IsInRange, Ranged};
 ghost use Rattle.mips_plain.specs.Instruction.{is_code as is_code_of};
-ghost use Rattle.xom_model.specs.Guest.{address_in as address_in_of, data_of, guest, ran, word_in, word_loaded, word_tried};
+ghost use Rattle.xom_model.specs.Guest.{address_in as address_in_of, after_effect, data_of, guest, word_in, word_loaded, word_tried};
 ghost use Rattle.xom_model.specs.Holds.{IsRunning};
 ghost use Rattle.line_cache.specs.Ways.{way_at};
 ghost use Rattle.xom_versions.specs.Store.{line_limit};
@@ -115,8 +115,8 @@ fn run<V: VersionStore>(
     requires epoch { (session_of core.old.core slot).epoch < 2 ^ 63 }
     requires ranged { IfOk tried Ranged }
     requires room { 10200 ≤ core.old.spare }
-    ensures core { core.new.core ≡ (ran V.versions core.old.core slot interrupt tried).0 }
-    ensures cause { result ≡ (ran V.versions core.old.core slot interrupt tried).1 }
+    ensures core { core.new.core ≡ (after_effect V.versions core.old.core slot interrupt tried).0 }
+    ensures cause { result ≡ (after_effect V.versions core.old.core slot interrupt tried).1 }
     ensures room { core.old.spare ≤ core.new.spare + 10200 }
 {
     match tried {

@@ -1,7 +1,7 @@
 ghost use Rattle.std.specs.Prelude.{◌≡◌, ◌≤◌, ◌<◌, ◌+◌, ◌^◌};
 ghost use Rattle.mips_effect.specs.Effects.{Ranged};
 ghost use Rattle.mips_plain.specs.Inside.{IsInside};
-ghost use Rattle.xom_model.specs.Guest.{address_in, after_step as after_step_of, finished, retired, retires as retires_of, trapped};
+ghost use Rattle.xom_model.specs.Guest.{address_in, after_exit, after_retirement, after_step as after_step_of, after_trap, retirement as retires_of};
 ghost use Rattle.xom_model.specs.Holds.{IsRunning};
 ghost use Rattle.xom_model.specs.State.{session_of};
 ghost use Rattle.xom_guest.specs.Places.{IsPlaceFor, StoresIn};
@@ -51,7 +51,7 @@ fn retire<V: VersionStore>(core: &mut Core<V>, slot: u8, place: u32, effect: &Ef
     requires inside { IsInside step.now }
     requires line { StoresIn core.old.core.ways slot place step.now.stored }
     requires room { 100 ≤ core.old.spare }
-    ensures core { core.new.core ≡ retired core.old.core slot place effect.now step.now }
+    ensures core { core.new.core ≡ after_retirement core.old.core slot place effect.now step.now }
     ensures room { core.old.spare ≤ core.new.spare + 100 }
 {
     let session = *core.table.session(slot);
@@ -102,8 +102,8 @@ pub fn trap<V: VersionStore>(core: &mut Core<V>, slot: u8, cause: Cause) -> Opti
     requires runs { IsRunning core.old.core slot }
     requires epoch { (session_of core.old.core slot).epoch < 2 ^ 63 }
     requires room { 100 ≤ core.old.spare }
-    ensures core { core.new.core ≡ (trapped core.old.core slot cause).0 }
-    ensures cause { result ≡ (trapped core.old.core slot cause).1 }
+    ensures core { core.new.core ≡ (after_trap core.old.core slot cause).0 }
+    ensures cause { result ≡ (after_trap core.old.core slot cause).1 }
     ensures room { core.old.spare ≤ core.new.spare + 100 }
 {
     let session = core.table.session(slot).paused();
@@ -126,8 +126,8 @@ pub fn trap<V: VersionStore>(core: &mut Core<V>, slot: u8, cause: Cause) -> Opti
 fn finish<V: VersionStore>(core: &mut Core<V>, slot: u8) -> Option<Cause>
     requires some { 1 ≤ slot }
     requires known { slot ≤ 16 }
-    ensures core { core.new.core ≡ (finished core.old.core slot).0 }
-    ensures cause { result ≡ (finished core.old.core slot).1 }
+    ensures core { core.new.core ≡ (after_exit core.old.core slot).0 }
+    ensures cause { result ≡ (after_exit core.old.core slot).1 }
     ensures room { core.new.spare ≡ core.old.spare }
 {
     core.leave(slot, SlotState::Ended);

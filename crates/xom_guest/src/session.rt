@@ -1,6 +1,6 @@
 ghost use Rattle.std.specs.Prelude.{◌≡◌};
 ghost use Rattle.mips_plain.specs.Inside.{IsInside};
-ghost use Rattle.xom_model.specs.Guest.{moved as moved_of};
+ghost use Rattle.xom_model.specs.Guest.{session_after_step as moved_of};
 
 use crate::masks::mask_after;
 use mips_effect::effects::Effect;

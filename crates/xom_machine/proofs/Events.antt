@@ -24,9 +24,9 @@ use Rattle.xom_model.specs.Holds.{Holds}
 use Rattle.xom_model.specs.Honest.{IsBounded, IsHonest}
 use Rattle.xom_model.specs.Laws.{AreOwners, FaultsAlone}
 use Rattle.xom_model.specs.Stops.{StopsHold}
-use Rattle.xom_model.specs.Event.{fits, guest_turn, null_turn, on, open_in, operated, outcome_of, ran_on, running, told_in, with_open, with_ram, wrote}
+use Rattle.xom_model.specs.Event.{after_kernel_write, after_operation, fits, guest_turn, null_turn, on, open_in, outcome_of, ran_on, running_slot, told_in, with_open, with_ram}
 use Rattle.xom_model.specs.Guest.{guest}
-use Rattle.xom_model.specs.Null.{Answer, Open, null_step, poked}
+use Rattle.xom_model.specs.Null.{Answer, Open, null_step, ram_after_write}
 use Rattle.xom_model.specs.Operation.{operation}
 use Rattle.xom_model.proofs.CountsKept.{counted_at_start, events_keep_counts}
 use Rattle.xom_model.proofs.RecordRefused.{do_refused, null_refused}
@@ -48,8 +48,8 @@ unfolding on
 on-bytes v r (event.Do op) chunk other same = refl
 on-bytes v r (event.Guest interrupt) chunk other same = refl
 on-bytes v r event.Null chunk other same = refl
-on-bytes v r (event.Write address count) chunk other same = ap (λ bytes. wrote r address bytes) same
-on-bytes v r (event.Poke address count) chunk other same = ap (λ bytes. (with_ram r (poked r.core.ram address bytes), outcome.Went)) same
+on-bytes v r (event.Write address count) chunk other same = ap (λ bytes. after_kernel_write r address bytes) same
+on-bytes v r (event.Poke address count) chunk other same = ap (λ bytes. (with_ram r (ram_after_write r.core.ram address bytes), outcome.Went)) same
 
 -- ---- The count of events
 
@@ -70,7 +70,7 @@ turn-events v r interrupt (Some slot) is = ran_on-events r slot (guest v r.core 
 pub on-events : (v : Versions) (r : Record) (e : Event) (chunk : List ℕ) → fits r e ≡ true → (on v r e chunk).0.events ≡ r.events + 1
 unfolding on
 on-events v r (event.Do op) chunk fit = refl
-on-events v r (event.Guest interrupt) chunk fit = turn-events v r interrupt (running r) (and_parts (not r.halted) (is_some (running r)) fit).1
+on-events v r (event.Guest interrupt) chunk fit = turn-events v r interrupt (running_slot r) (and_parts (not r.halted) (is_some (running_slot r)) fit).1
 on-events v r event.Null chunk fit = null_turn-events v r (null_step (told_in r) (open_in r))
 on-events v r (event.Write address count) chunk fit = refl
 on-events v r (event.Poke address count) chunk fit = refl
@@ -85,7 +85,7 @@ turn-either v r interrupt (Some slot) = inl (ran_on-events r slot (guest v r.cor
 on-either : (v : Versions) (r : Record) (e : Event) (chunk : List ℕ) → ((on v r e chunk).0.events ≡ r.events + 1) ⊎ ((on v r e chunk).0 ≡ r)
 unfolding on
 on-either v r (event.Do op) chunk = inl refl
-on-either v r (event.Guest interrupt) chunk = turn-either v r interrupt (running r)
+on-either v r (event.Guest interrupt) chunk = turn-either v r interrupt (running_slot r)
 on-either v r event.Null chunk = inl (null_turn-events v r (null_step (told_in r) (open_in r)))
 on-either v r (event.Write address count) chunk = inl refl
 on-either v r (event.Poke address count) chunk = inl refl
@@ -125,14 +125,14 @@ later-InTime r new n core events its time = record {
 -- so it is of an operation
 pub operated-InTime : (v : Versions) (r new : Record) (op : Op) → new.core ≡ (operation v r.core op).0 → new.events ≡ r.events + 1 → InTime r → r.events + 1 < 2 ^ 63 → InTime new
 unfolding on
-operated-InTime v r new op core events time few = later-InTime (operated r op (operation v r.core op)).0 new r.events core events refl (event-InTime v r (event.Do op) [] time few)
+operated-InTime v r new op core events time few = later-InTime (after_operation r op (operation v r.core op)).0 new r.events core events refl (event-InTime v r (event.Do op) [] time few)
 
 -- and of a guest's event
-turn-InTime : (v : Versions) (r : Record) (interrupt : Bool) → InTime r → r.events + 1 < 2 ^ 63 → InTime (guest_turn v r interrupt (running r)).0
+turn-InTime : (v : Versions) (r : Record) (interrupt : Bool) → InTime r → r.events + 1 < 2 ^ 63 → InTime (guest_turn v r interrupt (running_slot r)).0
 unfolding on
 turn-InTime v r interrupt time few = event-InTime v r (event.Guest interrupt) [] time few
 
-pub ran-InTime : (v : Versions) (r new : Record) (interrupt : Bool) (slot : ℕ) → running r ≡ Some slot → new.core ≡ (guest v r.core slot interrupt).0 → new.events ≡ r.events + 1
+pub ran-InTime : (v : Versions) (r new : Record) (interrupt : Bool) (slot : ℕ) → running_slot r ≡ Some slot → new.core ≡ (guest v r.core slot interrupt).0 → new.events ≡ r.events + 1
     → InTime r → r.events + 1 < 2 ^ 63 → InTime new
 ran-InTime v r new interrupt slot runs core events time few =
     let result = guest v r.core slot interrupt in
@@ -237,7 +237,7 @@ null_turn-Left v r (s, Ok None) why is = cc
 null_turn-Left v r (s, Ok (Some op)) why is = outcome_of-Left op why is
 
 module _ (v : Versions) (Stands : StandsFor) (law : VersionLaw v Stands) where
-  ran_on-Faults : (r : Record) (interrupt : Bool) (slot : ℕ) → running r ≡ Some slot → (owners : List Owner) → AreOwners owners → Holds Stands owners r.core → (fault : OwnFault)
+  ran_on-Faults : (r : Record) (interrupt : Bool) (slot : ℕ) → running_slot r ≡ Some slot → (owners : List Owner) → AreOwners owners → Holds Stands owners r.core → (fault : OwnFault)
       → (result : CoreState × Option Cause) → guest v r.core slot interrupt ≡ result → IsBounded (ran_on r slot result).0.core.entries → IsHonest (sealed_by r.core.machine owners) (ran_on r slot result).0.core.entries
       → (ran_on r slot result).1 ≡ outcome.Left (cause.Fault fault) → FaultsAlone owners r.core (ran_on r slot result).0.who fault
   ran_on-Faults r interrupt slot runs owners are holds fault (core, None) is room honest left = absurd (cc)
@@ -251,7 +251,7 @@ module _ (v : Versions) (Stands : StandsFor) (law : VersionLaw v Stands) where
       named : {a b : Cause} → outcome.Left a ≡ outcome.Left b → a ≡ b
       named same = cc
 
-  turn-Faults : (r : Record) (interrupt : Bool) (at : Option ℕ) → running r ≡ at → FaultsAreAlone Stands r (guest_turn v r interrupt at).0 (guest_turn v r interrupt at).1
+  turn-Faults : (r : Record) (interrupt : Bool) (at : Option ℕ) → running_slot r ≡ at → FaultsAreAlone Stands r (guest_turn v r interrupt at).0 (guest_turn v r interrupt at).1
   turn-Faults r interrupt None runs owners are room honest holds fault left = absurd (cc)
   turn-Faults r interrupt (Some slot) runs owners are room honest holds fault left =
       ran_on-Faults r interrupt slot runs owners are holds fault (guest v r.core slot interrupt) refl room honest left
@@ -259,20 +259,20 @@ module _ (v : Versions) (Stands : StandsFor) (law : VersionLaw v Stands) where
   pub event-Faults : (r : Record) (e : Event) (chunk : List ℕ) → FaultsAreAlone Stands r (on v r e chunk).0 (on v r e chunk).1
   unfolding on
   event-Faults r (event.Do op) chunk owners are room honest kept fault left = absurd (outcome_of-Left op (cause.Fault fault) left)
-  event-Faults r (event.Guest interrupt) chunk owners are room honest kept fault left = turn-Faults r interrupt (running r) refl owners are room honest kept fault left
+  event-Faults r (event.Guest interrupt) chunk owners are room honest kept fault left = turn-Faults r interrupt (running_slot r) refl owners are room honest kept fault left
   event-Faults r event.Null chunk owners are room honest kept fault left = absurd (null_turn-Left v r (null_step (told_in r) (open_in r)) (cause.Fault fault) left)
   event-Faults r (event.Write address count) chunk owners are room honest kept fault left = absurd (cc)
   event-Faults r (event.Poke address count) chunk owners are room honest kept fault left = absurd (cc)
 
 -- bytes whose range RAM doesn't hold change nothing
 pub loaded-refused : (m : Whole) (address : ℕ) (bytes : List ℕ) → holds m.state.core.ram address (length bytes) ≡ false → with_loaded m address bytes ≡ m
-unfolding poked
+unfolding ram_after_write
 loaded-refused m address bytes refused =
     ap (λ ram. record m { state = record m.state { core = record m.state.core { ram = ram } } })
     (cond-false (holds m.state.core.ram address (length bytes)) (stored m.state.core.ram address bytes) m.state.core.ram refused)
 
 -- bytes that are put into RAM leave what is kept
 pub loaded-Holds : (v : Versions) (Stands : StandsFor) → VersionLaw v Stands → (owners : List Owner) (core : CoreState) (address : ℕ) (bytes : List ℕ)
-    → Holds Stands owners core → Holds Stands owners (record core { ram = poked core.ram address bytes })
+    → Holds Stands owners core → Holds Stands owners (record core { ram = ram_after_write core.ram address bytes })
 loaded-Holds v Stands law owners core address bytes holds =
     kept_holds Stands owners core _ (kept_ram Stands owners v law core _ (length-poked core.ram address bytes)) holds

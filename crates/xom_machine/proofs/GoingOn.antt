@@ -17,10 +17,10 @@ use Rattle.xom_model.specs.declared.outcome.RunEnd.TheVariants.{Halted, KernelFa
 use Rattle.xom_model.specs.declared.outcome.Turn.{Turn}
 use Rattle.xom_model.specs.declared.outcome.Turn.TheVariants as turn
 use Rattle.xom_model.specs.State.{Record}
-use Rattle.xom_model.specs.Event.{fits, on, running}
+use Rattle.xom_model.specs.Event.{fits, on, running_slot}
 use Rattle.xom_model.specs.Holds.{Holds}
 use Rattle.xom_model.specs.Laws.{AreOwners}
-use Rattle.xom_model.specs.Run.{event_of, is_flagged, one_event, own_event, poke_at, run_from, turned}
+use Rattle.xom_model.specs.Run.{after_turn, event_of, is_flagged, one_event, own_event, poke_at, run_from}
 use Rattle.xom_model.specs.Seen.{View, view_of}
 use Rattle.xom_model.proofs.Growth.{IsTrusted, honest_before}
 use Rattle.xom_model.proofs.Onward.{Onward, onward_event, onward_none, onward_on}
@@ -120,7 +120,7 @@ module _ {K : Type 0} (told : K → View → Option (Turn × (List ℕ × K))) (
     -- a turn that was told is the event that is made
     told-turn : (guests : ℕ) (r : Record) (e : Event) (chunk : List ℕ) (k' : K) (more : ℕ) (s : Record) (o : Option (Turn × (List ℕ × K)))
         → IfSome o (λ t. (e ≡ event_of t.0) × (bytes_of e chunk ≡ bytes_of e t.1.0) × (k' ≡ t.1.1))
-        → turned v told schedule (run_from v told schedule more) guests r o ≡ Some s → run_from v told schedule more (guests + guests_in e) (on v r e chunk).0 k' ≡ Some s
+        → after_turn v told schedule (run_from v told schedule more) guests r o ≡ Some s → run_from v told schedule more (guests + guests_in e) (on v r e chunk).0 k' ≡ Some s
     told-turn guests r e chunk k' more s None next made = absurd (cc)
     told-turn guests r e chunk k' more s (Some (t, (its, k1))) next made =
         let none : guests_in e ≡ 0 = ap guests_in next.0 ∙ turn-guests t in
@@ -136,14 +136,14 @@ module _ {K : Type 0} (told : K → View → Option (Turn × (List ℕ × K))) (
         alike more guests r e (event.Guest (is_flagged schedule.interrupts (guests + 1))) chunk [] k' k s (guests + 1) is nothing next.1 (omega (arith, one)) made
     next-own guests r k e chunk k' more s None next made = told-turn guests r e chunk k' more s (told k (view_of r)) next.1 made
 
-    next-turn : (guests : ℕ) (r : Record) (k : K) (e : Event) (chunk : List ℕ) (k' : K) (more : ℕ) (s : Record) (poke : Option Poke) → IsNextWhere told schedule guests r k e chunk k' poke (running r)
+    next-turn : (guests : ℕ) (r : Record) (k : K) (e : Event) (chunk : List ℕ) (k' : K) (more : ℕ) (s : Record) (poke : Option Poke) → IsNextWhere told schedule guests r k e chunk k' poke (running_slot r)
         → one_event v told schedule (run_from v told schedule more) guests r k poke ≡ Some s → run_from v told schedule more (guests + guests_in e) (on v r e chunk).0 k' ≡ Some s
     next-turn guests r k e chunk k' more s (Some poke) next made =
         let is : e ≡ event.Poke poke.address (length poke.bytes) = next.0.0 in
         let none : guests_in e ≡ 0 = ap guests_in is in
         let its : bytes_of e poke.bytes ≡ poke.bytes = subst (λ x. bytes_of x poke.bytes ≡ poke.bytes) (sym is) (take_all (length poke.bytes) poke.bytes (omega arith)) in
         alike more guests r e (event.Poke poke.address (length poke.bytes)) chunk poke.bytes k' k s guests is (next.0.1 ∙ sym its) next.1 (omega (arith, none)) made
-    next-turn guests r k e chunk k' more s None next made = next-own guests r k e chunk k' more s (running r) next made
+    next-turn guests r k e chunk k' more s None next made = next-own guests r k e chunk k' more s (running_slot r) next made
 
     -- a run that goes on makes one event first
     run-one : (more guests : ℕ) (r : Record) (k : K) → r.halted ≡ false → run_from v told schedule (suc more) guests r k ≡ one_event v told schedule (run_from v told schedule more) guests r k (poke_at schedule.pokes (r.events + 1))
@@ -182,7 +182,7 @@ module _ {K : Type 0} (told : K → View → Option (Turn × (List ℕ × K))) (
     goes_on first k0 count guests m k guests' m' k' going far went = record {
       events = far.events ++ (went.event, went.chunk) ∷ [];
       made =
-          let due = next-due guests m.state k went.event went.chunk k' (poke_at schedule.pokes (m.state.events + 1)) (running m.state) went.next in
+          let due = next-due guests m.state k went.event went.chunk k' (poke_at schedule.pokes (m.state.events + 1)) (running_slot m.state) went.next in
           let place : guests ≡ 0 + guests_of far.events = omega (arith, far.guests_are) in
           subst (IsRun schedule v 0 first.state (far.events ++ (went.event, went.chunk) ∷ [])) (sym went.state)
           (IsRun-more schedule v 0 first.state far.events m.state went.event went.chunk far.made went.fits (subst (λ n. IsDue schedule n m.state went.event went.chunk) place due));

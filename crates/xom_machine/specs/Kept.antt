@@ -20,7 +20,7 @@ use Rattle.xom_model.specs.Holds.{Holds}
 use Rattle.xom_model.specs.Laws.{AreOwners, FaultsAlone}
 use Rattle.xom_model.specs.Others.{StaysAside}
 use Rattle.xom_model.specs.Quiet.{IsQuiet, TrapsQuietly}
-use Rattle.xom_model.specs.Touched.{touched}
+use Rattle.xom_model.specs.Touched.{slot_of_event}
 use Rattle.xom_model.specs.Refused.{IsRefusal}
 use Rattle.xom_model.specs.Saves.{IsOnce}
 use Rattle.xom_model.specs.Sequence.{RunHolds}
@@ -49,11 +49,11 @@ FaultsAreAlone Stands r new what =
 
 -- A trap without retirement changes no cell and no private byte of its guest.
 abbrev pub TrapsAreQuiet : Record → Event → Record → Outcome → Type 0
-TrapsAreQuiet r e new what = (why : Cause) → what ≡ outcome.Left why → IsQuiet why → TrapsQuietly r.core new.core (touched r e) why
+TrapsAreQuiet r e new what = (why : Cause) → what ≡ outcome.Left why → IsQuiet why → TrapsQuietly r.core new.core (slot_of_event r e) why
 
 -- A slot that the event neither runs nor names, and none of whose lines it writes back, is left alone.
 abbrev pub LeavesOthers : Record → Event → Record → Type 0
-LeavesOthers r e new = (slot : ℕ) → slot ≢ 0 → slot ≢ touched r e → StaysAside r.core new.core slot
+LeavesOthers r e new = (slot : ℕ) → slot ≢ 0 → slot ≢ slot_of_event r e → StaysAside r.core new.core slot
 
 -- No pad twice: while the journal is honest, two Seals of it whose messages are equal before the ciphertext, so in kind, install, line or register, and version or epoch, are equal. These name the key and the counter block.
 abbrev pub NoPadTwice : StandsFor → Record → Record → Type 0

@@ -8,7 +8,7 @@ use Rattle.xom_versions.specs.Versions.{Versions}
 use Rattle.xom_model.specs.declared.outcome.RunEnd.{RunEnd}
 use Rattle.xom_model.specs.declared.outcome.RunEnd.TheVariants.{Halted, KernelFault, Budget, NoMemory}
 use Rattle.xom_model.specs.declared.outcome.Turn.{Turn}
-use Rattle.xom_model.specs.Event.{fits, on, running}
+use Rattle.xom_model.specs.Event.{fits, on, running_slot}
 use Rattle.xom_model.specs.Run.{event_of, is_flagged, poke_at, run_from}
 use Rattle.xom_model.specs.Seen.{View, view_of}
 use Rattle.xom_model.specs.State.{Record}
@@ -51,7 +51,7 @@ module _ (schedule : Schedule) where
 
   -- so it is of the event that comes where so many guest events came before
   abbrev pub IsDue : ℕ → Record → Event → List ℕ → Type 0
-  IsDue guests r e chunk = IsDueWhere guests e chunk (poke_at schedule.pokes (r.events + 1)) (running r)
+  IsDue guests r e chunk = IsDueWhere guests e chunk (poke_at schedule.pokes (r.events + 1)) (running_slot r)
 
   -- the last record comes from the first by these events: each may come where it does, and it is its turn
   abbrev pub IsRun : Versions → ℕ → Record → List Made → Record → Type 0
@@ -73,7 +73,7 @@ module _ {K : Type 0} (told : K → View → Option (Turn × (List ℕ × K))) (
 
   -- the event that comes next, with its chunk, where so many guest events came before, and the kernel's state then
   abbrev pub IsNext : ℕ → Record → K → Event → List ℕ → K → Type 0
-  IsNext guests r k e chunk k' = IsNextWhere guests r k e chunk k' (poke_at schedule.pokes (r.events + 1)) (running r)
+  IsNext guests r k e chunk k' = IsNextWhere guests r k e chunk k' (poke_at schedule.pokes (r.events + 1)) (running_slot r)
 
   module _ (v : Versions) where
     -- one event of a run, on the machine with its room

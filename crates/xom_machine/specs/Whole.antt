@@ -1,6 +1,6 @@
 -- The machine as its callers see it, and what its type keeps.
 use Rattle.std.specs.Prelude.{◌≡◌, ℕ, ◌<◌, ◌^◌, false, List, length}
-use Rattle.xom_model.specs.Null.{poked}
+use Rattle.xom_model.specs.Null.{ram_after_write}
 use Rattle.xom_model.specs.State.{Record}
 use Rattle.xom_model.specs.Counts.{AreCounted}
 use Rattle.xom_model.specs.Stops.{StopsHold}
@@ -24,4 +24,4 @@ pub record InTime (r : Record) : Type 0 where
 
 -- the machine with bytes put into RAM, or as it is where RAM doesn't hold their range
 abbrev pub with_loaded : Whole → ℕ → List ℕ → Whole
-with_loaded m address bytes = record m { state = record m.state { core = record m.state.core { ram = poked m.state.core.ram address bytes } } }
+with_loaded m address bytes = record m { state = record m.state { core = record m.state.core { ram = ram_after_write m.state.core.ram address bytes } } }

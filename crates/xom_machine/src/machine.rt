@@ -3,9 +3,9 @@ ghost use Rattle.xom_base.specs.declared.key.Key256.{Key256 as AnyKey};
 ghost use Rattle.xom_owners.specs.declared.owner.Owner.{Owner};
 ghost use Rattle.line_ram.specs.Bytes.{frame_size};
 ghost use Rattle.xom_model.specs.Counts.{AreCounted};
-ghost use Rattle.xom_model.specs.Event.{chunk_size, fits as fits_of, guest_turn, is_halt as is_halt_of, null_asked, null_turn, on, open_in, operated, outcome_of, running as running_of, told_in, with_open, with_ram, wrote};
+ghost use Rattle.xom_model.specs.Event.{after_kernel_write, after_operation, chunk_size, fits as fits_of, guest_turn, is_halt as is_halt_of, null_asked, null_turn, on, open_in, outcome_of, running_slot as running_of, told_in, with_open, with_ram};
 ghost use Rattle.xom_model.specs.Holds.{Holds};
-ghost use Rattle.xom_model.specs.Null.{null_step, poked};
+ghost use Rattle.xom_model.specs.Null.{null_step, ram_after_write};
 ghost use Rattle.xom_model.specs.Operation.{operation};
 ghost use Rattle.xom_model.specs.Seen.{view_of};
 ghost use Rattle.xom_model.specs.State.{holds as holds_in, power_on};
@@ -92,7 +92,7 @@ impl<V: VersionStore> Machine<V> {
         ensures state { self.new ≡ with_loaded self.old address bytes.now }
 
         // A machine at power-on is at power-on, with these bytes in RAM.
-        ensures start { (key : AnyKey) (boot : ℕ) (ram : List ℕ) (pc : ℕ) → self.old.state ≡ power_on V.versions key boot ram pc → self.new.state ≡ power_on V.versions key boot (poked ram address bytes.now) pc }
+        ensures start { (key : AnyKey) (boot : ℕ) (ram : List ℕ) (pc : ℕ) → self.old.state ≡ power_on V.versions key boot ram pc → self.new.state ≡ power_on V.versions key boot (ram_after_write ram address bytes.now) pc }
         ensures holds { (owners : List Owner) → Holds V.Stands owners self.old.state.core → Holds V.Stands owners self.new.state.core }
     {
         self.put(address, bytes)
@@ -257,8 +257,8 @@ impl<V: VersionStore> Machine<V> {
     fn operate(&mut self, op: Op) -> Outcome
         requires room { EVENT_ROOM ≤ self.old.spare }
         requires few { self.old.state.events + 1 < 2 ^ 63 }
-        ensures record { self.new.state ≡ (operated self.old.state op (operation V.versions self.old.state.core op)).0 }
-        ensures outcome { result ≡ (operated self.old.state op (operation V.versions self.old.state.core op)).1 }
+        ensures record { self.new.state ≡ (after_operation self.old.state op (operation V.versions self.old.state.core op)).0 }
+        ensures outcome { result ≡ (after_operation self.old.state op (operation V.versions self.old.state.core op)).1 }
         ensures room { self.old.spare ≤ self.new.spare + EVENT_ROOM }
     {
         let status = operate(&mut self.core, op);
@@ -334,8 +334,8 @@ impl<V: VersionStore> Machine<V> {
     /// A kernel write: refused as a whole where RAM doesn't hold it.
     fn write(&mut self, address: u32, bytes: &[u8]) -> Outcome
         requires few { self.old.state.events + 1 < 2 ^ 63 }
-        ensures record { self.new.state ≡ (wrote self.old.state address bytes.now).0 }
-        ensures outcome { result ≡ (wrote self.old.state address bytes.now).1 }
+        ensures record { self.new.state ≡ (after_kernel_write self.old.state address bytes.now).0 }
+        ensures outcome { result ≡ (after_kernel_write self.old.state address bytes.now).1 }
         ensures room { self.new.spare ≡ self.old.spare }
     {
         let fits = put_bytes(&mut self.core.ram, address, bytes);
@@ -347,7 +347,7 @@ impl<V: VersionStore> Machine<V> {
     /// A write of the bus, which leaves the status as it is.
     fn poke(&mut self, address: u32, bytes: &[u8]) -> Outcome
         requires few { self.old.state.events + 1 < 2 ^ 63 }
-        ensures record { self.new.state ≡ with_ram self.old.state (poked self.old.state.core.ram address bytes.now) }
+        ensures record { self.new.state ≡ with_ram self.old.state (ram_after_write self.old.state.core.ram address bytes.now) }
         ensures outcome { result ≡ Outcome.Went }
         ensures room { self.new.spare ≡ self.old.spare }
     {
@@ -358,10 +358,10 @@ impl<V: VersionStore> Machine<V> {
 }
 
 /// Puts bytes into RAM, or nothing where it doesn't hold the range.
-#[tactic(auto, unfolding(xom_model::specs::Null::poked))]
+#[tactic(auto, unfolding(xom_model::specs::Null::ram_after_write))]
 fn put_bytes(ram: &mut LineRam, address: u32, bytes: &[u8]) -> bool
     ensures answer { result ≡ holds_in ram.old address (length bytes.now) }
-    ensures bytes { ram.new ≡ poked ram.old address bytes.now }
+    ensures bytes { ram.new ≡ ram_after_write ram.old address bytes.now }
     ensures size { length ram.new ≡ length ram.old }
 {
     let fits = u64::from(address) + bytes.len() as u64 <= u64::from(ram.size());

@@ -28,9 +28,9 @@ use Rattle.line_cache.specs.declared.way.Way.{Way}
 use Rattle.line_cache.specs.Ways.{chosen, found, free_in_set, free_way, is_free, is_of, new_way, place_for, pointed, pointers_after, set_of, way_at}
 use Rattle.line_cache.proofs.Search.{none_passes}
 use Rattle.page_map.specs.Pages.{frame_of}
-use Rattle.xom_model.specs.State.{CoreState, hashed, noted, page_of, session_of, store_of, with_way}
-use Rattle.xom_model.specs.Lines.{accept_entry, ct_place, keys_of, line_seals, name_of, sealed_at, ver, who_in, who_of}
-use Rattle.xom_model.specs.Access.{access, brought, cleared_at, dropped, looked, mapped, opened, placed, put, read_from, stopped, with_pointers}
+use Rattle.xom_model.specs.State.{CoreState, core_with_hashes, page_of, session_of, store_of, with_entry, with_way}
+use Rattle.xom_model.specs.Lines.{accept_entry, ct_place, keys_of, line_seals, name_of, sealed_at, version_of_line, who_in, who_of}
+use Rattle.xom_model.specs.Access.{access, after_opening, after_stop, brought, cleared_at, reach_after_placing, reach_after_victim, reach_by_cache, reach_in_frame, read_from, with_pointers, without_guest}
 use Rattle.xom_model.specs.Holds.{Behind, IsLive, IsOf, Private}
 use Rattle.xom_model.specs.Kept.{Kept}
 use Rattle.xom_model.proofs.Growth.{IsTrusted, few_seals, goes_entry, goes_hashes, goes_none, honest_before, seals_hashes, seals_none}
@@ -97,8 +97,8 @@ pub record Comes (Stands : StandsFor) (owners : List Owner) (base : CoreState) (
 
 module _ (Stands : StandsFor) (owners : List Owner) (v : Versions) (law : VersionLaw v Stands) (sealed : List Sealing) (slot line : ℕ) (some : slot ≢ 0) (low : line < 2 ^ 15) (base : CoreState) (sound : Sound Stands owners base) (live : IsLive base slot) where
   -- a slot that was stopped isn't live
-  stopped_dead : (core : CoreState) (k : ℕ) (why : Rule) → length core.sessions ≡ 17 → k ≤ 16 → ¬ IsLive (stopped core k why) k
-  unfolding dropped
+  stopped_dead : (core : CoreState) (k : ℕ) (why : Rule) → length core.sessions ≡ 17 → k ≤ 16 → ¬ IsLive (after_stop core k why) k
+  unfolding without_guest
   stopped_dead core k why places known lives =
       let here = get_or-set_same core.sessions k (left (session_of core k) (state.Stopped why)) free (omega arith) in
       let its = ap (λ s. is_live s.state) here in cc
@@ -155,19 +155,19 @@ module _ (Stands : StandsFor) (owners : List Owner) (v : Versions) (law : Versio
 
     -- by what the clearing came to
     put_comes : (result : CoreState × Option Rule) → Clears Stands owners marked place result.0 result.1
-        → Comes Stands owners base slot line (put v (way_at core.ways place).slot place slot line bytes result).0 (put v (way_at core.ways place).slot place slot line bytes result).1
+        → Comes Stands owners base slot line (reach_after_victim v (way_at core.ways place).slot place slot line bytes result).0 (reach_after_victim v (way_at core.ways place).slot place slot line bytes result).1
     put_comes (mid, None) clear = filled mid None clear (clear.calm refl slot)
     put_comes (mid, Some why) clear = elim (eqb_tells (way_at core.ways place).slot slot) [
       | inl own ↦ rw own.0 (record { kept = mid_kept mid (Some why) clear; came = subst (λ k. ¬ IsLive mid k) own.1 (clear.stop why refl) })
       | inr other ↦ rw other.0 (filled mid (Some why) clear (clear.others slot (λ same. other.1 (sym same))))
     ]
 
-    put_entries : (result : CoreState × Option Rule) → (put v (way_at core.ways place).slot place slot line bytes result).0.entries ≡ result.0.entries
+    put_entries : (result : CoreState × Option Rule) → (reach_after_victim v (way_at core.ways place).slot place slot line bytes result).0.entries ≡ result.0.entries
     put_entries (mid, None) = refl
     put_entries (mid, Some why) = cond_both ((way_at core.ways place).slot == slot) _ _ (λ (r : CoreState × Reach). r.0.entries ≡ mid.entries) (λ _. refl) (λ _. refl)
 
-    pub placed_comes : IsTrusted sealed (placed v core slot line bytes).0.entries → Comes Stands owners base slot line (placed v core slot line bytes).0 (placed v core slot line bytes).1
-    unfolding placed
+    pub placed_comes : IsTrusted sealed (reach_after_placing v core slot line bytes).0.entries → Comes Stands owners base slot line (reach_after_placing v core slot line bytes).0 (reach_after_placing v core slot line bytes).1
+    unfolding reach_after_placing
     placed_comes honest =
         let result = cleared_at v marked place in
         put_comes result (clears Stands owners v law sealed marked chosen_sound place (subst (λ es. IsTrusted sealed es) (put_entries result) honest))
@@ -177,7 +177,7 @@ module _ (Stands : StandsFor) (owners : List Owner) (v : Versions) (law : Versio
   module _ (tell : OwnersTell base.machine owners) (sealings : sealed ≡ sealed_by base.machine owners) (core : CoreState) (kept : Kept Stands owners base core) (stays : Stays base core slot)
       (seals_same : seals_of core.entries ≡ seals_of base.entries) (alone_base : (other : ℕ) → ¬ IsOf (way_at base.ways other) slot line) (ways_same : core.ways ≡ base.ways)
       (frame : ℕ) (is_mapped : frame_of core.pages slot (page_of line) ≡ Some frame)
-      (version : ℕ) (version_is : version ≡ ver (who_of base slot) (seals_of base.entries) line) where
+      (version : ℕ) (version_is : version ≡ version_of_line (who_of base slot) (seals_of base.entries) line) where
     sound_now : Sound Stands owners core
     sound_now = sound_kept Stands owners base core kept sound
 
@@ -200,9 +200,9 @@ module _ (Stands : StandsFor) (owners : List Owner) (v : Versions) (law : Versio
         ((holds.lines line low).behind (λ at is. absurd (alone_base at is)))
 
     -- its slot is stopped
-    stop_comes : (why : Rule) → Comes Stands owners base slot line (stopped core slot why) (reach.Stopped why)
+    stop_comes : (why : Rule) → Comes Stands owners base slot line (after_stop core slot why) (reach.Stopped why)
     stop_comes why = record {
-      kept = kept_on Stands owners base core (stopped core slot why) kept (stopped_kept Stands owners v law core slot some sound_now.places known_now sound_now.whole sound_now.shape why);
+      kept = kept_on Stands owners base core (after_stop core slot why) kept (stopped_kept Stands owners v law core slot some sound_now.places known_now sound_now.whole sound_now.shape why);
       came = stopped_dead core slot why sound_now.places known_now;
     }
 
@@ -217,8 +217,8 @@ module _ (Stands : StandsFor) (owners : List Owner) (v : Versions) (law : Versio
     room_base honest = let all : length core.entries < 2 ^ 63 = honest.room in let whole = ap length kept.more.1 ∙ length-append base.entries kept.more.0 in omega arith
 
     -- zeros
-    zeros_comes : version ≡ 0 → IsTrusted sealed (placed v core slot line (replicate 32 0)).0.entries
-        → Comes Stands owners base slot line (placed v core slot line (replicate 32 0)).0 (placed v core slot line (replicate 32 0)).1
+    zeros_comes : version ≡ 0 → IsTrusted sealed (reach_after_placing v core slot line (replicate 32 0)).0.entries
+        → Comes Stands owners base slot line (reach_after_placing v core slot line (replicate 32 0)).0 (reach_after_placing v core slot line (replicate 32 0)).1
     zeros_comes none honest = placed_comes core kept stays (replicate 32 0) alone_now frame is_mapped (λ owner memory whose holds. sym ((behind_now owner memory holds).zeros none)) honest
 
     module _ (nonzero : version ≢ 0) (place : ℕ) (ct bytes : List ℕ) (bytes_are : bytes ≡ line_masked (name_of (who_of core slot) line version) (keys_of (who_of core slot) line version) ct) where
@@ -226,7 +226,7 @@ module _ (Stands : StandsFor) (owners : List Owner) (v : Versions) (law : Versio
       accept = accept_entry (who_of core slot) line version ct place
 
       abbrev accepted : CoreState
-      accepted = noted core accept
+      accepted = with_entry core accept
 
       accept_kept : Kept Stands owners core accepted
       accept_kept = kept_rest Stands owners v law core core.pointers core.ram (core.entries ++ accept ∷ [])
@@ -247,8 +247,8 @@ module _ (Stands : StandsFor) (owners : List Owner) (v : Versions) (law : Versio
           (let a : (session_of base slot).install ≤ base.installs = sound.shape.numbers slot in let b : base.installs ≤ length base.entries = sound.shape.count in omega arith)
           low (version_low room) nonzero (holds.lines line low).size (behind_now owner memory holds) sound.shape.no_image was_seals
 
-      accept_comes : IsTrusted sealed accepted.entries → IsTrusted sealed (placed v accepted slot line bytes).0.entries
-          → Comes Stands owners base slot line (placed v accepted slot line bytes).0 (placed v accepted slot line bytes).1
+      accept_comes : IsTrusted sealed accepted.entries → IsTrusted sealed (reach_after_placing v accepted slot line bytes).0.entries
+          → Comes Stands owners base slot line (reach_after_placing v accepted slot line bytes).0 (reach_after_placing v accepted slot line bytes).1
       accept_comes before honest = placed_comes accepted (kept_on Stands owners base core accepted kept accept_kept) stays bytes alone_now frame is_mapped (accept_fits before) honest
 
   -- ---- The whole access
@@ -258,7 +258,7 @@ module _ (Stands : StandsFor) (owners : List Owner) (v : Versions) (law : Versio
     module _ (frame : ℕ) (is_mapped : frame_of base.pages slot (page_of line) ≡ Some frame) (alone_base : (other : ℕ) → ¬ IsOf (way_at base.ways other) slot line)
         (texts : List (List ℕ)) (texts_are : v.texts_of_version (store_of base slot) line base.ram ≡ texts) where
       abbrev asked : CoreState
-      asked = hashed base texts
+      asked = core_with_hashes base texts
 
       asked_seals : seals_of asked.entries ≡ seals_of base.entries
       asked_seals = seals_hashes base.entries texts
@@ -269,25 +269,25 @@ module _ (Stands : StandsFor) (owners : List Owner) (v : Versions) (law : Versio
       asked_stays : Stays base asked slot
       asked_stays = (refl, λ page. refl)
 
-      asked_version : (version : ℕ) → v.answer_of_version (store_of base slot) line base.ram ≡ Ok version → NoCollision asked.entries → version ≡ ver (who_of base slot) (seals_of base.entries) line
+      asked_version : (version : ℕ) → v.answer_of_version (store_of base slot) line base.ram ≡ Ok version → NoCollision asked.entries → version ≡ version_of_line (who_of base slot) (seals_of base.entries) line
       asked_version version is none =
-          law.versions base.entries (store_of base slot) (ver (who_of base slot) (seals_of base.entries)) line version base.ram (sound.known slot some live).3.stands low
+          law.versions base.entries (store_of base slot) (version_of_line (who_of base slot) (seals_of base.entries)) line version base.ram (sound.known slot some live).3.stands low
           (subst (λ t. NoCollision (base.entries ++ map hash_entry t)) (sym texts_are) none) is
 
       -- what was read opens, or stops the slot
-      opened_comes : (version : ℕ) → version ≡ ver (who_of base slot) (seals_of base.entries) line → version ≢ 0 → (address : ℕ) (ct : List ℕ) (found_bytes : Option (List ℕ))
+      opened_comes : (version : ℕ) → version ≡ version_of_line (who_of base slot) (seals_of base.entries) line → version ≢ 0 → (address : ℕ) (ct : List ℕ) (found_bytes : Option (List ℕ))
           → ((bytes : List ℕ) → found_bytes ≡ Some bytes → bytes ≡ line_masked (name_of (who_of asked slot) line version) (keys_of (who_of asked slot) line version) ct)
-          → IsTrusted sealed (opened v asked slot line version address ct found_bytes).0.entries
-          → Comes Stands owners base slot line (opened v asked slot line version address ct found_bytes).0 (opened v asked slot line version address ct found_bytes).1
+          → IsTrusted sealed (after_opening v asked slot line version address ct found_bytes).0.entries
+          → Comes Stands owners base slot line (after_opening v asked slot line version address ct found_bytes).0 (after_opening v asked slot line version address ct found_bytes).1
       opened_comes version is nonzero address ct None bytes_are honest =
           stop_comes tell sealings asked asked_kept asked_stays asked_seals alone_base refl frame is_mapped version is (rule.LineTag line)
       opened_comes version is nonzero address ct (Some bytes) bytes_are honest =
-          let accept = noted asked (accept_entry (who_of asked slot) line version ct address) in
+          let accept = with_entry asked (accept_entry (who_of asked slot) line version ct address) in
           let more = longer_placed v accept slot line bytes in
           accept_comes tell sealings asked asked_kept asked_stays asked_seals alone_base refl frame is_mapped version is nonzero address ct bytes (bytes_are bytes refl)
           (honest_before accept.entries more.0 sealed (subst (λ es. IsTrusted sealed es) more.1 honest)) honest
 
-      read_comes : (version : ℕ) → version ≡ ver (who_of base slot) (seals_of base.entries) line → version ≢ 0
+      read_comes : (version : ℕ) → version ≡ version_of_line (who_of base slot) (seals_of base.entries) line → version ≢ 0
           → IsTrusted sealed (read_from v asked slot line frame version).0.entries
           → Comes Stands owners base slot line (read_from v asked slot line frame version).0 (read_from v asked slot line frame version).1
       read_comes version is nonzero honest =
@@ -296,16 +296,16 @@ module _ (Stands : StandsFor) (owners : List Owner) (v : Versions) (law : Versio
           (λ bytes opens. unsealed_is (name_of (who_of asked slot) line version) (keys_of (who_of asked slot) line version) (sealed_at base.ram frame line) bytes opens)
           honest
 
-      opened_longer : (version address : ℕ) (ct : List ℕ) (found_bytes : Option (List ℕ)) → Longer asked.entries (opened v asked slot line version address ct found_bytes).0.entries
+      opened_longer : (version address : ℕ) (ct : List ℕ) (found_bytes : Option (List ℕ)) → Longer asked.entries (after_opening v asked slot line version address ct found_bytes).0.entries
       opened_longer version address ct None = longer_stopped asked slot (rule.LineTag line)
       opened_longer version address ct (Some bytes) =
-          let accept = noted asked (accept_entry (who_of asked slot) line version ct address) in
+          let accept = with_entry asked (accept_entry (who_of asked slot) line version ct address) in
           longer_on asked.entries accept.entries _ (_, refl) (longer_placed v accept slot line bytes)
 
       brought_longer : (answer : Result ℕ Torn) → Longer asked.entries (brought v asked slot line frame answer).0.entries
       brought_longer (Err torn) = longer_stopped asked slot (rule.TreeNode torn.level)
       brought_longer (Ok version) =
-          cond_both (version == 0) (placed v asked slot line (replicate 32 0)) (read_from v asked slot line frame version) (λ (r : CoreState × Reach). Longer asked.entries r.0.entries)
+          cond_both (version == 0) (reach_after_placing v asked slot line (replicate 32 0)) (read_from v asked slot line frame version) (λ (r : CoreState × Reach). Longer asked.entries r.0.entries)
           (λ _. longer_placed v asked slot line (replicate 32 0))
           (λ _. opened_longer version (ct_place frame line) (sealed_at base.ram frame line).ct
           (unsealed_line (name_of (who_of asked slot) line version) (keys_of (who_of asked slot) line version) (sealed_at base.ram frame line)))
@@ -314,7 +314,7 @@ module _ (Stands : StandsFor) (owners : List Owner) (v : Versions) (law : Versio
           → IsTrusted sealed (brought v asked slot line frame answer).0.entries
           → Comes Stands owners base slot line (brought v asked slot line frame answer).0 (brought v asked slot line frame answer).1
       brought_comes (Err torn) is honest =
-          stop_comes tell sealings asked asked_kept asked_stays asked_seals alone_base refl frame is_mapped (ver (who_of base slot) (seals_of base.entries) line) refl (rule.TreeNode torn.level)
+          stop_comes tell sealings asked asked_kept asked_stays asked_seals alone_base refl frame is_mapped (version_of_line (who_of base slot) (seals_of base.entries) line) refl (rule.TreeNode torn.level)
       brought_comes (Ok version) is honest =
           let more = brought_longer (Ok version) in
           let before : IsTrusted sealed asked.entries = honest_before asked.entries more.0 sealed (subst (λ es. IsTrusted sealed es) more.1 honest) in
@@ -325,13 +325,13 @@ module _ (Stands : StandsFor) (owners : List Owner) (v : Versions) (law : Versio
           ]
 
     looked_comes : (frame : ℕ) → frame_of base.pages slot (page_of line) ≡ Some frame → (at : Option ℕ) → found base.ways slot line ≡ at
-        → IsTrusted sealed (looked v base slot line frame at).0.entries → Comes Stands owners base slot line (looked v base slot line frame at).0 (looked v base slot line frame at).1
+        → IsTrusted sealed (reach_by_cache v base slot line frame at).0.entries → Comes Stands owners base slot line (reach_by_cache v base slot line frame at).0 (reach_by_cache v base slot line frame at).1
     looked_comes frame is_mapped (Some place) is honest = record { kept = kept_none Stands owners base; came = (refl, found-IsOf base.ways slot line place is, found-low base.ways slot line place sound.shape.way_places is) }
     looked_comes frame is_mapped None is honest =
         brought_comes frame is_mapped (λ other. found-none base.ways slot line other some is) (v.texts_of_version (store_of base slot) line base.ram) refl (v.answer_of_version (store_of base slot) line base.ram) refl honest
 
     mapped_comes : (frame : Option ℕ) → frame_of base.pages slot (page_of line) ≡ frame
-        → IsTrusted sealed (mapped v base slot line frame).0.entries → Comes Stands owners base slot line (mapped v base slot line frame).0 (mapped v base slot line frame).1
+        → IsTrusted sealed (reach_in_frame v base slot line frame).0.entries → Comes Stands owners base slot line (reach_in_frame v base slot line frame).0 (reach_in_frame v base slot line frame).1
     mapped_comes None is honest = record { kept = kept_none Stands owners base; came = refl }
     mapped_comes (Some frame) is honest = looked_comes frame is (found base.ways slot line) refl honest
 

@@ -12,12 +12,12 @@ use Rattle.xom_versions.specs.Versions.{Versions}
 use Rattle.xom_versions.specs.Store.{hash_entry}
 use Rattle.line_cache.specs.declared.way.Way.{Way}
 use Rattle.line_cache.specs.Ways.{way_at}
-use Rattle.xom_model.specs.State.{CoreState, hashed, session_of, store_of, with_way}
+use Rattle.xom_model.specs.State.{CoreState, core_with_hashes, session_of, store_of, with_way}
 use Rattle.xom_model.specs.Lines.{accept_entry, seal_entry, who_of}
-use Rattle.xom_model.specs.Access.{dropped, raising, sealing, stopped}
-use Rattle.xom_model.specs.Guest.{finished, trapped}
-use Rattle.xom_model.specs.Operation.{envelope_at, installed, killed}
-use Rattle.xom_model.specs.Touched.{touched}
+use Rattle.xom_model.specs.Access.{after_raise, after_seal, after_stop, without_guest}
+use Rattle.xom_model.specs.Guest.{after_exit, after_trap}
+use Rattle.xom_model.specs.Operation.{after_install, after_kill, envelope_at}
+use Rattle.xom_model.specs.Touched.{slot_of_event}
 use Rattle.xom_model.proofs.Naming.{HasOne-either, HasOne-hashes, HasOne-only}
 use Rattle.xom_model.proofs.Walk.{Ends, Parts, torn_off, written_back}
 use Rattle.xom_model.proofs.WalkEvents.{Deeds, walk_event}
@@ -58,31 +58,31 @@ appends_hashes core new texts entries same = record {
   given = λ n has. absurd (HasOne-hashes (GivesIt n) (λ text nothing. nothing) texts has);
 }
 
-raise_appends : (v : Versions) (core : CoreState) (slot line : ℕ) → Appends core (raising v core slot line)
-unfolding raising
-raise_appends v core slot line = appends_hashes core (raising v core slot line) (v.texts_of_raise (store_of core slot) line core.ram) refl refl
+raise_appends : (v : Versions) (core : CoreState) (slot line : ℕ) → Appends core (after_raise v core slot line)
+unfolding after_raise
+raise_appends v core slot line = appends_hashes core (after_raise v core slot line) (v.texts_of_raise (store_of core slot) line core.ram) refl refl
 
 written_appends : (v : Versions) (core : CoreState) (way : Way) (version : ℕ) → Appends core (written_back v core way version)
-unfolding sealing
+unfolding after_seal
 written_appends v core way version =
-    let mid = raising v core way.slot way.line in
+    let mid = after_raise v core way.slot way.line in
     appends_on core mid (written_back v core way version) (raise_appends v core way.slot way.line)
     (appends_one mid (written_back v core way version) (seal_entry (who_of mid way.slot) way.line version way.bytes) refl refl (λ n nothing. nothing))
 
-stop_appends : (core : CoreState) (slot : ℕ) (why : Rule) → Appends core (stopped core slot why)
-unfolding dropped
-stop_appends core slot why = appends_one core (stopped core slot why) (entry.Stop (session_of core slot).install why) refl refl (λ n nothing. nothing)
+stop_appends : (core : CoreState) (slot : ℕ) (why : Rule) → Appends core (after_stop core slot why)
+unfolding without_guest
+stop_appends core slot why = appends_one core (after_stop core slot why) (entry.Stop (session_of core slot).install why) refl refl (λ n nothing. nothing)
 
-exit_appends : (core : CoreState) (slot : ℕ) → Appends core (finished core slot).0
-unfolding dropped
-exit_appends core slot = appends_none core (finished core slot).0 refl refl
+exit_appends : (core : CoreState) (slot : ℕ) → Appends core (after_exit core slot).0
+unfolding without_guest
+exit_appends core slot = appends_none core (after_exit core slot).0 refl refl
 
-kill_appends : (v : Versions) (core : CoreState) (slot : ℕ) → Appends core (killed v core slot)
-unfolding dropped
-kill_appends v core slot = appends_one core (killed v core slot) (entry.Kill (session_of core slot).install) refl refl (λ n nothing. nothing)
+kill_appends : (v : Versions) (core : CoreState) (slot : ℕ) → Appends core (after_kill v core slot)
+unfolding without_guest
+kill_appends v core slot = appends_one core (after_kill v core slot) (entry.Kill (session_of core slot).install) refl refl (λ n nothing. nothing)
 
-install_appends : (v : Versions) (core : CoreState) (slot place area : ℕ) (plain : Unwrapped) → Appends core (installed v core slot place area plain)
-unfolding installed
+install_appends : (v : Versions) (core : CoreState) (slot place area : ℕ) (plain : Unwrapped) → Appends core (after_install v core slot place area plain)
+unfolding after_install
 install_appends v core slot place area plain =
     let texts = v.texts_of_build area plain.lines core.ram in
     let accept = entry.Accept core.machine.0 (envelope_message (envelope_at core place)) place in
@@ -104,7 +104,7 @@ appends_parts : (v : Versions) (slot : ℕ) → Parts v slot Appends
 appends_parts v slot = record {
   none = λ core. appends_none core core refl refl;
   on = appends_on;
-  hash = λ core texts. appends_hashes core (hashed core texts) texts refl refl;
+  hash = λ core texts. appends_hashes core (core_with_hashes core texts) texts refl refl;
   accept = λ core line version place ct runs. appends_one core _ (accept_entry (who_of core slot) line version ct place) refl refl (λ n nothing. nothing);
   point = λ core line. appends_none core _ refl refl;
   bring = λ core place way clean may. appends_none core _ refl refl;
@@ -113,7 +113,7 @@ appends_parts v slot = record {
       appends_on core mid (with_way mid place way) (written_appends v core (way_at core.ways place) version) (appends_none mid (with_way mid place way) refl refl);
   tear = λ core place torn dirty raised.
       let its = way_at core.ways place in
-      appends_on core (raising v core its.slot its.line) (torn_off v core its torn) (raise_appends v core its.slot its.line) (stop_appends (raising v core its.slot its.line) its.slot (rule.TreeNode torn.level));
+      appends_on core (after_raise v core its.slot its.line) (torn_off v core its torn) (raise_appends v core its.slot its.line) (stop_appends (after_raise v core its.slot its.line) its.slot (rule.TreeNode torn.level));
   stop = λ core why live. stop_appends core slot why;
   step = λ core place session step runs goes stores. appends_one core _ (entry.Step (session_of core slot).install step) refl refl (λ n nothing. nothing);
 }
@@ -122,7 +122,7 @@ appends_ends : (slot : ℕ) → Ends slot Appends Appends
 appends_ends slot = record {
   went = λ core. appends_none core core refl refl;
   after = appends_on;
-  trap = λ core why runs. appends_one core (trapped core slot why).0 (entry.Trap (session_of core slot).install why) refl refl (λ n nothing. nothing);
+  trap = λ core why runs. appends_one core (after_trap core slot why).0 (entry.Trap (session_of core slot).install why) refl refl (λ n nothing. nothing);
   exit = λ core runs exited. exit_appends core slot;
 }
 
@@ -143,4 +143,4 @@ appends_deeds v slot = record {
 
 -- each event only appends
 pub events_append : EventsAppend
-events_append v r e bytes = walk_event v Appends Appends r e bytes (appends_parts v (touched r e)) (appends_ends (touched r e)) (appends_deeds v (touched r e))
+events_append v r e bytes = walk_event v Appends Appends r e bytes (appends_parts v (slot_of_event r e)) (appends_ends (slot_of_event r e)) (appends_deeds v (slot_of_event r e))

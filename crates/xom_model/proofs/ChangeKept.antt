@@ -22,7 +22,7 @@ use Rattle.image_sealer.specs.Membership.{is_sealed}
 use Rattle.xom_model.specs.State.{CoreState, session_of}
 use Rattle.xom_model.specs.Lines.{who_in, who_of}
 use Rattle.xom_model.specs.Saves.{SavesAgree, reg_name}
-use Rattle.xom_model.specs.Guest.{trapped}
+use Rattle.xom_model.specs.Guest.{after_trap}
 use Rattle.xom_model.specs.Holds.{Agrees, FollowsAlone, Holds, IsHeld, IsLive, IsRunning, Private, SlotsHold, line_in, own_bit}
 use Rattle.xom_model.proofs.Growth.{Goes, goes_entry, goes_none, seals_none}
 use Rattle.xom_model.proofs.KeptLaws.{aside, aside_private, aside_shape}
@@ -107,7 +107,7 @@ module _ (Stands : StandsFor) (owners : List Owner) (v : Versions) (law : Versio
 
 module _ (Stands : StandsFor) (owners : List Owner) (v : Versions) (law : VersionLaw v Stands) (core : CoreState) (slot : ℕ) (some : slot ≢ 0) (known : slot ≤ 16) (holds : Holds Stands owners core) where
   -- a trap of a running guest
-  pub trapped_holds : (why : Cause) → IsRunning core slot → Holds Stands owners (trapped core slot why).0
+  pub trapped_holds : (why : Cause) → IsRunning core slot → Holds Stands owners (after_trap core slot why).0
   trapped_holds why runs =
       let live : IsLive core slot = rw runs refl in
       let s = session_of core slot in

@@ -18,10 +18,10 @@ use Rattle.line_cache.specs.declared.way.Way.{Way}
 use Rattle.page_map.specs.Pages.{frame_of}
 use Rattle.line_cache.specs.Ways.{way_at}
 use Rattle.xom_model.specs.State.{CoreState, no_store, session_of, store_of, page_of}
-use Rattle.xom_model.specs.Lines.{seal_entry, ver, who_of, keys_of, name_of, sealed_as}
+use Rattle.xom_model.specs.Lines.{keys_of, name_of, seal_entry, sealed_as, version_of_line, who_of}
 use Rattle.xom_seal.proofs.SealLaws.{sealed_lines_have_their_length}
 use Rattle.xom_model.proofs.RamSize.{length-with_sealed, areas_stay, frames_stay}
-use Rattle.xom_model.specs.Access.{cleared, cleared_at, dropped, or_stopped, raising, sealed_by_raise, sealing, stopped}
+use Rattle.xom_model.specs.Access.{after_raise, after_seal, after_stop, after_victim, cleared_at, or_stopped, sealed_by_raise, without_guest}
 use Rattle.xom_model.specs.Holds.{IsLive, Private, Shape, RamFits}
 use Rattle.xom_model.specs.Kept.{Kept}
 use Rattle.xom_model.proofs.Growth.{IsTrusted, goes_hashes, no_collision_before, seals_hashes}
@@ -125,9 +125,9 @@ module _ (Stands : StandsFor) (owners : List Owner) (v : Versions) (law : Versio
 
     -- it was sealed
     clears_sealed : (number : ℕ) → v.answer_of_raise (store_of core way.slot) way.line core.ram ≡ Ok number
-        → IsTrusted sealed (sealing v (raising v core way.slot way.line) way.slot way.line way.bytes number).entries
-        → Clears Stands owners core place (sealing v (raising v core way.slot way.line) way.slot way.line way.bytes number) None
-    unfolding sealing raising
+        → IsTrusted sealed (after_seal v (after_raise v core way.slot way.line) way.slot way.line way.bytes number).entries
+        → Clears Stands owners core place (after_seal v (after_raise v core way.slot way.line) way.slot way.line way.bytes number) None
+    unfolding after_seal after_raise
     clears_sealed number raised honest =
         let its = sound.known way.slot some live in
         let line_is = its.3.lines way.line (sound.shape.inside place some) in
@@ -193,8 +193,8 @@ module _ (Stands : StandsFor) (owners : List Owner) (v : Versions) (law : Versio
         | inr other ↦ ap (λ s. s.area) (get_or-set_other core.stores way.slot k torn_store no_store other.1)
       ]
 
-      torn_kept : Kept Stands owners core (raising v core way.slot way.line)
-      unfolding raising
+      torn_kept : Kept Stands owners core (after_raise v core way.slot way.line)
+      unfolding after_raise
       torn_kept = record {
         shape = λ s. stores_shape torn_core torn_stores torn_ram (length-set core.stores way.slot torn_store) (hashes_kept.shape s);
         boot = refl;
@@ -222,49 +222,49 @@ module _ (Stands : StandsFor) (owners : List Owner) (v : Versions) (law : Versio
             );
         private = λ k named lives owner memory whose holds. record {
           lines = (hashes_kept.private k named lives owner memory whose holds).lines;
-          stands = subst (λ seals. Stands (get_or torn_stores k no_store) torn_core.entries (ver (who_of core k) seals)) (sym (seals_hashes core.entries texts))
-              (torn_stands k (ver (who_of core k) (seals_of core.entries)) holds.stands);
+          stands = subst (λ seals. Stands (get_or torn_stores k no_store) torn_core.entries (version_of_line (who_of core k) seals)) (sym (seals_hashes core.entries texts))
+              (torn_stands k (version_of_line (who_of core k) (seals_of core.entries)) holds.stands);
         };
       }
 
-    raised_ways : (raising v core way.slot way.line).ways ≡ core.ways
-    unfolding raising
+    raised_ways : (after_raise v core way.slot way.line).ways ≡ core.ways
+    unfolding after_raise
     raised_ways = refl
 
-    raised_pages : (raising v core way.slot way.line).pages ≡ core.pages
-    unfolding raising
+    raised_pages : (after_raise v core way.slot way.line).pages ≡ core.pages
+    unfolding after_raise
     raised_pages = refl
 
-    raised_sessions : (raising v core way.slot way.line).sessions ≡ core.sessions
-    unfolding raising
+    raised_sessions : (after_raise v core way.slot way.line).sessions ≡ core.sessions
+    unfolding after_raise
     raised_sessions = refl
 
     module _ (torn : Torn) (is : v.answer_of_raise (store_of core way.slot) way.line core.ram ≡ Err torn) where
       abbrev mid : CoreState
-      mid = raising v core way.slot way.line
+      mid = after_raise v core way.slot way.line
 
       abbrev out : CoreState
-      out = stopped mid way.slot (rule.TreeNode torn.level)
+      out = after_stop mid way.slot (rule.TreeNode torn.level)
 
       out_ways : (at : ℕ) → (way_at out.ways at).slot ≢ 0 → (way_at out.ways at ≡ way_at core.ways at) × ((way_at core.ways at).slot ≢ way.slot)
-      unfolding dropped raising
+      unfolding without_guest after_raise
       out_ways at filled =
           let is = way-without way.slot core.ways at in
           let stays = free_if-left way.slot (way_at core.ways at) (λ none. filled (ap (λ w. w.slot) is ∙ none)) in
           (is ∙ stays.0, stays.1)
 
       out_places : length out.ways ≡ length core.ways
-      unfolding dropped raising
+      unfolding without_guest after_raise
       out_places = length-map core.ways _
 
       out_dead : ¬ IsLive out way.slot
-      unfolding dropped raising
+      unfolding without_guest after_raise
       out_dead lives =
           let here = get_or-set_same core.sessions way.slot (left (session_of core way.slot) (state.Stopped (rule.TreeNode torn.level))) free (let places : length core.sessions ≡ 17 = sound.places in let few = known in omega arith) in
           absurd (let its = ap (λ s. is_live s.state) here in cc)
 
       out_others : (slot : ℕ) → slot ≢ way.slot → Stays core out slot
-      unfolding dropped raising
+      unfolding without_guest after_raise
       out_others slot differs = (get_or-set_other core.sessions way.slot slot _ free differs, λ page. pages-other core.pages way.slot slot page differs)
 
       clears_torn : Clears Stands owners core place out (Some (rule.TreeNode torn.level))
@@ -282,14 +282,14 @@ module _ (Stands : StandsFor) (owners : List Owner) (v : Versions) (law : Versio
           }
 
     clears_answer : (answer : Result ℕ Torn) → v.answer_of_raise (store_of core way.slot) way.line core.ram ≡ answer
-        → IsTrusted sealed (or_stopped v way.slot (sealed_by_raise v (raising v core way.slot way.line) way.slot way.line way.bytes answer)).0.entries
+        → IsTrusted sealed (or_stopped v way.slot (sealed_by_raise v (after_raise v core way.slot way.line) way.slot way.line way.bytes answer)).0.entries
         → Clears Stands owners core place
-        (or_stopped v way.slot (sealed_by_raise v (raising v core way.slot way.line) way.slot way.line way.bytes answer)).0
-        (or_stopped v way.slot (sealed_by_raise v (raising v core way.slot way.line) way.slot way.line way.bytes answer)).1
+        (or_stopped v way.slot (sealed_by_raise v (after_raise v core way.slot way.line) way.slot way.line way.bytes answer)).0
+        (or_stopped v way.slot (sealed_by_raise v (after_raise v core way.slot way.line) way.slot way.line way.bytes answer)).1
     clears_answer (Ok number) is honest = clears_sealed number is honest
     clears_answer (Err torn) is honest = clears_torn torn is
 
-  clears_by : (dirty : Bool) → way.dirty ≡ dirty → IsTrusted sealed (cleared v core way dirty).0.entries → Clears Stands owners core place (cleared v core way dirty).0 (cleared v core way dirty).1
+  clears_by : (dirty : Bool) → way.dirty ≡ dirty → IsTrusted sealed (after_victim v core way dirty).0.entries → Clears Stands owners core place (after_victim v core way dirty).0 (after_victim v core way dirty).1
   clears_by false is honest = clears_clean is
   clears_by true is honest = clears_answer is _ refl honest
 

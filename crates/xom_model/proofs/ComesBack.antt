@@ -20,7 +20,7 @@ use Rattle.line_ram.specs.Bytes.{bytes_at}
 use Rattle.xom_model.specs.State.{CoreState, holds as fits_ram, session_of}
 use Rattle.xom_model.specs.Lines.{who_of}
 use Rattle.xom_model.specs.Saves.{reg_keys, reg_name, saved_at, sealed_reg, with_saved}
-use Rattle.xom_model.specs.Operation.{epoch_of, is_bad_slot, is_cell, is_own_cell, is_paused, operation, reopened, restore_register, restored, save_register, saved, tested}
+use Rattle.xom_model.specs.Operation.{after_reopening, after_restore, after_save, epoch_of, first_refusal_or, is_bad_slot, is_cell, is_own_cell, is_paused, operation, restore_register, save_register}
 use Rattle.xom_model.specs.Holds.{Holds, own_bit}
 use Rattle.xom_model.specs.SavedBack.{SavedComesBack}
 use Rattle.xom_model.proofs.OperationKept.{cell_from, own_from, paused_of}
@@ -61,17 +61,17 @@ saved_reads ram address sealed ct tag within =
 -- ---- Tests
 
 -- a test that refuses with another status than 0 didn't hold
-passed : (core : CoreState) (test : Bool) (status : ℕ) (tests : List (Bool × ℕ)) (deed : CoreState × ℕ) → status ≢ 0 → (tested core ((test, status) ∷ tests) deed).1 ≡ 0 → (test ≡ false) × ((tested core tests deed).1 ≡ 0)
+passed : (core : CoreState) (test : Bool) (status : ℕ) (tests : List (Bool × ℕ)) (deed : CoreState × ℕ) → status ≢ 0 → (first_refusal_or core ((test, status) ∷ tests) deed).1 ≡ 0 → (test ≡ false) × ((first_refusal_or core tests deed).1 ≡ 0)
 passed core true status tests deed some is = absurd (some is)
 passed core false status tests deed some is = (refl, is)
 
 -- where no test holds the deed is done
-does : (core : CoreState) (test : Bool) (status : ℕ) (tests : List (Bool × ℕ)) (deed : CoreState × ℕ) → test ≡ false → tested core ((test, status) ∷ tests) deed ≡ tested core tests deed
+does : (core : CoreState) (test : Bool) (status : ℕ) (tests : List (Bool × ℕ)) (deed : CoreState × ℕ) → test ≡ false → first_refusal_or core ((test, status) ∷ tests) deed ≡ first_refusal_or core tests deed
 does core test status tests deed none = rw none refl
 
 module _ (Stands : StandsFor) (owners : List Owner) (core : CoreState) (slot reg address : ℕ) (holds : Holds Stands owners core) (is_done : (save_register core slot reg address).1 ≡ 0) where
   abbrev deed : CoreState × ℕ
-  deed = (saved core slot reg address, 0)
+  deed = (after_save core slot reg address, 0)
 
   abbrev cell : Cell
   cell = cell_at core.cells reg
@@ -91,16 +91,16 @@ module _ (Stands : StandsFor) (owners : List Owner) (core : CoreState) (slot reg
   abbrev paused_test : List (Bool × ℕ)
   paused_test = (not (is_paused (session_of core slot).state), 2) ∷ cell_test
 
-  good_slot : (is_bad_slot core slot ≡ false) × ((tested core paused_test deed).1 ≡ 0)
+  good_slot : (is_bad_slot core slot ≡ false) × ((first_refusal_or core paused_test deed).1 ≡ 0)
   good_slot = passed core (is_bad_slot core slot) 1 paused_test deed (omega arith) is_done
 
-  is_waiting : (not (is_paused (session_of core slot).state) ≡ false) × ((tested core cell_test deed).1 ≡ 0)
+  is_waiting : (not (is_paused (session_of core slot).state) ≡ false) × ((first_refusal_or core cell_test deed).1 ≡ 0)
   is_waiting = passed core (not (is_paused (session_of core slot).state)) 2 cell_test deed (omega arith) good_slot.1
 
-  good_cell : (not (is_cell reg) ≡ false) × ((tested core fits_test deed).1 ≡ 0)
+  good_cell : (not (is_cell reg) ≡ false) × ((first_refusal_or core fits_test deed).1 ≡ 0)
   good_cell = passed core (not (is_cell reg)) 7 fits_test deed (omega arith) is_waiting.1
 
-  good_range : (not (fits_ram core.ram address 36) ≡ false) × ((tested core own_test deed).1 ≡ 0)
+  good_range : (not (fits_ram core.ram address 36) ≡ false) × ((first_refusal_or core own_test deed).1 ≡ 0)
   good_range = passed core (not (fits_ram core.ram address 36)) 4 own_test deed (omega arith) good_cell.1
 
   good_own : (not (is_own_cell slot cell) ≡ false) × (deed.1 ≡ 0)
@@ -137,17 +137,17 @@ module _ (Stands : StandsFor) (owners : List Owner) (core : CoreState) (slot reg
       ∙ registers_open (reg_name (who_of core slot) (epoch_of core slot) reg) (reg_keys (who_of core slot) (epoch_of core slot)) cell.value own.1
 
   abbrev new : CoreState
-  new = saved core slot reg address
+  new = after_save core slot reg address
 
   fits_new : not (fits_ram new.ram address 36) ≡ false
-  unfolding saved
+  unfolding after_save
   fits_new = ap (λ n. not (nat_le (address + 36) n)) size ∙ good_range.0
 
-  is_restored : restore_register new slot reg address ≡ (restored new slot reg address cell.value, 0)
-  unfolding saved
+  is_restored : restore_register new slot reg address ≡ (after_restore new slot reg address cell.value, 0)
+  unfolding after_save
   is_restored =
-      let deed_back = reopened new slot reg address (unsealed_register (reg_name (who_of core slot) (epoch_of core slot) reg) (reg_keys (who_of core slot) (epoch_of core slot)) (saved_at new.ram address)) in
-      rw (good_slot.0, is_waiting.0, good_cell.0, fits_new, bit) (ap (reopened new slot reg address) opens)
+      let deed_back = after_reopening new slot reg address (unsealed_register (reg_name (who_of core slot) (epoch_of core slot) reg) (reg_keys (who_of core slot) (epoch_of core slot)) (saved_at new.ram address)) in
+      rw (good_slot.0, is_waiting.0, good_cell.0, fits_new, bit) (ap (after_reopening new slot reg address) opens)
 
   -- the save was done
   is_saved : save_register core slot reg address ≡ deed
@@ -156,8 +156,8 @@ module _ (Stands : StandsFor) (owners : List Owner) (core : CoreState) (slot reg
   cell_is : cell ≡ record { value = cell.value; tag = slot }
   cell_is = ap (λ t. let c : Cell = record { value = cell.value; tag = t } in c) own.0
 
-  same_cells : (restored new slot reg address cell.value).cells ≡ core.cells
-  unfolding restored saved
+  same_cells : (after_restore new slot reg address cell.value).cells ≡ core.cells
+  unfolding after_restore after_save
   same_cells = ap (set core.cells reg) (sym cell_is) ∙ set-get_or core.cells reg empty
 
   pub comes_back : ((restore_register (save_register core slot reg address).0 slot reg address).1 ≡ 0) × ((restore_register (save_register core slot reg address).0 slot reg address).0.cells ≡ core.cells)

@@ -13,13 +13,13 @@ use Rattle.xom_versions.specs.Versions.{Versions}
 use Rattle.line_cache.specs.declared.way.Way.{Way}
 use Rattle.line_cache.specs.Ways.{way_at}
 use Rattle.xom_model.specs.State.{CoreState, Record, session_of}
-use Rattle.xom_model.specs.Access.{dropped, raising, sealing, stopped}
-use Rattle.xom_model.specs.Guest.{finished, guest, trapped}
+use Rattle.xom_model.specs.Access.{after_raise, after_seal, after_stop, without_guest}
+use Rattle.xom_model.specs.Guest.{after_exit, after_trap, guest}
 use Rattle.xom_model.specs.Null.{Answer, null_step}
-use Rattle.xom_model.specs.Operation.{installed, killed}
-use Rattle.xom_model.specs.Event.{guest_turn, null_turn, on, open_in, ran_on, running, told_in}
+use Rattle.xom_model.specs.Operation.{after_install, after_kill}
+use Rattle.xom_model.specs.Event.{guest_turn, null_turn, on, open_in, ran_on, running_slot, told_in}
 use Rattle.xom_model.specs.Counts.{AreCounted, CountedAtStart, EventsKeepCounts}
-use Rattle.xom_model.specs.Touched.{touched}
+use Rattle.xom_model.specs.Touched.{slot_of_event}
 use Rattle.xom_model.proofs.Gone.{less}
 use Rattle.xom_model.proofs.StartStops.{free_at}
 use Rattle.xom_model.proofs.Walk.{Ends, Parts, written_back}
@@ -78,26 +78,26 @@ counts_turn core new slot s sessions installs epoch install number counted =
     subst (λ n. AreCounted new n) (let none : number + 0 ≡ number = omega arith in none) whole
 
 written_sessions : (v : Versions) (core : CoreState) (way : Way) (version : ℕ) → ((written_back v core way version).sessions ≡ core.sessions) × ((written_back v core way version).installs ≡ core.installs)
-unfolding sealing raising
+unfolding after_seal after_raise
 written_sessions v core way version = (refl, refl)
 
-stop_counts : (core : CoreState) (slot : ℕ) (why : Rule) → KeepsCounts core (stopped core slot why)
-unfolding dropped
-stop_counts core slot why = counts_turn core (stopped core slot why) slot _ refl refl refl refl
+stop_counts : (core : CoreState) (slot : ℕ) (why : Rule) → KeepsCounts core (after_stop core slot why)
+unfolding without_guest
+stop_counts core slot why = counts_turn core (after_stop core slot why) slot _ refl refl refl refl
 
-raise_counts : (v : Versions) (core : CoreState) (slot line : ℕ) → KeepsCounts core (raising v core slot line)
-unfolding raising
-raise_counts v core slot line = counts_same core (raising v core slot line) refl refl
+raise_counts : (v : Versions) (core : CoreState) (slot line : ℕ) → KeepsCounts core (after_raise v core slot line)
+unfolding after_raise
+raise_counts v core slot line = counts_same core (after_raise v core slot line) refl refl
 
-kill_counts : (v : Versions) (core : CoreState) (slot : ℕ) → KeepsCounts core (killed v core slot)
-unfolding dropped
+kill_counts : (v : Versions) (core : CoreState) (slot : ℕ) → KeepsCounts core (after_kill v core slot)
+unfolding without_guest
 kill_counts v core slot number counted =
-    subst (λ n. AreCounted (killed v core slot) n) (let none : number + 0 ≡ number = omega arith in none)
-    (counts_set core (killed v core slot) slot free number 0 refl refl counted (omega arith) (omega arith))
+    subst (λ n. AreCounted (after_kill v core slot) n) (let none : number + 0 ≡ number = omega arith in none)
+    (counts_set core (after_kill v core slot) slot free number 0 refl refl counted (omega arith) (omega arith))
 
-exit_counts : (core : CoreState) (slot : ℕ) → KeepsCounts core (finished core slot).0
-unfolding dropped
-exit_counts core slot = counts_turn core (finished core slot).0 slot _ refl refl refl refl
+exit_counts : (core : CoreState) (slot : ℕ) → KeepsCounts core (after_exit core slot).0
+unfolding without_guest
+exit_counts core slot = counts_turn core (after_exit core slot).0 slot _ refl refl refl refl
 
 install_counts : (core new : CoreState) (slot : ℕ) (s : Session) → new.sessions ≡ set core.sessions slot s → new.installs ≡ core.installs + 1 → s.epoch ≡ 0 → s.install ≡ core.installs + 1 → CountsOne core new
 install_counts core new slot s sessions installs epoch install number counted = record {
@@ -120,7 +120,7 @@ counts_parts v slot = record {
       let same = written_sessions v core (way_at core.ways place) version in counts_same core _ same.0 same.1;
   tear = λ core place torn dirty raised number counted.
       let way = way_at core.ways place in
-      stop_counts (raising v core way.slot way.line) way.slot _ number (raise_counts v core way.slot way.line number counted);
+      stop_counts (after_raise v core way.slot way.line) way.slot _ number (raise_counts v core way.slot way.line number counted);
   stop = λ core why live. stop_counts core slot why;
   step = λ core place session step runs goes stores. counts_turn core _ slot session refl refl goes.epoch goes.install;
 }
@@ -130,13 +130,13 @@ counts_ends slot = record {
   went = more_counted;
   after = λ a b c first then number counted. then number (first number counted);
   trap = λ core why runs number counted.
-      counts_set core (trapped core slot why).0 slot (paused (session_of core slot)) number 1 refl refl counted (let low = counted.epochs slot in omega arith) (counted.installs slot);
-  exit = λ core runs exited number counted. more_counted (finished core slot).0 number (exit_counts core slot number counted);
+      counts_set core (after_trap core slot why).0 slot (paused (session_of core slot)) number 1 refl refl counted (let low = counted.epochs slot in omega arith) (counted.installs slot);
+  exit = λ core runs exited number counted. more_counted (after_exit core slot).0 number (exit_counts core slot number counted);
 }
 
-installed_counts : (v : Versions) (core : CoreState) (slot place area : ℕ) (plain : Unwrapped) → CountsOne core (installed v core slot place area plain)
-unfolding installed
-installed_counts v core slot place area plain = install_counts core (installed v core slot place area plain) slot _ refl refl refl refl
+installed_counts : (v : Versions) (core : CoreState) (slot place area : ℕ) (plain : Unwrapped) → CountsOne core (after_install v core slot place area plain)
+unfolding after_install
+installed_counts v core slot place area plain = install_counts core (after_install v core slot place area plain) slot _ refl refl refl refl
 
 counts_deeds : (v : Versions) (slot : ℕ) → Deeds v slot KeepsCounts CountsOne
 counts_deeds v slot = record {
@@ -171,13 +171,13 @@ null_counted v r (s, Ok (Some op)) counted = counted
 event_counted : (v : Versions) (r : Record) (e : Event) (bytes : List ℕ) → AreCounted r.core r.events → AreCounted (on v r e bytes).0.core (r.events + 1) → AreCounted (on v r e bytes).0.core (on v r e bytes).0.events
 unfolding on
 event_counted v r (event.Do op) bytes before after = after
-event_counted v r (event.Guest interrupt) bytes before after = turn_counted v r interrupt (running r) before after
+event_counted v r (event.Guest interrupt) bytes before after = turn_counted v r interrupt (running_slot r) before after
 event_counted v r event.Null bytes before after = null_counted v r (null_step (told_in r) (open_in r)) after
 event_counted v r (event.Write address count) bytes before after = after
 event_counted v r (event.Poke address count) bytes before after = after
 
 counted_after : (v : Versions) (r : Record) (e : Event) (bytes : List ℕ) → AreCounted r.core r.events → AreCounted (on v r e bytes).0.core (r.events + 1)
-counted_after v r e bytes counted = walk_event v KeepsCounts CountsOne r e bytes (counts_parts v (touched r e)) (counts_ends (touched r e)) (counts_deeds v (touched r e)) r.events counted
+counted_after v r e bytes counted = walk_event v KeepsCounts CountsOne r e bytes (counts_parts v (slot_of_event r e)) (counts_ends (slot_of_event r e)) (counts_deeds v (slot_of_event r e)) r.events counted
 
 pub events_keep_counts : EventsKeepCounts
 events_keep_counts v r e bytes counted = event_counted v r e bytes counted (counted_after v r e bytes counted)

@@ -19,9 +19,9 @@ use Rattle.line_cache.specs.declared.way.Way.{Way}
 use Rattle.page_map.specs.Pages.{frame_of, no_pages}
 use Rattle.line_cache.specs.Ways.{free_if, free_way, way_at, without_slot}
 use Rattle.xom_model.specs.State.{CoreState, page_of, session_of, store_of, with_session}
-use Rattle.xom_model.specs.Lines.{Who, ver, who_in, who_of}
-use Rattle.xom_model.specs.Access.{dropped, gone, stopped}
-use Rattle.xom_model.specs.Operation.{killed}
+use Rattle.xom_model.specs.Lines.{Who, version_of_line, who_in, who_of}
+use Rattle.xom_model.specs.Access.{after_leaving, after_stop, without_guest}
+use Rattle.xom_model.specs.Operation.{after_kill}
 use Rattle.xom_model.specs.Holds.{IsLive, IsOf, LineHolds, Private, Shape}
 use Rattle.xom_model.specs.Kept.{Kept}
 use Rattle.xom_model.proofs.Growth.{goes_none, goes_entry, seals_none}
@@ -191,7 +191,7 @@ module _ (Stands : StandsFor) (owners : List Owner) (core : CoreState) (slot : �
             (λ place is. (left_way place (λ none. filled (sym is.0 ∙ none))).0)
             (λ place is. stays_way place (λ its. differs (sym is.0 ∙ its)))
             (holds.lines line low));
-        stands = subst (λ t. Stands (store_of core k) core.entries (ver (who_in core.boot t) (seals_of core.entries))) (sym session) holds.stands;
+        stands = subst (λ t. Stands (store_of core k) core.entries (version_of_line (who_in core.boot t) (seals_of core.entries))) (sym session) holds.stands;
       }
 
   reg_within : (reg : ℕ) → reg < 34 → reg < length core.cells
@@ -236,26 +236,26 @@ module _ (Stands : StandsFor) (owners : List Owner) (core : CoreState) (slot : �
 -- ---- A stop, an exit and a Kill
 
 module _ (Stands : StandsFor) (owners : List Owner) (v : Versions) (law : VersionLaw v Stands) (core : CoreState) (slot : ℕ) (some : slot ≢ 0) (places : length core.sessions ≡ 17) (known : slot ≤ 16) (whole : length core.cells ≡ 34) (shape : Shape core) where
-  pub left_kept : (final : SlotState) → is_live final ≡ false → Kept Stands owners core (gone core slot final)
-  unfolding dropped
+  pub left_kept : (final : SlotState) → is_live final ≡ false → Kept Stands owners core (after_leaving core slot final)
+  unfolding without_guest
   left_kept final dead = gone_kept Stands owners core slot (left (session_of core slot) final) some (omega arith) whole dead (shape.numbers slot) (shape.ids slot)
 
-  pub stopped_kept : (why : Rule) → Kept Stands owners core (stopped core slot why)
+  pub stopped_kept : (why : Rule) → Kept Stands owners core (after_stop core slot why)
   stopped_kept why =
-      let mid = gone core slot (state.Stopped why) in
+      let mid = after_leaving core slot (state.Stopped why) in
       let stop = entry.Stop (session_of core slot).install why in
-      kept_on Stands owners core mid (stopped core slot why) (left_kept (state.Stopped why) refl)
+      kept_on Stands owners core mid (after_stop core slot why) (left_kept (state.Stopped why) refl)
       (kept_rest Stands owners v law mid mid.pointers mid.ram (mid.entries ++ stop ∷ [])
       (goes_entry mid.entries stop (record { step = λ n. refl; install = λ n id no. no })) (seals_none mid.entries stop refl) refl)
 
-  killed_session : Kept Stands owners core (with_session (dropped core slot) slot free)
-  unfolding dropped
+  killed_session : Kept Stands owners core (with_session (without_guest core slot) slot free)
+  unfolding without_guest
   killed_session = gone_kept Stands owners core slot free some (omega arith) whole refl (omega arith) refl
 
-  pub killed_kept : Kept Stands owners core (killed v core slot)
+  pub killed_kept : Kept Stands owners core (after_kill v core slot)
   killed_kept =
-      let mid = with_session (dropped core slot) slot free in
+      let mid = with_session (without_guest core slot) slot free in
       let kill = entry.Kill (session_of core slot).install in
-      kept_on Stands owners core mid (killed v core slot) killed_session
+      kept_on Stands owners core mid (after_kill v core slot) killed_session
       (kept_rest Stands owners v law mid mid.pointers mid.ram (mid.entries ++ kill ∷ [])
       (goes_entry mid.entries kill (record { step = λ n. refl; install = λ n id no. no })) (seals_none mid.entries kill refl) refl)

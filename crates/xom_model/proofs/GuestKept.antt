@@ -19,8 +19,8 @@ use Rattle.mips_effect.specs.declared.wish.Wish.TheVariants as wish
 use Rattle.mips_effect.specs.Effects.{IsInRange, Ranged}
 use Rattle.mips_plain.specs.Memory.{private_size, word_at}
 use Rattle.mips_plain.proofs.Sizes.{private_size_is}
-use Rattle.mips_plain.specs.Instruction.{fetched, is_code, known, made, step_made, tried, word_for}
-use Rattle.mips_plain.specs.Machine.{State, answered, is_exit, plain, seen}
+use Rattle.mips_plain.specs.Instruction.{effect_at, instruction_in, instruction_or_fault, is_code, step_made, step_of_wish, word_for}
+use Rattle.mips_plain.specs.Machine.{State, answer_to, is_exit, plain, seen_of_cell}
 use Rattle.mips_plain.specs.declared.given.Given.TheVariants as given
 use Rattle.mips_plain.specs.declared.given.PlainStep.{PlainStep}
 use Rattle.mips_plain.specs.declared.given.PlainStep.TheVariants as plain_step
@@ -37,7 +37,7 @@ use Rattle.xom_model.specs.Versions.{StandsFor}
 use Rattle.line_cache.specs.Ways.{way_at}
 use Rattle.xom_model.specs.State.{CoreState, session_of}
 use Rattle.xom_model.specs.Access.{access}
-use Rattle.xom_model.specs.Guest.{address_in, after_step, code_reached, data_of, data_reached, finished, guest, ran, received_by, retires, seen_by, trapped, word_in, word_loaded, word_tried}
+use Rattle.xom_model.specs.Guest.{address_in, after_effect, after_exit, after_step, after_trap, code_reached, data_of, data_reached, guest, received_by, retirement, seen_by, word_in, word_loaded, word_tried}
 use Rattle.xom_model.specs.Holds.{Agrees, FollowsAlone, Holds, IsLive, IsOf, IsRunning, Private, line_in}
 use Rattle.xom_model.specs.Kept.{Kept}
 use Rattle.xom_model.proofs.Growth.{IsTrusted, honest_before}
@@ -62,11 +62,11 @@ sound_of Stands owners core holds = record {
 }
 
 -- a word is an instruction whose operands are in their ranges
-known-Fits : (found : Option Ins) (ins : Ins) → ((i : Ins) → found ≡ Some i → Fits i) → known found ≡ Ok ins → Fits ins
+known-Fits : (found : Option Ins) (ins : Ins) → ((i : Ins) → found ≡ Some i → Fits i) → instruction_or_fault found ≡ Ok ins → Fits ins
 known-Fits None ins fits is = absurd (cc)
 known-Fits (Some i) ins fits is = fits ins (cc)
 
-word-Fits : (word : ℕ) (ins : Ins) → known (read word) ≡ Ok ins → Fits ins
+word-Fits : (word : ℕ) (ins : Ins) → instruction_or_fault (read word) ≡ Ok ins → Fits ins
 word-Fits word ins is = known-Fits (read word) ins (λ i has. read-Fits i word has) is
 
 -- an address of a wish is a private one
@@ -118,7 +118,7 @@ none-loaded (wish.Ask reg what) bytes is = refl
 
 -- a step stores in the line of its address
 stores-at : (core : CoreState) (slot place pc npc : ℕ) (written : Writes) (wished : Wish) (word got address : ℕ) → IsInRange wished → address_in wished ≡ Some address
-    → IsOf (way_at core.ways place) slot (address / 32) → place < 128 → StoresAt core slot place (made pc npc written wished word got).stored
+    → IsOf (way_at core.ways place) slot (address / 32) → place < 128 → StoresAt core slot place (step_of_wish pc npc written wished word got).stored
 stores-at core slot place pc npc written (wish.Store at count value) word got address range is its low =
     let same : at ≡ address = cc in (
       subst (λ a. IsOf (way_at core.ways place) slot (a / 32)) (sym same) its,
@@ -140,7 +140,7 @@ stores-at core slot place pc npc written (wish.Call code) word got address range
 stores-at core slot place pc npc written (wish.Do operation) word got address range is its low = tt
 stores-at core slot place pc npc written (wish.Ask reg what) word got address range is its low = tt
 
-stores-none : (core : CoreState) (slot place pc npc : ℕ) (written : Writes) (wished : Wish) (word got : ℕ) → address_in wished ≡ None → StoresAt core slot place (made pc npc written wished word got).stored
+stores-none : (core : CoreState) (slot place pc npc : ℕ) (written : Writes) (wished : Wish) (word got : ℕ) → address_in wished ≡ None → StoresAt core slot place (step_of_wish pc npc written wished word got).stored
 stores-none core slot place pc npc written (wish.Store at count value) word got is = absurd (cc)
 stores-none core slot place pc npc written (wish.Load reg at how old) word got is = absurd (cc)
 stores-none core slot place pc npc written wish.Nothing word got is = tt
@@ -162,8 +162,8 @@ code-low pc is = elim (eqb_tells (pc % 4) 0) [
   | inr other ↦ absurd (let e = rw other.0 at is in cc)
 ]
 
-fetched-word : (bytes : List ℕ) (pc : ℕ) → is_code pc ≡ true → fetched bytes pc ≡ known (read (word_at bytes pc))
-unfolding fetched
+fetched-word : (bytes : List ℕ) (pc : ℕ) → is_code pc ≡ true → instruction_in bytes pc ≡ instruction_or_fault (read (word_at bytes pc))
+unfolding instruction_in
 fetched-word bytes pc is = rw is refl
 
 module _ (Stands : StandsFor) (owners : List Owner) (v : Versions) (law : VersionLaw v Stands) (sealed : List Sealing) (slot : ℕ) (interrupt : Bool) (some : 1 ≤ slot) (known_slot : slot ≤ 16) where
@@ -193,32 +193,32 @@ module _ (Stands : StandsFor) (owners : List Owner) (v : Versions) (law : Versio
 
   -- what follows a step
   after_step_holds : (core : CoreState) (end : StepEnd) → IsRunning core slot
-      → (is_exit end ≡ false → Holds Stands owners core) → (is_exit end ≡ true → Holds Stands owners (finished core slot).0) → Holds Stands owners (after_step core slot interrupt end).0
+      → (is_exit end ≡ false → Holds Stands owners core) → (is_exit end ≡ true → Holds Stands owners (after_exit core slot).0) → Holds Stands owners (after_step core slot interrupt end).0
   after_step_holds core (ended.Call code) runs goes exits = trapped_holds Stands owners v law core slot not_zero known_slot (goes refl) (cause.Call code) runs
   after_step_holds core ended.Exit runs goes exits = exits refl
   after_step_holds core ended.Goes runs goes exits =
-      cond_both interrupt (trapped core slot cause.Interrupt) (core, None) (λ r. Holds Stands owners r.0)
+      cond_both interrupt (after_trap core slot cause.Interrupt) (core, None) (λ r. Holds Stands owners r.0)
       (λ _. trapped_holds Stands owners v law core slot not_zero known_slot (goes refl) cause.Interrupt runs) (λ _. goes refl)
 
-  module _ (owner : Owner) (p : State) (effect : Effect) (is : tried (seen p.cells) p.kept (fetched p.bytes p.pc) p.pc p.npc ≡ Ok effect) (ranged : Ranged effect) where
+  module _ (owner : Owner) (p : State) (effect : Effect) (is : effect_at (seen_of_cell p.cells) p.kept (instruction_in p.bytes p.pc) p.pc p.npc ≡ Ok effect) (ranged : Ranged effect) where
     -- an instruction retires
     retires_holds : (core : CoreState) (at : At core owner p) (word place : ℕ) (word_is : word ≡ word_for p.bytes effect.wish)
         → StoresAt core slot place (step_made (session_of core slot).pc (session_of core slot).npc effect word (received_by core.cells core.ram effect.wish)).stored
-        → Holds Stands owners (retires core slot interrupt effect word place).0
+        → Holds Stands owners (retirement core slot interrupt effect word place).0
     retires_holds core at word place word_is stores =
         after_step_holds _ _
         (runs_after Stands owners v law core slot some known_slot at.runs at.holds owner p at.follows at.agrees at.private effect is ranged word place word_is stores)
         (retired_holds Stands owners v law core slot some known_slot at.runs at.holds owner p at.follows at.agrees at.private effect is ranged word place word_is stores)
         (λ _. finished_holds Stands owners v law core slot some known_slot at.runs at.holds owner p at.follows at.agrees at.private effect is ranged word place word_is stores)
 
-    retires_none : (core : CoreState) → At core owner p → address_in effect.wish ≡ None → Holds Stands owners (retires core slot interrupt effect 0 0).0
+    retires_none : (core : CoreState) → At core owner p → address_in effect.wish ≡ None → Holds Stands owners (retirement core slot interrupt effect 0 0).0
     unfolding step_made
     retires_none core at none =
         retires_holds core at 0 0 (none-loaded effect.wish p.bytes none)
         (stores-none core slot 0 (session_of core slot).pc (session_of core slot).npc effect.writes effect.wish 0 (received_by core.cells core.ram effect.wish) none)
 
     retires_ready : (core : CoreState) → At core owner p → (address place : ℕ) → address_in effect.wish ≡ Some address → IsOf (way_at core.ways place) slot (address / 32) → place < 128
-        → Holds Stands owners (retires core slot interrupt effect (word_loaded (way_at core.ways place).bytes effect.wish) place).0
+        → Holds Stands owners (retirement core slot interrupt effect (word_loaded (way_at core.ways place).bytes effect.wish) place).0
     unfolding step_made
     retires_ready core at address place wished its low =
         let bytes_are = (at.private.lines (address / 32) (address-low effect.wish address ranged.wish wished)).cached place its in
@@ -234,7 +234,7 @@ module _ (Stands : StandsFor) (owners : List Owner) (v : Versions) (law : Versio
 
     data_reached_holds : (core : CoreState) (at : At core owner p) (address : ℕ) → address_in effect.wish ≡ Some address → (result : CoreState × Reach) → Comes Stands owners core slot (address / 32) result.0 result.1
         → Holds Stands owners (data_reached slot interrupt effect result).0
-    data_reached_holds core at address wished (new, reach.PageFault page) comes = subst (λ c. Holds Stands owners (trapped c slot (cause.Page page)).0) (sym comes.came) (trapped_holds Stands owners v law core slot not_zero known_slot at.holds (cause.Page page) at.runs)
+    data_reached_holds core at address wished (new, reach.PageFault page) comes = subst (λ c. Holds Stands owners (after_trap c slot (cause.Page page)).0) (sym comes.came) (trapped_holds Stands owners v law core slot not_zero known_slot at.holds (cause.Page page) at.runs)
     data_reached_holds core at address wished (new, reach.Stopped why) comes = kept_holds Stands owners core new comes.kept at.holds
     data_reached_holds core at address wished (new, reach.Ready place) comes = retires_ready new (at_kept core new owner p comes.kept comes.came.0 at) address place wished comes.came.1 comes.came.2
 
@@ -250,8 +250,8 @@ module _ (Stands : StandsFor) (owners : List Owner) (v : Versions) (law : Versio
 
   -- what a word comes to
   ran_holds : (core : CoreState) (owner : Owner) (p : State) (at : At core owner p) → OwnersTell core.machine owners → sealed ≡ sealed_by core.machine owners → (result : Result Effect OwnFault)
-      → tried (seen p.cells) p.kept (fetched p.bytes p.pc) p.pc p.npc ≡ result → ((effect : Effect) → result ≡ Ok effect → Ranged effect)
-      → IsTrusted sealed (ran v core slot interrupt result).0.entries → Holds Stands owners (ran v core slot interrupt result).0
+      → effect_at (seen_of_cell p.cells) p.kept (instruction_in p.bytes p.pc) p.pc p.npc ≡ result → ((effect : Effect) → result ≡ Ok effect → Ranged effect)
+      → IsTrusted sealed (after_effect v core slot interrupt result).0.entries → Holds Stands owners (after_effect v core slot interrupt result).0
   ran_holds core owner p at tell sealings (Err why) is ranged honest = trapped_holds Stands owners v law core slot not_zero known_slot at.holds (cause.Fault why) at.runs
   ran_holds core owner p at tell sealings (Ok effect) is ranged honest = data_holds owner p effect is (ranged effect refl) core at tell sealings (address_in effect.wish) refl honest
 
@@ -276,7 +276,7 @@ module _ (Stands : StandsFor) (owners : List Owner) (v : Versions) (law : Versio
 
     code_holds : (result : CoreState × Reach) → Comes Stands owners base slot ((session_of base slot).pc / 32) result.0 result.1
         → IsTrusted sealed (code_reached v slot interrupt result).0.entries → Holds Stands owners (code_reached v slot interrupt result).0
-    code_holds (new, reach.PageFault page) comes honest = subst (λ c. Holds Stands owners (trapped c slot (cause.Page page)).0) (sym comes.came) (trapped_holds Stands owners v law base slot not_zero known_slot start.holds (cause.Page page) start.runs)
+    code_holds (new, reach.PageFault page) comes honest = subst (λ c. Holds Stands owners (after_trap c slot (cause.Page page)).0) (sym comes.came) (trapped_holds Stands owners v law base slot not_zero known_slot start.holds (cause.Page page) start.runs)
     code_holds (new, reach.Stopped why) comes honest = kept_holds Stands owners base new comes.kept start.holds
     code_holds (new, reach.Ready place) comes honest =
         let at = at_kept base new owner p comes.kept comes.came.0 start in
@@ -286,12 +286,12 @@ module _ (Stands : StandsFor) (owners : List Owner) (v : Versions) (law : Versio
         let bytes_are = (start_line new place at comes.came.1 low.1) in
         let word = word_in (way_at new.ways place).bytes pc in
         let word_is : word ≡ word_at p.bytes p.pc = word_same new place at pc same_pc bytes_are low.0 in
-        let found : fetched p.bytes p.pc ≡ known (read word) = fetched-word p.bytes p.pc (subst (λ a. is_code a ≡ true) pc_is code) ∙ ap (λ w. known (read w)) (sym word_is) in
-        let fits : (ins : Ins) → known (read word) ≡ Ok ins → Fits ins = word-Fits word in
+        let found : instruction_in p.bytes p.pc ≡ instruction_or_fault (read word) = fetched-word p.bytes p.pc (subst (λ a. is_code a ≡ true) pc_is code) ∙ ap (λ w. instruction_or_fault (read w)) (sym word_is) in
+        let fits : (ins : Ins) → instruction_or_fault (read word) ≡ Ok ins → Fits ins = word-Fits word in
         ran_holds new owner p at (subst (λ m. OwnersTell m owners) (sym comes.kept.machine) tell) (sealings ∙ ap (λ m. sealed_by m owners) (sym comes.kept.machine)) (word_tried v new slot word)
-        (ap (λ f. tried (seen p.cells) p.kept f p.pc p.npc) found
-        ∙ comes_same Stands owners v law new slot some known_slot at.runs at.holds owner p at.follows at.agrees at.private (known (read word)) fits)
-        (λ effect is. tried-Ranged (seen_by slot new.cells) (session_of new slot).saved (known (read word)) pc (session_of new slot).npc effect fits is)
+        (ap (λ f. effect_at (seen_of_cell p.cells) p.kept f p.pc p.npc) found
+        ∙ comes_same Stands owners v law new slot some known_slot at.runs at.holds owner p at.follows at.agrees at.private (instruction_or_fault (read word)) fits)
+        (λ effect is. tried-Ranged (seen_by slot new.cells) (session_of new slot).saved (instruction_or_fault (read word)) pc (session_of new slot).npc effect fits is)
         honest
 
   -- an event of the running guest
@@ -304,8 +304,8 @@ module _ (Stands : StandsFor) (owners : List Owner) (v : Versions) (law : Versio
       let start : At core h.0 h.1 = record { runs = runs; holds = holds; follows = h.2; agrees = h.3; private = h.4 } in
       let at_pc = (session_of core slot).pc in
       let result = access v core slot (at_pc / 32) in
-      elim (is_code at_pc) as (λ b. is_code at_pc ≡ b → IsTrusted sealed (cond b (code_reached v slot interrupt result) (trapped core slot (cause.Fault own_fault.Address))).0.entries
-      → Holds Stands owners (cond b (code_reached v slot interrupt result) (trapped core slot (cause.Fault own_fault.Address))).0) [
+      elim (is_code at_pc) as (λ b. is_code at_pc ≡ b → IsTrusted sealed (cond b (code_reached v slot interrupt result) (after_trap core slot (cause.Fault own_fault.Address))).0.entries
+      → Holds Stands owners (cond b (code_reached v slot interrupt result) (after_trap core slot (cause.Fault own_fault.Address))).0) [
         | true ↦ λ code good.
             let more = longer_code v slot interrupt result in
             code_holds core h.0 h.1 start tell sealings code result
@@ -324,7 +324,7 @@ module _ (Stands : StandsFor) (owners : List Owner) (v : Versions) (law : Versio
   after_no_fault core (ended.Call code) fault is = cc
   after_no_fault core ended.Exit fault is = cc
   after_no_fault core ended.Goes fault is =
-      cond_both interrupt (trapped core slot cause.Interrupt) (core, None) (λ (r : CoreState × Option Cause). ¬ (r.1 ≡ Some (cause.Fault fault))) (λ _ no. cc) (λ _ no. cc) is
+      cond_both interrupt (after_trap core slot cause.Interrupt) (core, None) (λ (r : CoreState × Option Cause). ¬ (r.1 ≡ Some (cause.Fault fault))) (λ _ no. cc) (λ _ no. cc) is
 
   reached_no_fault : (effect : Effect) (result : CoreState × Reach) (fault : OwnFault) → ¬ ((data_reached slot interrupt effect result).1 ≡ Some (cause.Fault fault))
   reached_no_fault effect (new, reach.PageFault page) fault is = cc
@@ -335,13 +335,13 @@ module _ (Stands : StandsFor) (owners : List Owner) (v : Versions) (law : Versio
   data_no_fault core effect None fault is = after_no_fault _ _ fault is
   data_no_fault core effect (Some address) fault is = reached_no_fault effect (access v core slot (address / 32)) fault is
 
-  faulted : (p : State) → p.over ≡ false → (why fault : OwnFault) → tried (seen p.cells) p.kept (fetched p.bytes p.pc) p.pc p.npc ≡ Err why → Some (cause.Fault why) ≡ Some (cause.Fault fault) → IsOwn p fault
+  faulted : (p : State) → p.over ≡ false → (why fault : OwnFault) → effect_at (seen_of_cell p.cells) p.kept (instruction_in p.bytes p.pc) p.pc p.npc ≡ Err why → Some (cause.Fault why) ≡ Some (cause.Fault fault) → IsOwn p fault
   faulted p over why fault found is =
       let same : why ≡ fault = cc in
-      plain-answered p given.Nothing over ∙ ap (answered p given.Nothing) found ∙ ap (λ f. let a : PlainStep × State = (plain_step.Fault f, p) in a) same
+      plain-answered p given.Nothing over ∙ ap (answer_to p given.Nothing) found ∙ ap (λ f. let a : PlainStep × State = (plain_step.Fault f, p) in a) same
 
-  ran_fault : (core : CoreState) (p : State) → p.over ≡ false → (result : Result Effect OwnFault) (fault : OwnFault) → tried (seen p.cells) p.kept (fetched p.bytes p.pc) p.pc p.npc ≡ result
-      → (ran v core slot interrupt result).1 ≡ Some (cause.Fault fault) → IsOwn p fault
+  ran_fault : (core : CoreState) (p : State) → p.over ≡ false → (result : Result Effect OwnFault) (fault : OwnFault) → effect_at (seen_of_cell p.cells) p.kept (instruction_in p.bytes p.pc) p.pc p.npc ≡ result
+      → (after_effect v core slot interrupt result).1 ≡ Some (cause.Fault fault) → IsOwn p fault
   ran_fault core p over (Err why) fault found is = faulted p over why fault found is
   ran_fault core p over (Ok effect) fault found is = absurd (data_no_fault core effect (address_in effect.wish) fault is)
 
@@ -358,17 +358,17 @@ module _ (Stands : StandsFor) (owners : List Owner) (v : Versions) (law : Versio
       let bytes_are = (at.private.lines ((session_of base slot).pc / 32) low.1).cached place comes.came.1 in
       let word = word_in (way_at new.ways place).bytes pc in
       let word_is : word ≡ word_at p.bytes p.pc = word_same base owner p start tell sealings code new place at pc same_pc bytes_are low.0 in
-      let found : fetched p.bytes p.pc ≡ known (read word) = fetched-word p.bytes p.pc (subst (λ a. is_code a ≡ true) pc_is code) ∙ ap (λ w. known (read w)) (sym word_is) in
+      let found : instruction_in p.bytes p.pc ≡ instruction_or_fault (read word) = fetched-word p.bytes p.pc (subst (λ a. is_code a ≡ true) pc_is code) ∙ ap (λ w. instruction_or_fault (read w)) (sym word_is) in
       ran_fault new p start.agrees.over (word_tried v new slot word) fault
-      (ap (λ f. tried (seen p.cells) p.kept f p.pc p.npc) found
-      ∙ comes_same Stands owners v law new slot some known_slot at.runs at.holds owner p at.follows at.agrees at.private (known (read word)) (word-Fits word))
+      (ap (λ f. effect_at (seen_of_cell p.cells) p.kept f p.pc p.npc) found
+      ∙ comes_same Stands owners v law new slot some known_slot at.runs at.holds owner p at.follows at.agrees at.private (instruction_or_fault (read word)) (word-Fits word))
       is
 
   no_code_fault : (p : State) → p.over ≡ false → (pc : ℕ) → pc ≡ p.pc → is_code pc ≡ false → (fault : OwnFault) → Some (cause.Fault own_fault.Address) ≡ Some (cause.Fault fault) → IsOwn p fault
-  unfolding fetched
+  unfolding instruction_in
   no_code_fault p over pc same code fault is =
-      let no_code : fetched p.bytes p.pc ≡ Err own_fault.Address = rw (subst (λ a. is_code a ≡ false) same code) refl in
-      faulted p over own_fault.Address fault (ap (λ f. tried (seen p.cells) p.kept f p.pc p.npc) no_code) is
+      let no_code : instruction_in p.bytes p.pc ≡ Err own_fault.Address = rw (subst (λ a. is_code a ≡ false) same code) refl in
+      faulted p over own_fault.Address fault (ap (λ f. effect_at (seen_of_cell p.cells) p.kept f p.pc p.npc) no_code) is
 
   pub faults_own : (core : CoreState) → OwnersTell core.machine owners → sealed ≡ sealed_by core.machine owners → IsRunning core slot → Holds Stands owners core → (fault : OwnFault)
       → IsTrusted sealed (guest v core slot interrupt).0.entries → (guest v core slot interrupt).1 ≡ Some (cause.Fault fault) → FaultsAlone owners core slot fault
@@ -379,8 +379,8 @@ module _ (Stands : StandsFor) (owners : List Owner) (v : Versions) (law : Versio
       let start : At core h.0 h.1 = record { runs = runs; holds = holds; follows = h.2; agrees = h.3; private = h.4 } in
       let at_pc = (session_of core slot).pc in
       let result = access v core slot (at_pc / 32) in
-      let whole = elim (is_code at_pc) as (λ b. is_code at_pc ≡ b → IsTrusted sealed (cond b (code_reached v slot interrupt result) (trapped core slot (cause.Fault own_fault.Address))).0.entries
-      → (cond b (code_reached v slot interrupt result) (trapped core slot (cause.Fault own_fault.Address))).1 ≡ Some (cause.Fault fault) → IsOwn h.1 fault) [
+      let whole = elim (is_code at_pc) as (λ b. is_code at_pc ≡ b → IsTrusted sealed (cond b (code_reached v slot interrupt result) (after_trap core slot (cause.Fault own_fault.Address))).0.entries
+      → (cond b (code_reached v slot interrupt result) (after_trap core slot (cause.Fault own_fault.Address))).1 ≡ Some (cause.Fault fault) → IsOwn h.1 fault) [
         | true ↦ λ code good here.
             let more = longer_code v slot interrupt result in
             code_fault core h.0 h.1 start tell sealings code fault result

@@ -30,9 +30,9 @@ use Rattle.xom_versions.specs.Versions.{VersionLaw, Versions, start_version}
 use Rattle.xom_model.specs.Versions.{StandsFor}
 use Rattle.line_cache.specs.Ways.{way_at}
 use Rattle.xom_model.specs.State.{CoreState, no_store, session_of, store_of}
-use Rattle.xom_model.specs.Lines.{Who, is_image_at, line_seals, names_line, names_version, ver, who_in, who_of}
+use Rattle.xom_model.specs.Lines.{Who, is_image_at, line_seals, names_line, names_version, version_of_line, who_in, who_of}
 use Rattle.xom_model.specs.Saves.{IsOnce, SealsHold}
-use Rattle.xom_model.specs.Operation.{envelope_at, installed}
+use Rattle.xom_model.specs.Operation.{after_install, envelope_at}
 use Rattle.xom_model.specs.Holds.{Agrees, Behind, FollowsAlone, Holds, IsHeld, IsInstalled, IsLive, IsOf, IsRunning, LineHolds, Private, Shape, line_in, own_bit, AreasFit}
 use Rattle.xom_model.proofs.Places.{IsInstalled-more}
 use Rattle.xom_model.proofs.Growth.{IsTrusted, goes_hashes, seals_hashes}
@@ -215,11 +215,11 @@ module _ (Stands : StandsFor) (owners : List Owner) (v : Versions) (law : Versio
         lines = λ line low. subst (λ w. LineHolds its w k line core.ways (seals_of entries) (memory line)) (sym same)
             (subst (λ s. LineHolds its (who_of core k) k line core.ways s (memory line)) (sym seals_same) (old.lines line low));
         stands =
-            let longer = subst (λ es. Stands (store_of core k) es (ver (who_of core k) (seals_of core.entries))) (sym more.1) (law.longer core.entries more.0 (store_of core k) (ver (who_of core k) (seals_of core.entries)) old.stands) in
+            let longer = subst (λ es. Stands (store_of core k) es (version_of_line (who_of core k) (seals_of core.entries))) (sym more.1) (law.longer core.entries more.0 (store_of core k) (version_of_line (who_of core k) (seals_of core.entries)) old.stands) in
             let store_is : store_of out k ≡ store_of core k = get_or-set_other core.stores slot k store no_store differs in
-            subst (λ w. Stands (store_of out k) entries (ver w (seals_of entries))) (sym same)
-            (subst (λ s. Stands (store_of out k) entries (ver (who_of core k) s)) (sym seals_same)
-            (subst (λ st. Stands st entries (ver (who_of core k) (seals_of core.entries))) (sym store_is) longer));
+            subst (λ w. Stands (store_of out k) entries (version_of_line w (seals_of entries))) (sym same)
+            (subst (λ s. Stands (store_of out k) entries (version_of_line (who_of core k) s)) (sym seals_same)
+            (subst (λ st. Stands st entries (version_of_line (who_of core k) (seals_of core.entries))) (sym store_is) longer));
       }
 
   -- ---- The new guest
@@ -230,7 +230,7 @@ module _ (Stands : StandsFor) (owners : List Owner) (v : Versions) (law : Versio
   no_seals : (line : ℕ) → line < 2 ^ 15 → line_seals n line (seals_of core.entries) ≡ []
   no_seals line low = shape.to_come n line (omega arith) (let a = room in omega arith) low
 
-  ver_is : (line : ℕ) → line < 2 ^ 15 → ver who (seals_of core.entries) line ≡ start_version plain.lines line
+  ver_is : (line : ℕ) → line < 2 ^ 15 → version_of_line who (seals_of core.entries) line ≡ start_version plain.lines line
   ver_is line low = ap (λ l. start_version plain.lines line + length l) (no_seals line low) ∙ omega arith
 
   lines_are : plain.lines ≡ line_count owner.plain.bytes
@@ -278,10 +278,10 @@ module _ (Stands : StandsFor) (owners : List Owner) (v : Versions) (law : Versio
         lines = λ line low. subst (λ w. LineHolds owner w slot line core.ways (seals_of entries) (memory line)) (sym same)
             (subst (λ s. LineHolds owner who slot line core.ways s (memory line)) (sym seals_same) (line_new line low));
         stands =
-            subst (λ w. Stands (store_of out slot) entries (ver w (seals_of entries))) (sym same)
-            (subst (λ s. Stands (store_of out slot) entries (ver who s)) (sym seals_same)
-            (subst (λ st. Stands st entries (ver who (seals_of core.entries))) (sym store_is)
-            (law.alike entries store (start_version plain.lines) (ver who (seals_of core.entries)) (λ line low. sym (ver_is line low)) built)));
+            subst (λ w. Stands (store_of out slot) entries (version_of_line w (seals_of entries))) (sym same)
+            (subst (λ s. Stands (store_of out slot) entries (version_of_line who s)) (sym seals_same)
+            (subst (λ st. Stands st entries (version_of_line who (seals_of core.entries))) (sym store_is)
+            (law.alike entries store (start_version plain.lines) (version_of_line who (seals_of core.entries)) (λ line low. sym (ver_is line low)) built)));
       }
 
   follows_new : FollowsAlone owners entries n plain.id owner (start owner.plain)
@@ -412,8 +412,8 @@ module _ (Stands : StandsFor) (owners : List Owner) (v : Versions) (law : Versio
 
 pub install_keeps : (Stands : StandsFor) (owners : List Owner) (v : Versions) → VersionLaw v Stands → (core : CoreState) → OwnersTell core.machine owners → Holds Stands owners core
     → (slot place area : ℕ) (plain : Unwrapped) → 1 ≤ slot → slot ≤ 16 → ((other : ℕ) → ¬ IsRunning core other) → (session_of core slot).state ≡ state.Free
-    → HoldsRange core.ram area area_size → unwrapped core.machine (envelope_at core place) ≡ Some plain → IsTrusted (sealed_by core.machine owners) (installed v core slot place area plain).entries
-    → Holds Stands owners (installed v core slot place area plain)
-unfolding installed
+    → HoldsRange core.ram area area_size → unwrapped core.machine (envelope_at core place) ≡ Some plain → IsTrusted (sealed_by core.machine owners) (after_install v core slot place area plain).entries
+    → Holds Stands owners (after_install v core slot place area plain)
+unfolding after_install
 install_keeps Stands owners v law core tell holds slot place area plain some known none is_free held opens honest =
     install_out Stands owners v law core tell holds slot place area plain some known none is_free opens held (v.texts_of_build area plain.lines core.ram) (v.ram_after_build area plain.lines core.ram) (law.size_after_build area plain.lines core.ram held) honest refl

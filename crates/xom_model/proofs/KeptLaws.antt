@@ -20,7 +20,7 @@ use Rattle.xom_model.specs.Honest.{seals_of}
 use Rattle.xom_versions.specs.Versions.{VersionLaw, Versions}
 use Rattle.xom_model.specs.Versions.{StandsFor}
 use Rattle.xom_model.specs.State.{CoreState, session_of, store_of}
-use Rattle.xom_model.specs.Lines.{line_seals, ver, who_of}
+use Rattle.xom_model.specs.Lines.{line_seals, version_of_line, who_of}
 use Rattle.xom_model.specs.Saves.{SavesAgree}
 use Rattle.xom_model.specs.Holds.{Agrees, FollowsAlone, Holds, IsHeld, IsInstalled, IsLive, IsRunning, LineHolds, line_in, Private, Shape, SlotsHold}
 use Rattle.xom_model.specs.Kept.{Kept}
@@ -124,10 +124,10 @@ module _ (Stands : StandsFor) (owners : List Owner) where
     aside_private slot owner memory holds = record {
       lines = λ line low. subst (λ s. LineHolds owner (who_of core slot) slot line core.ways s (memory line)) (sym seals) (holds.lines line low);
       stands =
-          let now : Stands (store_of core slot) entries (ver (who_of core slot) (seals_of core.entries)) =
-          subst (λ es. Stands (store_of core slot) es (ver (who_of core slot) (seals_of core.entries))) (sym more.1)
-          (law.longer core.entries more.0 (store_of core slot) (ver (who_of core slot) (seals_of core.entries)) holds.stands) in
-          subst (λ s. Stands (store_of core slot) entries (ver (who_of core slot) s)) (sym seals) now;
+          let now : Stands (store_of core slot) entries (version_of_line (who_of core slot) (seals_of core.entries)) =
+          subst (λ es. Stands (store_of core slot) es (version_of_line (who_of core slot) (seals_of core.entries))) (sym more.1)
+          (law.longer core.entries more.0 (store_of core slot) (version_of_line (who_of core slot) (seals_of core.entries)) holds.stands) in
+          subst (λ s. Stands (store_of core slot) entries (version_of_line (who_of core slot) s)) (sym seals) now;
     }
 
   module _ (v : Versions) (law : VersionLaw v Stands) (core : CoreState) (pointers ram : List ℕ) (entries : List Entry)

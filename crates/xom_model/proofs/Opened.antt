@@ -13,7 +13,7 @@ use Rattle.mips_effect.specs.Effects.{set as set_register}
 use Rattle.mips_plain.specs.Memory.{low_bytes}
 use Rattle.tag_regs.specs.declared.cell.Cell.{Cell}
 use Rattle.xom_model.specs.State.{holds, CoreState}
-use Rattle.xom_model.specs.Null.{Told, Open, Answer, opened, passed, went, stopped_by, stored_open, loaded_open, answer_of, granted, ran_open, null_step, tried_open, seen_open, fetched_open}
+use Rattle.xom_model.specs.Null.{Answer, Open, Told, answer_of, done_answer, fetched_open, loaded_open, null_step, open_after, ran_open, seen_open, stopped_by, stored_open, tried_open, wish_answer, with_null_writes}
 use Rattle.xom_versions.specs.Versions.{VersionLaw, Versions}
 use Rattle.xom_model.specs.Versions.{StandsFor}
 use Rattle.xom_model.specs.Holds.{Holds, IsRunning}
@@ -22,18 +22,18 @@ use Rattle.xom_model.proofs.OperationKept.{cleared_holds}
 
 -- cells are opened by writes of the null compartment
 abbrev pub Opens : List Cell → List Cell → Type 0
-Opens old new = (written : Writes) × (new ≡ opened old written)
+Opens old new = (written : Writes) × (new ≡ with_null_writes old written)
 
 opens_none : (cells : List Cell) → Opens cells cells
 opens_none cells = (writes.Nothing, refl)
 
-opens_granted : (told : Told) (s : Open) (effect : Effect) (wished : Wish) → Opens s.cells (granted told s effect wished).0.cells
+opens_granted : (told : Told) (s : Open) (effect : Effect) (wished : Wish) → Opens s.cells (wish_answer told s effect wished).0.cells
 opens_granted told s effect wish.Nothing = (effect.writes, refl)
 opens_granted told s effect (wish.Load reg address how old) =
-    cond_both (holds s.ram (address - address % 4) 4) (went (passed s effect (set_register reg (loaded_open s.ram how old address)))) (stopped_by s null.Address) (λ (a : Answer). Opens s.cells a.0.cells)
+    cond_both (holds s.ram (address - address % 4) 4) (done_answer (open_after s effect (set_register reg (loaded_open s.ram how old address)))) (stopped_by s null.Address) (λ (a : Answer). Opens s.cells a.0.cells)
     (λ _. (set_register reg (loaded_open s.ram how old address), refl)) (λ _. opens_none s.cells)
 opens_granted told s effect (wish.Store address count value) =
-    cond_both (holds s.ram address count) (went (stored_open (passed s effect effect.writes) address (low_bytes count value))) (stopped_by s null.Address) (λ (a : Answer). Opens s.cells a.0.cells)
+    cond_both (holds s.ram address count) (done_answer (stored_open (open_after s effect effect.writes) address (low_bytes count value))) (stopped_by s null.Address) (λ (a : Answer). Opens s.cells a.0.cells)
     (λ _. (effect.writes, refl)) (λ _. opens_none s.cells)
 opens_granted told s effect (wish.Call code) = opens_none s.cells
 opens_granted told s effect (wish.Do operation) = (effect.writes, refl)
@@ -57,7 +57,7 @@ opens_null told s = opens_ran told s (tried_open (seen_open s.cells) (fetched_op
 
 -- ---- What is kept
 
-opens_holds : (Stands : StandsFor) (owners : List Owner) (v : Versions) → VersionLaw v Stands → (core : CoreState) (written : Writes) → ((slot : ℕ) → ¬ IsRunning core slot) → Holds Stands owners core → Holds Stands owners (record core { cells = opened core.cells written })
+opens_holds : (Stands : StandsFor) (owners : List Owner) (v : Versions) → VersionLaw v Stands → (core : CoreState) (written : Writes) → ((slot : ℕ) → ¬ IsRunning core slot) → Holds Stands owners core → Holds Stands owners (record core { cells = with_null_writes core.cells written })
 opens_holds Stands owners v law core writes.Nothing none kept = kept
 opens_holds Stands owners v law core (writes.One reg value) none kept = cleared_holds Stands owners v law core reg value none kept
 opens_holds Stands owners v law core (writes.Pair hi lo) none kept =
@@ -67,4 +67,4 @@ opens_holds Stands owners v law core (writes.Pair hi lo) none kept =
 pub opened_holds : (Stands : StandsFor) (owners : List Owner) (v : Versions) → VersionLaw v Stands → (core : CoreState) (cells : List Cell) (ram : List ℕ) → length ram ≡ length core.ram → ((slot : ℕ) → ¬ IsRunning core slot) → Opens core.cells cells → Holds Stands owners core → Holds Stands owners (record core { cells = cells; ram = ram })
 opened_holds Stands owners v law core cells ram size none opens kept =
     let P : List Cell → Type 0 = λ cs. Holds Stands owners (record core { cells = cs; ram = ram }) in
-    subst P (sym opens.1) (kept_holds Stands owners (record core { cells = opened core.cells opens.0 }) _ (kept_ram Stands owners v law (record core { cells = opened core.cells opens.0 }) ram size) (opens_holds Stands owners v law core opens.0 none kept))
+    subst P (sym opens.1) (kept_holds Stands owners (record core { cells = with_null_writes core.cells opens.0 }) _ (kept_ram Stands owners v law (record core { cells = with_null_writes core.cells opens.0 }) ram size) (opens_holds Stands owners v law core opens.0 none kept))

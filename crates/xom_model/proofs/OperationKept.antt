@@ -24,15 +24,15 @@ use Rattle.journal_findings.specs.Findings.{sealed_by}
 use Rattle.xom_model.specs.Honest.{Sealing}
 use Rattle.xom_versions.specs.Versions.{VersionLaw, Versions}
 use Rattle.xom_model.specs.Versions.{StandsFor}
-use Rattle.xom_model.specs.State.{CoreState, holds as fits_ram, noted, session_of, with_session}
-use Rattle.xom_model.specs.Access.{flushed}
-use Rattle.xom_model.specs.Guest.{delivered}
+use Rattle.xom_model.specs.State.{CoreState, holds as fits_ram, session_of, with_entry, with_session}
+use Rattle.xom_model.specs.Access.{after_flush}
+use Rattle.xom_model.specs.Guest.{after_delivery}
 use Rattle.xom_seal.specs.Sealing.{unsealed_register}
 use Rattle.xom_model.specs.Lines.{who_of}
 use Rattle.xom_model.specs.Saves.{reg_keys, reg_name, reg_seal_entry, saved_at, sealed_reg}
 use Rattle.xom_seal.proofs.SealLaws.{length-register_masked}
 use Rattle.xom_model.proofs.RamSize.{length-register_tag, length-with_saved}
-use Rattle.xom_model.specs.Operation.{enter, envelope_at, epoch_of, go_on, image_tests, install, install_tests, installed, kill_tests, map_tests, unmap_tests, is_bad_slot, is_cell, is_free_state, is_missing, is_own_cell, is_paused, is_slot, kill, map_page, missing, missing_from, operation, refused, register_tests, reopened, restore_register, restore_tests, restored, resume, resume_paused, save_register, save_tests, saved, set_register, takes, tested, unmap_page, unmapped, unwrap, waits, envelope_size}
+use Rattle.xom_model.specs.Operation.{after_install, after_reopening, after_restore, after_save, after_unmap, can_come_back, enter, envelope_at, envelope_size, epoch_of, first_refusal_or, go_on, image_tests, install, install_tests, is_bad_slot, is_cell, is_free_state, is_missing, is_own_cell, is_paused, is_slot, kill, kill_tests, map_page, map_tests, missing_cell, missing_from, operation, refusal_of, register_tests, restore_register, restore_tests, resume, resume_paused, save_register, save_tests, set_register, slot_takes_signal, unmap_page, unmap_tests, unwrap}
 use Rattle.xom_model.specs.Holds.{Holds, IsHeld, IsLive, IsRunning, line_in}
 use Rattle.xom_model.proofs.InstallKept.{install_keeps}
 use Rattle.xom_model.proofs.Growth.{IsTrusted, goes_entry, goes_none, seals_none, honest_before}
@@ -68,8 +68,8 @@ tag-of_mask slot mask cells reg here bit = elim (eqb_tells (cell_at cells reg).t
   | inr other ↦ absurd (let found = rw (bit, other.0) at here in cc)
 ]
 
-pub missing-none : (slot mask : ℕ) (cells : List Cell) (reg : ℕ) → missing slot mask cells ≡ None → 1 ≤ reg → reg < 34 → bit_at mask reg ≡ 1 → (cell_at cells reg).tag ≡ slot
-unfolding missing
+pub missing-none : (slot mask : ℕ) (cells : List Cell) (reg : ℕ) → missing_cell slot mask cells ≡ None → 1 ≤ reg → reg < 34 → bit_at mask reg ≡ 1 → (cell_at cells reg).tag ≡ slot
+unfolding missing_cell
 missing-none slot mask cells reg none low high bit = tag-of_mask slot mask cells reg (none_missing slot mask cells 33 1 reg none low (omega arith)) bit
 
 -- the cell of a register is of the null compartment
@@ -136,18 +136,18 @@ module _ (Stands : StandsFor) (owners : List Owner) (v : Versions) (law : Versio
   enter_holds slot some known state.Ended is = holds
   enter_holds slot some known (state.Stopped why) is = holds
 
-  go_on_holds : (slot signal : ℕ) → 1 ≤ slot → slot ≤ 16 → (session_of core slot).state ≡ state.Paused → takes (session_of core slot) signal ≡ true → nat_le signal 63 ≡ true → (lost : Option ℕ) → missing slot (session_of core slot).mask core.cells ≡ lost → Holds Stands owners (go_on core slot signal lost).0
+  go_on_holds : (slot signal : ℕ) → 1 ≤ slot → slot ≤ 16 → (session_of core slot).state ≡ state.Paused → slot_takes_signal (session_of core slot) signal ≡ true → nat_le signal 63 ≡ true → (lost : Option ℕ) → missing_cell slot (session_of core slot).mask core.cells ≡ lost → Holds Stands owners (go_on core slot signal lost).0
   go_on_holds slot signal some known is fit small None whole =
       let now = with_session core slot (resumed (session_of core slot)) in
       let first : Holds Stands owners now = resumed_holds Stands owners v law core slot (some_slot slot some) known holds none is (λ reg from to bit. missing-none slot (session_of core slot).mask core.cells reg whole from to bit) in
       let here : session_of now slot ≡ resumed (session_of core slot) = get_or-set_same core.sessions slot _ free (let places : length core.sessions ≡ 17 = holds.slots.session_places in omega arith) in
       let runs : IsRunning now slot = ap (λ s. s.state) here in
       let held = first.slots.held slot (rw runs refl) in
-      cond_both (signal == 0) now (delivered now slot signal) (Holds Stands owners) (λ _. first)
+      cond_both (signal == 0) now (after_delivery now slot signal) (Holds Stands owners) (λ _. first)
       (λ real. delivered_holds Stands owners v law now slot some known runs first held.0 held.1 held.2 held.3 held.4 signal
       (subst (λ (s : Session). (is_signal signal && is_signal_ready s.handler s.saved) ≡ true) (sym here) (taken_so (session_of core slot) signal real small fit)))
     where
-      taken_so : (s : Session) (signal : ℕ) → (signal == 0) ≡ false → nat_le signal 63 ≡ true → takes s signal ≡ true → (is_signal signal && is_signal_ready s.handler s.saved) ≡ true
+      taken_so : (s : Session) (signal : ℕ) → (signal == 0) ≡ false → nat_le signal 63 ≡ true → slot_takes_signal s signal ≡ true → (is_signal signal && is_signal_ready s.handler s.saved) ≡ true
       taken_so s signal real small fit =
           let differs = eqb-false signal 0 real in
           let from : nat_le 1 signal ≡ true = le-leb 1 signal (let it : signal ≢ 0 = differs in omega arith) in
@@ -157,8 +157,8 @@ module _ (Stands : StandsFor) (owners : List Owner) (v : Versions) (law : Versio
 
   resume_paused_holds : (slot signal : ℕ) → 1 ≤ slot → slot ≤ 16 → (session_of core slot).state ≡ state.Paused → Holds Stands owners (resume_paused core slot signal).0
   resume_paused_holds slot signal some known is =
-      cond_both (nat_le signal 63) (cond (takes (session_of core slot) signal) (go_on core slot signal (missing slot (session_of core slot).mask core.cells)) (core, 2)) (core, 7) (λ (a : CoreState × ℕ). Holds Stands owners a.0)
-      (λ small. cond_both (takes (session_of core slot) signal) (go_on core slot signal (missing slot (session_of core slot).mask core.cells)) (core, 2) (λ (a : CoreState × ℕ). Holds Stands owners a.0)
+      cond_both (nat_le signal 63) (cond (slot_takes_signal (session_of core slot) signal) (go_on core slot signal (missing_cell slot (session_of core slot).mask core.cells)) (core, 2)) (core, 7) (λ (a : CoreState × ℕ). Holds Stands owners a.0)
+      (λ small. cond_both (slot_takes_signal (session_of core slot) signal) (go_on core slot signal (missing_cell slot (session_of core slot).mask core.cells)) (core, 2) (λ (a : CoreState × ℕ). Holds Stands owners a.0)
       (λ fit. go_on_holds slot signal some known is fit small _ refl) (λ _. holds))
       (λ _. holds)
 
@@ -191,10 +191,10 @@ module _ (Stands : StandsFor) (owners : List Owner) (v : Versions) (law : Versio
   Passes [] = Unit {0}
   Passes (test ∷ tests) = (test.0 ≡ false) × Passes tests
 
-  tested_holds : (tests : List (Bool × ℕ)) (deed : CoreState × ℕ) → (Passes tests → Holds Stands owners deed.0) → Holds Stands owners (tested core tests deed).0
+  tested_holds : (tests : List (Bool × ℕ)) (deed : CoreState × ℕ) → (Passes tests → Holds Stands owners deed.0) → Holds Stands owners (first_refusal_or core tests deed).0
   tested_holds [] deed does = does tt
   tested_holds (test ∷ tests) deed does =
-      cond_both test.0 (refused core test.1) (tested core tests deed) (λ (a : CoreState × ℕ). Holds Stands owners a.0)
+      cond_both test.0 (refusal_of core test.1) (first_refusal_or core tests deed) (λ (a : CoreState × ℕ). Holds Stands owners a.0)
       (λ _. holds) (λ passed. tested_holds tests deed (λ rest. does (passed, rest)))
 
   -- no bad slot is a slot
@@ -211,7 +211,7 @@ module _ (Stands : StandsFor) (owners : List Owner) (v : Versions) (law : Versio
   ] refl good
 
   -- a slot that waits is live
-  waits_live : (s : SlotState) → not (waits s) ≡ false → is_live s ≡ true
+  waits_live : (s : SlotState) → not (can_come_back s) ≡ false → is_live s ≡ true
   waits_live state.Fresh is = refl
   waits_live state.Paused is = refl
   waits_live state.Free is = absurd (cc)
@@ -251,28 +251,28 @@ module _ (Stands : StandsFor) (owners : List Owner) (v : Versions) (law : Versio
       let slots = good_slot slot p.0 in
       kept_holds Stands owners core _ (killed_kept Stands owners v law core slot (some_slot slot slots.0) holds.slots.session_places slots.1 holds.slots.cell_places holds.slots.shape) holds)
 
-  out_holds : (byte : ℕ) → Holds Stands owners (noted core (entry.Out byte))
+  out_holds : (byte : ℕ) → Holds Stands owners (with_entry core (entry.Out byte))
   out_holds byte =
       let out = entry.Out byte in
       kept_holds Stands owners core _ (kept_rest Stands owners v law core core.pointers core.ram (core.entries ++ out ∷ []) (goes_entry core.entries out (record { step = λ n. refl; install = λ n id no. no })) (seals_none core.entries out refl) refl) holds
 
   module _ (sealed : List Sealing) where
     -- where the tests let the deed pass, what is said of its journal
-    tested_honest : (tests : List (Bool × ℕ)) (deed : CoreState × ℕ) → Passes tests → IsTrusted sealed (tested core tests deed).0.entries → IsTrusted sealed deed.0.entries
+    tested_honest : (tests : List (Bool × ℕ)) (deed : CoreState × ℕ) → Passes tests → IsTrusted sealed (first_refusal_or core tests deed).0.entries → IsTrusted sealed deed.0.entries
     tested_honest [] deed passes honest = honest
     tested_honest (test ∷ tests) deed passes honest = tested_honest tests deed passes.1 (rw passes.0 at honest)
 
-    tested_holds_if : (tests : List (Bool × ℕ)) (deed : CoreState × ℕ) → IsTrusted sealed (tested core tests deed).0.entries → (Passes tests → IsTrusted sealed deed.0.entries → Holds Stands owners deed.0) → Holds Stands owners (tested core tests deed).0
+    tested_holds_if : (tests : List (Bool × ℕ)) (deed : CoreState × ℕ) → IsTrusted sealed (first_refusal_or core tests deed).0.entries → (Passes tests → IsTrusted sealed deed.0.entries → Holds Stands owners deed.0) → Holds Stands owners (first_refusal_or core tests deed).0
     tested_holds_if tests deed honest does = tested_holds tests deed (λ p. does p (tested_honest tests deed p honest))
 
-    unmapped_holds : (slot page : ℕ) (slots : (1 ≤ slot) × (slot ≤ 16)) → IsLive core slot → (result : CoreState × Option Rule) → flushed v slot 128 (128 * page) core ≡ result
-        → IsTrusted sealed (unmapped v slot page result).0.entries → Holds Stands owners (unmapped v slot page result).0
+    unmapped_holds : (slot page : ℕ) (slots : (1 ≤ slot) × (slot ≤ 16)) → IsLive core slot → (result : CoreState × Option Rule) → after_flush v slot 128 (128 * page) core ≡ result
+        → IsTrusted sealed (after_unmap v slot page result).0.entries → Holds Stands owners (after_unmap v slot page result).0
     unmapped_holds slot page slots live result is honest =
         kept_holds Stands owners core _ (unmap_kept Stands owners v law sealed slot page (some_slot slot slots.0) slots.1 core (sound_of Stands owners core holds) live result is honest) holds
 
     unmap_holds : (slot page : ℕ) → IsTrusted sealed (unmap_page v core slot page).0.entries → Holds Stands owners (unmap_page v core slot page).0
     unmap_holds slot page honest = tested_holds_if (unmap_tests core slot page) _ honest (λ (p : Passes (unmap_tests core slot page)) good.
-        unmapped_holds slot page (good_slot slot p.0) (waits_live (session_of core slot).state p.1.0) (flushed v slot 128 (128 * page) core) refl good)
+        unmapped_holds slot page (good_slot slot p.0) (waits_live (session_of core slot).state p.1.0) (after_flush v slot 128 (128 * page) core) refl good)
 
     install_holds : OwnersTell core.machine owners → sealed ≡ sealed_by core.machine owners → (slot place area : ℕ) → IsTrusted sealed (install v core slot place area).0.entries → Holds Stands owners (install v core slot place area).0
     install_holds tell sealings slot place area honest = tested_holds_if (install_tests core slot place area) _ honest (λ (p : Passes (install_tests core slot place area)) good.
@@ -285,7 +285,7 @@ module _ (Stands : StandsFor) (owners : List Owner) (v : Versions) (law : Versio
             → IsTrusted sealed (unwrap v core slot place area found).0.entries → Holds Stands owners (unwrap v core slot place area found).0
         unwrap_holds slots is_free room None is good = holds
         unwrap_holds slots is_free room (Some plain) is good = tested_holds_if (image_tests core plain) _ good (λ (p : Passes (image_tests core plain)) fine.
-            install_keeps Stands owners v law core tell holds slot place area plain slots.0 slots.1 none is_free room is (subst (λ l. IsTrusted l (installed v core slot place area plain).entries) sealings fine))
+            install_keeps Stands owners v law core tell holds slot place area plain slots.0 slots.1 none is_free room is (subst (λ l. IsTrusted l (after_install v core slot place area plain).entries) sealings fine))
 
 -- ---- Save and Restore
 
@@ -332,7 +332,7 @@ module _ (Stands : StandsFor) (owners : List Owner) (v : Versions) (law : Versio
       record { slot_from = slots.0; slot_to = slots.1; paused = paused_of (session_of core slot).state p.1.0; reg_from = cell.0; reg_to = cell.1 }
 
   save_holds : (slot reg address : ℕ) → IsTrusted sealed (save_register core slot reg address).0.entries → Holds Stands owners (save_register core slot reg address).0
-  unfolding saved
+  unfolding after_save
   save_holds slot reg address honest = tested_holds_if Stands owners v law core none holds sealed (save_tests core slot reg address) _ honest (λ (p : Tests (save_tests core slot reg address)) good.
       let may = may_seal slot reg address ((not (is_own_cell slot (cell_at core.cells reg)), 6) ∷ []) p in
       let own = own_from slot (cell_at core.cells reg) p.1.1.1.1.0 in
@@ -342,10 +342,10 @@ module _ (Stands : StandsFor) (owners : List Owner) (v : Versions) (law : Versio
 
   restored_holds : sealed ≡ sealed_by core.machine owners → (slot reg address : ℕ) → MaySeal core slot reg → (value : ℕ)
       → unsealed_register (reg_name (who_of core slot) (epoch_of core slot) reg) (reg_keys (who_of core slot) (epoch_of core slot)) (saved_at core.ram address) ≡ Some value
-      → IsTrusted sealed (restored core slot reg address value).entries → Holds Stands owners (restored core slot reg address value)
-  unfolding restored
+      → IsTrusted sealed (after_restore core slot reg address value).entries → Holds Stands owners (after_restore core slot reg address value)
+  unfolding after_restore
   restored_holds sealings slot reg address may value is good =
-      restored_out Stands owners v law core none holds slot reg address value (rw may.paused refl) may.paused may.reg_from may.reg_to is (subst (λ l. IsTrusted l (restored core slot reg address value).entries) sealings good)
+      restored_out Stands owners v law core none holds slot reg address value (rw may.paused refl) may.paused may.reg_from may.reg_to is (subst (λ l. IsTrusted l (after_restore core slot reg address value).entries) sealings good)
 
   restore_holds : OwnersTell core.machine owners → sealed ≡ sealed_by core.machine owners → (slot reg address : ℕ) → IsTrusted sealed (restore_register core slot reg address).0.entries → Holds Stands owners (restore_register core slot reg address).0
   restore_holds tell sealings slot reg address honest = tested_holds_if Stands owners v law core none holds sealed (restore_tests core slot reg address) _ honest (λ (p : Tests (restore_tests core slot reg address)) good.
@@ -353,7 +353,7 @@ module _ (Stands : StandsFor) (owners : List Owner) (v : Versions) (law : Versio
       reopened_holds may (unsealed_register (reg_name (who_of core slot) (epoch_of core slot) reg) (reg_keys (who_of core slot) (epoch_of core slot)) (saved_at core.ram address)) refl good)
     where
       reopened_holds : MaySeal core slot reg → (found : Option ℕ) → unsealed_register (reg_name (who_of core slot) (epoch_of core slot) reg) (reg_keys (who_of core slot) (epoch_of core slot)) (saved_at core.ram address) ≡ found
-          → IsTrusted sealed (reopened core slot reg address found).0.entries → Holds Stands owners (reopened core slot reg address found).0
+          → IsTrusted sealed (after_reopening core slot reg address found).0.entries → Holds Stands owners (after_reopening core slot reg address found).0
       reopened_holds may None is good = kept_holds Stands owners core _ (stopped_kept Stands owners v law core slot (some_slot Stands owners v law core none holds slot may.slot_from) holds.slots.session_places may.slot_to holds.slots.cell_places holds.slots.shape (rule.RegisterTag reg)) holds
       reopened_holds may (Some value) is good = restored_holds sealings slot reg address may value is good
 

@@ -24,15 +24,15 @@ use Rattle.xom_versions.specs.Store.{hash_entry}
 use Rattle.line_cache.specs.declared.way.Way.{Way}
 use Rattle.page_map.specs.Pages.{frame_of, no_pages, with_page}
 use Rattle.line_cache.specs.Ways.{free_if, free_way, way_at, without_slot}
-use Rattle.xom_model.specs.State.{CoreState, no_store, noted, session_of, store_of, with_session, with_way}
+use Rattle.xom_model.specs.State.{CoreState, no_store, session_of, store_of, with_entry, with_session, with_way}
 use Rattle.xom_model.specs.Lines.{keys_of, message_as, seal_entry, sealed_as, who_of}
-use Rattle.xom_model.specs.Access.{dropped, raising, sealing, stopped}
-use Rattle.xom_model.specs.Guest.{finished, stepped, stored_at, trapped}
-use Rattle.xom_model.specs.Operation.{envelope_at, is_free_state, installed, killed}
+use Rattle.xom_model.specs.Access.{after_raise, after_seal, after_stop, without_guest}
+use Rattle.xom_model.specs.Guest.{after_exit, after_trap, core_after_step, stored_at}
+use Rattle.xom_model.specs.Operation.{after_install, after_kill, envelope_at, is_free_state}
 use Rattle.xom_model.specs.Holds.{IsLive}
 use Rattle.xom_model.specs.Named.{install_seals, is_its, names_install}
 use Rattle.xom_model.specs.Stops.{IsTaken, StopsHold}
-use Rattle.xom_model.specs.Touched.{touched}
+use Rattle.xom_model.specs.Touched.{slot_of_event}
 use Rattle.xom_model.specs.Others.{EventsLeaveOthers, IsLeftAlone, NoneWrittenBack, StaysAside}
 use Rattle.xom_model.proofs.Growth.{seals_hashes, seals_more, seals_none}
 use Rattle.xom_model.proofs.Gone.{free_if-left, less, pages-other, way-without}
@@ -142,8 +142,8 @@ module _ (v : Versions) (slot k : ℕ) (some : k ≢ 0) (apart : k ≢ slot) whe
     victim_live : IsLive core victim.slot
     victim_live = holds.cached place (λ none. let clean = holds.clean place none in absurd (cc))
 
-    store_other : victim.slot ≢ k → store_of (raising v core victim.slot victim.line) k ≡ store_of core k
-    unfolding raising
+    store_other : victim.slot ≢ k → store_of (after_raise v core victim.slot victim.line) k ≡ store_of core k
+    unfolding after_raise
     store_other differs = get_or-set_other core.stores victim.slot k _ no_store (λ is. differs (sym is))
 
     module _ (version : ℕ) (way : Way) (may : MayCome slot core way) where
@@ -151,11 +151,11 @@ module _ (v : Versions) (slot k : ℕ) (some : k ≢ 0) (apart : k ≢ slot) whe
       sealed_core = with_way (written_back v core victim version) place way
 
       sealed_ways : sealed_core.ways ≡ set core.ways place way
-      unfolding sealing raising
+      unfolding after_seal after_raise
       sealed_ways = refl
 
       sealed_aside : victim.slot ≢ k → IsLeftAlone core sealed_core k
-      unfolding sealing raising
+      unfolding after_seal after_raise
       sealed_aside differs = record {
         session = refl;
         store = store_other differs;
@@ -188,11 +188,11 @@ module _ (v : Versions) (slot k : ℕ) (some : k ≢ 0) (apart : k ≢ slot) whe
       torn_core = torn_off v core victim torn
 
       torn_ways : torn_core.ways ≡ without_slot victim.slot core.ways
-      unfolding dropped raising
+      unfolding without_guest after_raise
       torn_ways = refl
 
       torn_aside : victim.slot ≢ k → IsLeftAlone core torn_core k
-      unfolding dropped raising
+      unfolding without_guest after_raise
       torn_aside differs = record {
         session = session_other core victim.slot _ (λ is. differs (sym is));
         store = store_other differs;
@@ -218,20 +218,20 @@ module _ (v : Versions) (slot k : ℕ) (some : k ≢ 0) (apart : k ≢ slot) whe
 
   -- ---- The slot that the event is about
 
-  stop_aside : (core : CoreState) (why : Rule) → StaysAside core (stopped core slot why) k
-  unfolding dropped
+  stop_aside : (core : CoreState) (why : Rule) → StaysAside core (after_stop core slot why) k
+  unfolding without_guest
   stop_aside core why =
-      left_quietly core (stopped core slot why) (without_lines core slot) (session_other core slot _ apart) refl (λ page. pages-other core.pages slot k page apart)
+      left_quietly core (after_stop core slot why) (without_lines core slot) (session_other core slot _ apart) refl (λ page. pages-other core.pages slot k page apart)
       (seals_none core.entries (entry.Stop (session_of core slot).install why) refl)
 
-  exit_aside : (core : CoreState) → StaysAside core (finished core slot).0 k
-  unfolding dropped
-  exit_aside core = left_quietly core (finished core slot).0 (without_lines core slot) (session_other core slot _ apart) refl (λ page. pages-other core.pages slot k page apart) refl
+  exit_aside : (core : CoreState) → StaysAside core (after_exit core slot).0 k
+  unfolding without_guest
+  exit_aside core = left_quietly core (after_exit core slot).0 (without_lines core slot) (session_other core slot _ apart) refl (λ page. pages-other core.pages slot k page apart) refl
 
-  kill_aside : (core : CoreState) → StaysAside core (killed v core slot) k
-  unfolding dropped
+  kill_aside : (core : CoreState) → StaysAside core (after_kill v core slot) k
+  unfolding without_guest
   kill_aside core =
-      left_quietly core (killed v core slot) (without_lines core slot) (session_other core slot _ apart) refl (λ page. pages-other core.pages slot k page apart)
+      left_quietly core (after_kill v core slot) (without_lines core slot) (session_other core slot _ apart) refl (λ page. pages-other core.pages slot k page apart)
       (seals_none core.entries (entry.Kill (session_of core slot).install) refl)
 
   stored_lines : (core : CoreState) (place : ℕ) (kept : Stored) → StoresIn core slot place kept → (at : ℕ) → (way_at (stored_at core.ways place kept) at).slot ≡ k → way_at (stored_at core.ways place kept) at ≡ way_at core.ways at
@@ -242,38 +242,38 @@ module _ (v : Versions) (slot k : ℕ) (some : k ≢ 0) (apart : k ≢ slot) whe
         | inr past ↦ absurd (omega arith)
       ]) (λ j here. refl) at is
 
-  step_aside : (core : CoreState) (place : ℕ) (session : Session) (step : Step) → StoresIn core slot place step.stored → StaysAside core (stepped core slot place session step) k
+  step_aside : (core : CoreState) (place : ℕ) (session : Session) (step : Step) → StoresIn core slot place step.stored → StaysAside core (core_after_step core slot place session step) k
   step_aside core place session step stores =
-      left_quietly core (stepped core slot place session step) (stored_lines core place step.stored stores) (session_other core slot session apart) refl (λ page. refl)
+      left_quietly core (core_after_step core slot place session step) (stored_lines core place step.stored stores) (session_other core slot session apart) refl (λ page. refl)
       (seals_none core.entries (entry.Step (session_of core slot).install step) refl)
 
   turn_aside : (core : CoreState) (s : Session) → StaysAside core (with_session core slot s) k
   turn_aside core s = left_quietly core (with_session core slot s) (λ place is. refl) (session_other core slot s apart) refl (λ page. refl) refl
 
-  trap_aside : (core : CoreState) (why : Cause) → StaysAside core (trapped core slot why).0 k
+  trap_aside : (core : CoreState) (why : Cause) → StaysAside core (after_trap core slot why).0 k
   trap_aside core why =
-      left_quietly core (trapped core slot why).0 (λ place is. refl) (session_other core slot _ apart) refl (λ page. refl) (seals_none core.entries (entry.Trap (session_of core slot).install why) refl)
+      left_quietly core (after_trap core slot why).0 (λ place is. refl) (session_other core slot _ apart) refl (λ page. refl) (seals_none core.entries (entry.Trap (session_of core slot).install why) refl)
 
   page_aside : (core : CoreState) (page : ℕ) (frame : Option ℕ) → StaysAside core (record core { pages = with_page core.pages slot page frame }) k
   page_aside core page frame =
       left_quietly core (record core { pages = with_page core.pages slot page frame }) (λ place is. refl) refl refl (λ p. ap (λ pages. get_or pages p None) (get_or-set_other core.pages slot k _ no_pages apart)) refl
 
-  install_aside : (core : CoreState) (place area : ℕ) (plain : Unwrapped) → StaysAside core (installed v core slot place area plain) k
-  unfolding installed
+  install_aside : (core : CoreState) (place area : ℕ) (plain : Unwrapped) → StaysAside core (after_install v core slot place area plain) k
+  unfolding after_install
   install_aside core place area plain =
       let two = entry.Accept core.machine.0 (envelope_message (envelope_at core place)) place ∷ entry.Install (core.installs + 1) slot plain.id place plain.entry plain.lines ∷ [] in
-      left_quietly core (installed v core slot place area plain) (λ at is. refl) (session_other core slot _ apart) (get_or-set_other core.stores slot k _ no_store apart) (λ page. refl)
+      left_quietly core (after_install v core slot place area plain) (λ at is. refl) (session_other core slot _ apart) (get_or-set_other core.stores slot k _ no_store apart) (λ page. refl)
       (seals_hashes (core.entries ++ two) (v.texts_of_build area plain.lines core.ram) ∙ filter_map-append seal_in core.entries two ∙ append-nil (seals_of core.entries))
 
   -- one entry that is no Seal
-  note_aside : (core : CoreState) (e : Entry) → seal_in e ≡ None → StaysAside core (noted core e) k
-  note_aside core e none = left_quietly core (noted core e) (λ place is. refl) refl refl (λ page. refl) (seals_none core.entries e none)
+  note_aside : (core : CoreState) (e : Entry) → seal_in e ≡ None → StaysAside core (with_entry core e) k
+  note_aside core e none = left_quietly core (with_entry core e) (λ place is. refl) refl refl (λ page. refl) (seals_none core.entries e none)
 
   saved_aside : (core : CoreState) → core.installs < 2 ^ 64 → StopsHold core → (key ct : List ℕ) (name : RegName) → IsLive core slot → name.install ≡ (session_of core slot).install
-      → StaysAside core (noted core (entry.Seal key (register_message name ct))) k
+      → StaysAside core (with_entry core (entry.Seal key (register_message name ct))) k
   saved_aside core low holds key ct name live same =
       let s : Sealing = (key, register_message name ct) in
-      left_so core (noted core (entry.Seal key (register_message name ct))) (λ place is. refl) refl refl (λ page. refl) (λ taken.
+      left_so core (with_entry core (entry.Seal key (register_message name ct))) (λ place is. refl) refl refl (λ page. refl) (λ taken.
       let n = (session_of core k).install in
       let names = not_true (names_install n (register_message name ct)) (λ is.
       other_install core holds slot (λ own. apart (sym own)) live taken
@@ -348,5 +348,5 @@ module _ (v : Versions) (slot k : ℕ) (some : k ≢ 0) (apart : k ≢ slot) whe
 
 pub events_leave_others : EventsLeaveOthers
 events_leave_others v r e bytes few counted holds k some apart =
-    (walk_event v (LeavesAside v (touched r e) k some apart) (LeavesAside v (touched r e) k some apart) r e bytes
-    (leaves_parts v (touched r e) k some apart) (leaves_ends v (touched r e) k some apart) (leaves_deeds v (touched r e) k some apart)).aside (numbers_low v r e bytes few counted) holds
+    (walk_event v (LeavesAside v (slot_of_event r e) k some apart) (LeavesAside v (slot_of_event r e) k some apart) r e bytes
+    (leaves_parts v (slot_of_event r e) k some apart) (leaves_ends v (slot_of_event r e) k some apart) (leaves_deeds v (slot_of_event r e) k some apart)).aside (numbers_low v r e bytes few counted) holds

@@ -12,8 +12,8 @@ use Rattle.xom_model.specs.Versions.{StandsFor}
 use Rattle.line_cache.specs.Ways.{found, free_way, way_at}
 use Rattle.page_map.specs.Pages.{frame_of, no_pages, pages_at, with_page}
 use Rattle.xom_model.specs.State.{CoreState, page_of, with_way}
-use Rattle.xom_model.specs.Access.{and_then, cleared_at, flushed, taken, taken_out}
-use Rattle.xom_model.specs.Operation.{unmapped}
+use Rattle.xom_model.specs.Access.{after_eviction, after_flush, and_then, cleared_at, taken_out}
+use Rattle.xom_model.specs.Operation.{after_unmap}
 use Rattle.xom_model.specs.Holds.{IsLive, IsOf, Shape}
 use Rattle.xom_model.specs.Kept.{Kept}
 use Rattle.xom_model.proofs.Growth.{IsTrusted, goes_none, honest_before}
@@ -137,7 +137,7 @@ module _ (Stands : StandsFor) (owners : List Owner) (v : Versions) (law : Versio
     abbrev One : CoreState × Option Rule → Type 0
     One result = Flushes Stands owners slot line 1 core result.0 result.1
 
-    taken_one : (place : ℕ) → IsOf (way_at core.ways place) slot line → place < 128 → (result : CoreState × Option Rule) → Clears Stands owners core place result.0 result.1 → One (taken place result)
+    taken_one : (place : ℕ) → IsOf (way_at core.ways place) slot line → place < 128 → (result : CoreState × Option Rule) → Clears Stands owners core place result.0 result.1 → One (after_eviction place result)
     taken_one place is low (mid, None) clear =
         let within : place < length mid.ways = (let a : length mid.ways ≡ length core.ways = clear.places in let b : length core.ways ≡ 128 = sound.shape.way_places in omega arith) in
         let here = get_or-set_same mid.ways place free_way free_way within in
@@ -159,7 +159,7 @@ module _ (Stands : StandsFor) (owners : List Owner) (v : Versions) (law : Versio
         }
     taken_one place is low (mid, Some why) clear = record { kept = clear.kept; ways = clear.ways; calm = λ no. absurd (cc); empty = λ no. absurd (cc) }
 
-    taken_entries : (place : ℕ) (result : CoreState × Option Rule) → (taken place result).0.entries ≡ result.0.entries
+    taken_entries : (place : ℕ) (result : CoreState × Option Rule) → (after_eviction place result).0.entries ≡ result.0.entries
     taken_entries place (mid, None) = refl
     taken_entries place (mid, Some why) = refl
 
@@ -203,8 +203,8 @@ module _ (Stands : StandsFor) (owners : List Owner) (v : Versions) (law : Versio
   and_then_none (mid, None) rest is = refl
   and_then_none (mid, Some why) rest is = absurd (cc)
 
-  flushes : (count line : ℕ) (core : CoreState) → Sound Stands owners core → IsTrusted sealed (flushed v slot count line core).0.entries → Flushes Stands owners slot line count core (flushed v slot count line core).0 (flushed v slot count line core).1
-  unfolding flushed
+  flushes : (count line : ℕ) (core : CoreState) → Sound Stands owners core → IsTrusted sealed (after_flush v slot count line core).0.entries → Flushes Stands owners slot line count core (after_flush v slot count line core).0 (after_flush v slot count line core).1
+  unfolding after_flush
   flushes zero line core sound honest = record {
     kept = kept_none Stands owners core;
     ways = λ at filled. refl;
@@ -213,7 +213,7 @@ module _ (Stands : StandsFor) (owners : List Owner) (v : Versions) (law : Versio
   }
   flushes (suc count) line core sound honest =
       let first = taken_out v core (found core.ways slot line) in
-      let rest = flushed v slot count (line + 1) in
+      let rest = after_flush v slot count (line + 1) in
       let more = and_then_longer first rest (λ c. longer_flushed v slot count (line + 1) c) in
       let one = one_line core sound line (found core.ways slot line) refl (honest_before first.0.entries more.0 sealed (subst (λ es. IsTrusted sealed es) more.1 honest)) in
       then_flushes core line count first rest one
@@ -221,7 +221,7 @@ module _ (Stands : StandsFor) (owners : List Owner) (v : Versions) (law : Versio
 
 -- Unmap
 module _ (Stands : StandsFor) (owners : List Owner) (v : Versions) (law : VersionLaw v Stands) (sealed : List Sealing) (slot page : ℕ) (some : slot ≢ 0) (known : slot ≤ 16) (core : CoreState) (sound : Sound Stands owners core) (live : IsLive core slot) where
-  by_result : (result : CoreState × Option Rule) → Flushes Stands owners slot (128 * page) 128 core result.0 result.1 → Kept Stands owners core (unmapped v slot page result).0
+  by_result : (result : CoreState × Option Rule) → Flushes Stands owners slot (128 * page) 128 core result.0 result.1 → Kept Stands owners core (after_unmap v slot page result).0
   by_result (new, Some why) flush = flush.kept
   by_result (new, None) flush =
       kept_on Stands owners core new _ flush.kept
@@ -231,11 +231,11 @@ module _ (Stands : StandsFor) (owners : List Owner) (v : Versions) (law : Versio
       let at : line / 128 ≡ page = same in
       flush.empty refl place line (omega arith) (omega arith) (own, refl)) (λ f no_frame. absurd (cc)) (flush.kept.shape sound.shape).page_places)
 
-  unmapped_entries : (result : CoreState × Option Rule) → (unmapped v slot page result).0.entries ≡ result.0.entries
+  unmapped_entries : (result : CoreState × Option Rule) → (after_unmap v slot page result).0.entries ≡ result.0.entries
   unmapped_entries (new, None) = refl
   unmapped_entries (new, Some why) = refl
 
-  pub unmap_kept : (result : CoreState × Option Rule) → flushed v slot 128 (128 * page) core ≡ result → IsTrusted sealed (unmapped v slot page result).0.entries → Kept Stands owners core (unmapped v slot page result).0
+  pub unmap_kept : (result : CoreState × Option Rule) → after_flush v slot 128 (128 * page) core ≡ result → IsTrusted sealed (after_unmap v slot page result).0.entries → Kept Stands owners core (after_unmap v slot page result).0
   unmap_kept result is honest =
       by_result result (subst (λ (r : CoreState × Option Rule). Flushes Stands owners slot (128 * page) 128 core r.0 r.1) is
       (flushes Stands owners v law sealed slot some 128 (128 * page) core sound (subst (λ (r : CoreState × Option Rule). IsTrusted sealed r.0.entries) (sym is) (subst (λ es. IsTrusted sealed es) (unmapped_entries result) honest))))

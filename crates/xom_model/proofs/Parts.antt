@@ -15,7 +15,7 @@ use Rattle.line_cache.specs.declared.way.Way.{Way}
 use Rattle.page_map.specs.Pages.{frame_of}
 use Rattle.line_cache.specs.Ways.{free_way, way_at}
 use Rattle.xom_model.specs.State.{CoreState, page_of, session_of, store_of}
-use Rattle.xom_model.specs.Lines.{Who, ver, who_in, who_of}
+use Rattle.xom_model.specs.Lines.{Who, version_of_line, who_in, who_of}
 use Rattle.xom_model.specs.Guest.{stored_at, stored_way}
 use Rattle.xom_model.specs.Holds.{IsLive, IsOf, LineHolds, Private, Shape, line_in}
 use Rattle.xom_model.proofs.Gone.{lines_alike}
@@ -91,7 +91,7 @@ module _ (Stands : StandsFor) (core : CoreState) (slot : ℕ) (s : Session) (som
     pub session_private : (k : ℕ) (owner : Owner) (memory : ℕ → List ℕ) → Private Stands core k owner memory → Private Stands with_it k owner memory
     session_private k owner memory holds = record {
       lines = λ line low. subst (λ w. LineHolds owner w k line core.ways (seals_of core.entries) (memory line)) (sym (who_same k)) (holds.lines line low);
-      stands = subst (λ w. Stands (store_of core k) core.entries (ver w (seals_of core.entries))) (sym (who_same k)) holds.stands;
+      stands = subst (λ w. Stands (store_of core k) core.entries (version_of_line w (seals_of core.entries))) (sym (who_same k)) holds.stands;
     }
 
 -- ---- Bytes in a cached line

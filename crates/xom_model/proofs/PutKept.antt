@@ -10,7 +10,7 @@ use Rattle.line_cache.specs.declared.way.Way.{Way}
 use Rattle.page_map.specs.Pages.{frame_of}
 use Rattle.line_cache.specs.Ways.{free_way, way_at}
 use Rattle.xom_model.specs.State.{CoreState, page_of, session_of, with_way}
-use Rattle.xom_model.specs.Lines.{ver, who_of}
+use Rattle.xom_model.specs.Lines.{version_of_line, who_of}
 use Rattle.xom_model.specs.Holds.{Behind, IsLive, IsOf, LineHolds, Private, Shape}
 use Rattle.xom_model.specs.Kept.{Kept}
 
@@ -19,7 +19,7 @@ abbrev pub IsDone : StandsFor → List Owner → CoreState → ℕ → Type 0
 IsDone Stands owners core place =
     (slot line : ℕ) → slot ≢ 0 → IsLive core slot → IsOf (way_at core.ways place) slot line → (way_at core.ways place).dirty ≡ true
     → (owner : Owner) (memory : ℕ → List ℕ) → owner_of owners (session_of core slot).id ≡ Some owner → Private Stands core slot owner memory
-    → Behind owner (who_of core slot) line (ver (who_of core slot) (seals_of core.entries) line) (seals_of core.entries) (memory line)
+    → Behind owner (who_of core slot) line (version_of_line (who_of core slot) (seals_of core.entries) line) (seals_of core.entries) (memory line)
 
 -- A clean line that may stand in a place, with the bytes that it had in the base, an earlier core.
 pub record MayStand (Stands : StandsFor) (owners : List Owner) (base core : CoreState) (place : ℕ) (way : Way) : Type 0 where
@@ -99,7 +99,7 @@ module _ (Stands : StandsFor) (owners : List Owner) (base core : CoreState) (kep
 
     module _ (line : ℕ) (low : line < 2 ^ 15) where
       abbrev BehindIt : Type 0
-      BehindIt = Behind owner (who_of core slot) line (ver (who_of core slot) (seals_of core.entries) line) (seals_of core.entries) (memory line)
+      BehindIt = Behind owner (who_of core slot) line (version_of_line (who_of core slot) (seals_of core.entries) line) (seals_of core.entries) (memory line)
 
       abbrev AllClean : Type 0
       AllClean = (at : ℕ) → IsOf (way_at out.ways at) slot line → (way_at out.ways at).dirty ≡ false

@@ -9,7 +9,7 @@ use Rattle.xom_versions.specs.Versions.{Versions}
 use Rattle.xom_model.specs.State.{CoreState, Record}
 use Rattle.xom_model.specs.Guest.{guest}
 use Rattle.xom_model.specs.Null.{Answer, null_step}
-use Rattle.xom_model.specs.Event.{guest_turn, null_turn, on, open_in, outcome_of, ran_on, running, told_in}
+use Rattle.xom_model.specs.Event.{guest_turn, null_turn, on, open_in, outcome_of, ran_on, running_slot, told_in}
 use Rattle.xom_model.specs.Quiet.{EventsTrapQuietly, IsQuiet, TrapsQuietly}
 use Rattle.xom_model.specs.Stops.{StopsHold}
 use Rattle.xom_model.specs.Touched.{slot_or_none}
@@ -40,7 +40,7 @@ module _ (v : Versions) (r : Record) (why : Cause) (quiet : IsQuiet why) where
   ran_quietly slot (core, None) so never = absurd (cc)
   ran_quietly slot (core, Some its) so is = so (cc)
 
-  turn_quietly : (interrupt : Bool) (at : Option ℕ) → running r ≡ at → StopsHold r.core → (guest_turn v r interrupt at).1 ≡ outcome.Left why → TrapsQuietly r.core (guest_turn v r interrupt at).0.core (slot_or_none at) why
+  turn_quietly : (interrupt : Bool) (at : Option ℕ) → running_slot r ≡ at → StopsHold r.core → (guest_turn v r interrupt at).1 ≡ outcome.Left why → TrapsQuietly r.core (guest_turn v r interrupt at).0.core (slot_or_none at) why
   turn_quietly interrupt None none holds never = absurd (cc)
   turn_quietly interrupt (Some slot) runs holds is =
       let known = running-slot r.core slot runs holds.places holds.null in
@@ -50,7 +50,7 @@ module _ (v : Versions) (r : Record) (why : Cause) (quiet : IsQuiet why) where
 pub events_trap_quietly : EventsTrapQuietly
 unfolding on
 events_trap_quietly v r (event.Do op) bytes why holds is quiet = absurd (not_left op why is)
-events_trap_quietly v r (event.Guest interrupt) bytes why holds is quiet = turn_quietly v r why quiet interrupt (running r) refl holds is
+events_trap_quietly v r (event.Guest interrupt) bytes why holds is quiet = turn_quietly v r why quiet interrupt (running_slot r) refl holds is
 events_trap_quietly v r event.Null bytes why holds is quiet = absurd (null_not_left v r (null_step (told_in r) (open_in r)) why is)
 events_trap_quietly v r (event.Write address count) bytes why holds is quiet = absurd (cc)
 events_trap_quietly v r (event.Poke address count) bytes why holds is quiet = absurd (cc)

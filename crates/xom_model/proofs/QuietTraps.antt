@@ -28,10 +28,10 @@ use Rattle.xom_versions.specs.Store.{hash_entry}
 use Rattle.line_cache.specs.declared.way.Way.{Way}
 use Rattle.line_cache.specs.Ways.{found, way_at, without_slot, new_way, place_for, pointers_after}
 use Rattle.page_map.specs.Pages.{frame_of}
-use Rattle.xom_model.specs.State.{CoreState, hashed, noted, page_of, session_of, store_of}
+use Rattle.xom_model.specs.State.{CoreState, core_with_hashes, page_of, session_of, store_of, with_entry}
 use Rattle.xom_model.specs.Lines.{accept_entry, ct_place, keys_of, name_of, seal_entry, sealed_at, who_of}
-use Rattle.xom_model.specs.Access.{access, brought, cleared, cleared_at, dropped, looked, mapped, opened, or_stopped, placed, put, raising, read_from, sealed_by_raise, sealing}
-use Rattle.xom_model.specs.Guest.{address_in, after_step, code_reached, data_of, data_reached, guest, ran, trapped, word_in, word_tried}
+use Rattle.xom_model.specs.Access.{access, after_opening, after_raise, after_seal, after_victim, brought, cleared_at, or_stopped, reach_after_placing, reach_after_victim, reach_by_cache, reach_in_frame, read_from, sealed_by_raise, without_guest}
+use Rattle.xom_model.specs.Guest.{address_in, after_effect, after_step, after_trap, code_reached, data_of, data_reached, guest, word_in, word_tried}
 use Rattle.xom_model.specs.Holds.{IsOf, IsRunning}
 use Rattle.xom_model.specs.Quiet.{IsAsCached, IsKeptOrSealed, IsQuiet, MayPrecede, SealsWay, TrapsChangeNothing, TrapsQuietly}
 use Rattle.xom_model.specs.Named.{HasOne}
@@ -135,8 +135,8 @@ module _ (v : Versions) (slot : ℕ) (some : slot ≢ 0) where
       more_has : (Is : Entry → Type 0) (e : Entry) → Is e → HasOne Is (more_with e)
       more_has Is e is = HasOne-behind Is more (map hash_entry texts ++ e ∷ []) (HasOne-behind Is (map hash_entry texts) (e ∷ []) (inl is))
 
-      sealed_brings : victim.dirty ≡ true → (version : ℕ) → Brought core (put v victim.slot place slot line bytes (or_stopped v victim.slot (sealed_by_raise v (raising v pointed victim.slot victim.line) victim.slot victim.line victim.bytes (Ok version))))
-      unfolding sealing raising
+      sealed_brings : victim.dirty ≡ true → (version : ℕ) → Brought core (reach_after_victim v victim.slot place slot line bytes (or_stopped v victim.slot (sealed_by_raise v (after_raise v pointed victim.slot victim.line) victim.slot victim.line victim.bytes (Ok version))))
+      unfolding after_seal after_raise
       sealed_brings dirty version = record {
         session = refl;
         cells = λ reg is. refl;
@@ -154,8 +154,8 @@ module _ (v : Versions) (slot : ℕ) (some : slot ≢ 0) where
           let same = way-without victim.slot core.ways at in
           same ∙ (free_if-left victim.slot (way_at core.ways at) (λ none. some (sym is ∙ ap (λ w. w.slot) same ∙ none))).0
 
-      torn_brings : victim.slot ≢ slot → (torn : Torn) → Brought core (put v victim.slot place slot line bytes (or_stopped v victim.slot (sealed_by_raise v (raising v pointed victim.slot victim.line) victim.slot victim.line victim.bytes (Err torn))))
-      unfolding dropped raising
+      torn_brings : victim.slot ≢ slot → (torn : Torn) → Brought core (reach_after_victim v victim.slot place slot line bytes (or_stopped v victim.slot (sealed_by_raise v (after_raise v pointed victim.slot victim.line) victim.slot victim.line victim.bytes (Err torn))))
+      unfolding without_guest after_raise
       torn_brings differs torn = rw (apart_test differs) (record {
         session = get_or-set_other core.sessions victim.slot slot (left (session_of core victim.slot) (state.Stopped (rule.TreeNode torn.level))) free (λ is. differs (sym is));
         cells = λ reg is. scrubbed-stays victim.slot core.cells reg (λ its. differs (sym its ∙ is));
@@ -171,14 +171,14 @@ module _ (v : Versions) (slot : ℕ) (some : slot ≢ 0) where
           apart_test : victim.slot ≢ slot → (victim.slot == slot) ≡ false
           apart_test differs = elim (eqb_tells victim.slot slot) [ inl is ↦ absurd (differs is.1) | inr other ↦ other.0 ]
 
-      by_answer : victim.dirty ≡ true → (answer : Result ℕ Torn) → Brought core (put v victim.slot place slot line bytes (or_stopped v victim.slot (sealed_by_raise v (raising v pointed victim.slot victim.line) victim.slot victim.line victim.bytes answer)))
+      by_answer : victim.dirty ≡ true → (answer : Result ℕ Torn) → Brought core (reach_after_victim v victim.slot place slot line bytes (or_stopped v victim.slot (sealed_by_raise v (after_raise v pointed victim.slot victim.line) victim.slot victim.line victim.bytes answer)))
       by_answer dirty (Ok version) = sealed_brings dirty version
       by_answer dirty (Err torn) = elim (eqb_tells victim.slot slot) [
         | inl own ↦ rw own.0 tt
         | inr other ↦ torn_brings other.1 torn
       ]
 
-      by_dirty : (dirty : Bool) → victim.dirty ≡ dirty → Brought core (put v victim.slot place slot line bytes (cleared v pointed victim dirty))
+      by_dirty : (dirty : Bool) → victim.dirty ≡ dirty → Brought core (reach_after_victim v victim.slot place slot line bytes (after_victim v pointed victim dirty))
       by_dirty false clean = record {
         session = refl;
         cells = λ reg is. refl;
@@ -191,44 +191,44 @@ module _ (v : Versions) (slot : ℕ) (some : slot ≢ 0) where
       }
       by_dirty true dirty = by_answer dirty (v.answer_of_raise (store_of core victim.slot) victim.line core.ram)
 
-      placed_brings : Brought core (placed v (record core { entries = es }) slot line bytes)
-      unfolding placed cleared_at
+      placed_brings : Brought core (reach_after_placing v (record core { entries = es }) slot line bytes)
+      unfolding reach_after_placing cleared_at
       placed_brings = by_dirty victim.dirty refl
 
     module _ (texts : List (List ℕ)) where
       abbrev asked : CoreState
-      asked = hashed core texts
+      asked = core_with_hashes core texts
 
-      opened_brings : (version at : ℕ) (ct : List ℕ) → Brought core (placed v (noted asked (accept_entry (who_of core slot) line version ct at)) slot line bytes)
+      opened_brings : (version at : ℕ) (ct : List ℕ) → Brought core (reach_after_placing v (with_entry asked (accept_entry (who_of core slot) line version ct at)) slot line bytes)
       opened_brings version at ct =
           let accept = accept_entry (who_of core slot) line version ct at in
           placed_brings ((core.entries ++ map hash_entry texts) ++ accept ∷ []) (map hash_entry texts ++ accept ∷ []) (append_assoc core.entries (map hash_entry texts) (accept ∷ []))
           (All-push (MayPrecede core slot) (map hash_entry texts) accept (hashes_precede core texts) tt)
 
-      fresh_brings : Brought core (placed v asked slot line bytes)
+      fresh_brings : Brought core (reach_after_placing v asked slot line bytes)
       fresh_brings = placed_brings (core.entries ++ map hash_entry texts) (map hash_entry texts) refl (hashes_precede core texts)
 
   module _ (core : CoreState) (line : ℕ) where
     module _ (alone : (other : ℕ) → ¬ IsOf (way_at core.ways other) slot line) (texts : List (List ℕ)) where
-      read_opens : (version at : ℕ) (ct : List ℕ) (bytes : Option (List ℕ)) → Brought core (opened v (hashed core texts) slot line version at ct bytes)
+      read_opens : (version at : ℕ) (ct : List ℕ) (bytes : Option (List ℕ)) → Brought core (after_opening v (core_with_hashes core texts) slot line version at ct bytes)
       read_opens version at ct None = tt
       read_opens version at ct (Some bytes) = opened_brings core line bytes alone texts version at ct
 
-      answer_brings : (frame : ℕ) (answer : Result ℕ Torn) → Brought core (brought v (hashed core texts) slot line frame answer)
+      answer_brings : (frame : ℕ) (answer : Result ℕ Torn) → Brought core (brought v (core_with_hashes core texts) slot line frame answer)
       answer_brings frame (Err torn) = tt
       answer_brings frame (Ok version) =
-          let asked_core = hashed core texts in
-          cond_both (version == 0) (placed v asked_core slot line (replicate 32 0)) (read_from v asked_core slot line frame version) (λ result. Brought core result)
+          let asked_core = core_with_hashes core texts in
+          cond_both (version == 0) (reach_after_placing v asked_core slot line (replicate 32 0)) (read_from v asked_core slot line frame version) (λ result. Brought core result)
           (λ _. fresh_brings core line (replicate 32 0) alone texts)
           (λ _. read_opens version (ct_place frame line) (sealed_at core.ram frame line).ct
           (unsealed_line (name_of (who_of core slot) line version) (keys_of (who_of core slot) line version) (sealed_at core.ram frame line)))
 
-    looked_brings : (frame : ℕ) (at : Option ℕ) → found core.ways slot line ≡ at → Brought core (looked v core slot line frame at)
+    looked_brings : (frame : ℕ) (at : Option ℕ) → found core.ways slot line ≡ at → Brought core (reach_by_cache v core slot line frame at)
     looked_brings frame (Some at) is = brings_none core
     looked_brings frame None is =
         answer_brings (λ other. found-none core.ways slot line other some is) (v.texts_of_version (store_of core slot) line core.ram) frame (v.answer_of_version (store_of core slot) line core.ram)
 
-    mapped_brings : (frame : Option ℕ) → Brought core (mapped v core slot line frame)
+    mapped_brings : (frame : Option ℕ) → Brought core (reach_in_frame v core slot line frame)
     mapped_brings None = refl
     mapped_brings (Some frame) = looked_brings frame (found core.ways slot line) refl
 
@@ -238,7 +238,7 @@ module _ (v : Versions) (slot : ℕ) (some : slot ≢ 0) where
 
   -- ---- The trap
 
-  trapped_quietly : (core new : CoreState) (why : Cause) → IsRunning core slot → Brings core new → TrapsQuietly core (trapped new slot why).0 slot why
+  trapped_quietly : (core new : CoreState) (why : Cause) → IsRunning core slot → Brings core new → TrapsQuietly core (after_trap new slot why).0 slot why
   trapped_quietly core new why runs brings =
       let more = brings.more in
       let trap = entry.Trap (session_of new slot).install why in
@@ -262,14 +262,14 @@ module _ (v : Versions) (slot : ℕ) (some : slot ≢ 0) where
     abbrev Quietly : CoreState × Option Cause → Type 0
     Quietly result = result.1 ≡ Some why → TrapsQuietly base result.0 slot why
 
-    quietly_trapped : (new : CoreState) (its : Cause) → Brings base new → Quietly (trapped new slot its)
-    quietly_trapped new its brings is = let same : its ≡ why = cc in subst (λ c. TrapsQuietly base (trapped new slot c).0 slot why) (sym same) (trapped_quietly base new why base_runs brings)
+    quietly_trapped : (new : CoreState) (its : Cause) → Brings base new → Quietly (after_trap new slot its)
+    quietly_trapped new its brings is = let same : its ≡ why = cc in subst (λ c. TrapsQuietly base (after_trap new slot c).0 slot why) (sym same) (trapped_quietly base new why base_runs brings)
 
     after_quietly : (core : CoreState) (end : StepEnd) → Quietly (after_step core slot interrupt end)
     after_quietly core (ended.Call code) is = absurd (quiet_of (cause.Call code) why is quiet)
     after_quietly core ended.Exit is = absurd (quiet_of cause.Exit why is quiet)
     after_quietly core ended.Goes some_cause =
-        cond_both interrupt (trapped core slot cause.Interrupt) (core, None) (λ (r : CoreState × Option Cause). Quietly r)
+        cond_both interrupt (after_trap core slot cause.Interrupt) (core, None) (λ (r : CoreState × Option Cause). Quietly r)
         (λ _ is. absurd (quiet_of cause.Interrupt why is quiet)) (λ _ no. absurd (cc)) some_cause
 
     data_quietly : (core : CoreState) (effect : Effect) (result : CoreState × Reach) → Brings base core → Brought core result → Quietly (data_reached slot interrupt effect result)
@@ -281,7 +281,7 @@ module _ (v : Versions) (slot : ℕ) (some : slot ≢ 0) where
     wish_quietly core effect None brings is = after_quietly _ _ is
     wish_quietly core effect (Some address) brings is = data_quietly core effect (access v core slot (address / 32)) brings (access_brings core (address / 32)) is
 
-    ran_quietly : (core : CoreState) (result : Result Effect OwnFault) → Brings base core → Quietly (ran v core slot interrupt result)
+    ran_quietly : (core : CoreState) (result : Result Effect OwnFault) → Brings base core → Quietly (after_effect v core slot interrupt result)
     ran_quietly core (Err fault) brings = quietly_trapped core (cause.Fault fault) brings
     ran_quietly core (Ok effect) brings = wish_quietly core effect (address_in effect.wish) brings
 
@@ -294,7 +294,7 @@ module _ (v : Versions) (slot : ℕ) (some : slot ≢ 0) where
     unfolding guest
     guest_quietly =
         let pc = (session_of base slot).pc in
-        cond_both (is_code pc) (code_reached v slot interrupt (access v base slot (pc / 32))) (trapped base slot (cause.Fault own_fault.Address)) (λ (r : CoreState × Option Cause). Quietly r)
+        cond_both (is_code pc) (code_reached v slot interrupt (access v base slot (pc / 32))) (after_trap base slot (cause.Fault own_fault.Address)) (λ (r : CoreState × Option Cause). Quietly r)
         (λ _. code_quietly (access v base slot (pc / 32)) (access_brings base (pc / 32)))
         (λ _. quietly_trapped base (cause.Fault own_fault.Address) (brings_none base))
 

@@ -29,7 +29,7 @@ use Rattle.xom_model.specs.Lines.{ct_place, index_of, with_sealed}
 use Rattle.xom_model.specs.Saves.{with_saved}
 use Rattle.xom_model.specs.Guest.{given_out}
 use Rattle.xom_model.specs.Holds.{AreasFit, FramesFit, IsLive}
-use Rattle.xom_model.specs.Null.{Answer, Open, Told, fetched_open, granted, loaded_open, null_step, passed, poked, ran_open, seen_open, stopped_by, stored_open, tried_open, went}
+use Rattle.xom_model.specs.Null.{Answer, Open, Told, done_answer, fetched_open, loaded_open, null_step, open_after, ram_after_write, ran_open, seen_open, stopped_by, stored_open, tried_open, wish_answer}
 
 -- frames fit RAM of the same size
 pub frames_stay : (pages : List (List (Option ℕ))) (ram new : List ℕ) → length new ≡ length ram → FramesFit pages ram → FramesFit pages new
@@ -82,19 +82,19 @@ length-given_out ram (released.Cell reg value) = refl
 length-given_out ram (released.Null address value) = length-written_if ram address 4 (to_be_bytes w32 value) (omega arith)
 
 -- a kernel write, and a bus write
-pub length-poked : (ram : List ℕ) (address : ℕ) (bytes : List ℕ) → length (poked ram address bytes) ≡ length ram
-unfolding poked
+pub length-poked : (ram : List ℕ) (address : ℕ) (bytes : List ℕ) → length (ram_after_write ram address bytes) ≡ length ram
+unfolding ram_after_write
 length-poked ram address bytes = length-written_if ram address (length bytes) bytes (omega arith)
 
 -- ---- Null code
 
-length-granted : (told : Told) (s : Open) (effect : Effect) (wished : Wish) → length (granted told s effect wished).0.ram ≡ length s.ram
+length-granted : (told : Told) (s : Open) (effect : Effect) (wished : Wish) → length (wish_answer told s effect wished).0.ram ≡ length s.ram
 length-granted told s effect wish.Nothing = refl
 length-granted told s effect (wish.Load reg address how old) =
-    cond_both (holds s.ram (address - address % 4) 4) (went (passed s effect (set_register reg (loaded_open s.ram how old address)))) (stopped_by s null.Address) (λ (a : Answer). length a.0.ram ≡ length s.ram)
+    cond_both (holds s.ram (address - address % 4) 4) (done_answer (open_after s effect (set_register reg (loaded_open s.ram how old address)))) (stopped_by s null.Address) (λ (a : Answer). length a.0.ram ≡ length s.ram)
     (λ _. refl) (λ _. refl)
 length-granted told s effect (wish.Store address count value) =
-    cond_both (holds s.ram address count) (went (stored_open (passed s effect effect.writes) address (low_bytes count value))) (stopped_by s null.Address) (λ (a : Answer). length a.0.ram ≡ length s.ram)
+    cond_both (holds s.ram address count) (done_answer (stored_open (open_after s effect effect.writes) address (low_bytes count value))) (stopped_by s null.Address) (λ (a : Answer). length a.0.ram ≡ length s.ram)
     (λ is. length-written_at s.ram address (low_bytes count value)
     (let within : address + count ≤ length s.ram = grind (arith, nat_tests) in let size = length-drop (4 - count) (to_be_bytes w32 value) in omega arith))
     (λ _. refl)

@@ -22,9 +22,9 @@ use Rattle.mips_effect.specs.Effects.{act, effect_of, is_barred, is_open, is_res
 use Rattle.mips_plain.specs.Memory.{low_bytes}
 use Rattle.xom_versions.specs.Versions.{Versions}
 use Rattle.xom_model.specs.State.{holds, CoreState, Record}
-use Rattle.xom_model.specs.Null.{Answer, Open, Told, fetched_open, granted, loaded_open, null_step, passed, ran_open, seen_open, stopped_by, stored_open, tried_open, went}
+use Rattle.xom_model.specs.Null.{Answer, Open, Told, done_answer, fetched_open, loaded_open, null_step, open_after, ran_open, seen_open, stopped_by, stored_open, tried_open, wish_answer}
 use Rattle.xom_model.specs.Operation.{operation}
-use Rattle.xom_model.specs.Event.{is_halt, null_turn, on, open_in, operated, running, told_in, with_open}
+use Rattle.xom_model.specs.Event.{after_operation, is_halt, null_turn, on, open_in, running_slot, told_in, with_open}
 use Rattle.xom_model.specs.Refused.{DoRefused, IsRefusal, NullRefused}
 use Rattle.xom_model.proofs.Refusals.{refusals_change_nothing}
 
@@ -144,14 +144,14 @@ stays_either : (s : Open) (b : Bool) (one other : Answer) → Stays s one → St
 stays_either s true one other first second = first
 stays_either s false one other first second = second
 
-granted_stays : (told : Told) (s : Open) (effect : Effect) → AsksOnly effect → (wished : Wish) → effect.wish ≡ wished → Stays s (granted told s effect wished)
+granted_stays : (told : Told) (s : Open) (effect : Effect) → AsksOnly effect → (wished : Wish) → effect.wish ≡ wished → Stays s (wish_answer told s effect wished)
 granted_stays told s effect asks wish.Nothing is op asked = absurd (cc)
 granted_stays told s effect asks (wish.Load reg address how old) is op asked =
-    stays_either s (holds s.ram (address - address % 4) 4) (went (passed s effect (set_register reg (loaded_open s.ram how old address)))) (stopped_by s null.Address) (λ o no_op. absurd (cc)) (λ o no_op. absurd (cc)) op asked
+    stays_either s (holds s.ram (address - address % 4) 4) (done_answer (open_after s effect (set_register reg (loaded_open s.ram how old address)))) (stopped_by s null.Address) (λ o no_op. absurd (cc)) (λ o no_op. absurd (cc)) op asked
 granted_stays told s effect asks (wish.Store address count value) is op asked =
-    stays_either s (holds s.ram address count) (went (stored_open (passed s effect effect.writes) address (low_bytes count value))) (stopped_by s null.Address) (λ o no_op. absurd (cc)) (λ o no_op. absurd (cc)) op asked
+    stays_either s (holds s.ram address count) (done_answer (stored_open (open_after s effect effect.writes) address (low_bytes count value))) (stopped_by s null.Address) (λ o no_op. absurd (cc)) (λ o no_op. absurd (cc)) op asked
 granted_stays told s effect asks (wish.Call code) is op asked = absurd (cc)
-granted_stays told s effect asks (wish.Do done) is op asked = (ap (λ written. (passed s effect written).cells) (asks done is), refl)
+granted_stays told s effect asks (wish.Do done) is op asked = (ap (λ written. (open_after s effect written).cells) (asks done is), refl)
 granted_stays told s effect asks (wish.Ask reg what) is op asked = absurd (cc)
 granted_stays told s effect asks (wish.Release reg value) is op asked = absurd (cc)
 granted_stays told s effect asks (wish.Receive reg from) is op asked = absurd (cc)
@@ -197,7 +197,7 @@ core_same v core op refusal = elim (refusals_change_nothing v core op) [
 
 -- a machine that isn't halted
 operated_refused : (v : Versions) (r : Record) (op : Op) → r.halted ≡ false → IsRefusal (operation v r.core op).1
-    → (operated r op (operation v r.core op)).0 ≡ record r { status = (operation v r.core op).1; events = r.events + 1 }
+    → (after_operation r op (operation v r.core op)).0 ≡ record r { status = (operation v r.core op).1; events = r.events + 1 }
 operated_refused v r op goes refusal =
     let status = (operation v r.core op).1 in
     ap (λ core. let new : Record = record r { core = core; status = status; events = r.events + 1; halted = is_halt op } in new) (core_same v r.core op refusal)
@@ -209,7 +209,7 @@ going false other is = refl
 
 pub do_refused : DoRefused
 unfolding on
-do_refused v r op bytes fit refusal = operated_refused v r op (going r.halted (is_none (running r)) fit) refusal
+do_refused v r op bytes fit refusal = operated_refused v r op (going r.halted (is_none (running_slot r)) fit) refusal
 
 null_refused_by : (v : Versions) (r : Record) (op : Op) (answer : Answer) → r.halted ≡ false → answer.1 ≡ Ok (Some op) → (answer.0.cells ≡ r.core.cells) × (answer.0.ram ≡ r.core.ram) → IsRefusal (null_turn v r answer).0.status
     → (null_turn v r answer).0 ≡ record r { status = (null_turn v r answer).0.status; events = r.events + 1; pc = answer.0.pc; npc = answer.0.npc }
@@ -224,4 +224,4 @@ null_refused_by v r op (s, Ok (Some asked)) goes is same refusal =
 pub null_refused : NullRefused
 unfolding on
 null_refused v r op bytes fit asked refusal =
-    null_refused_by v r op (null_step (told_in r) (open_in r)) (going r.halted (is_none (running r)) fit) asked (null_stays (told_in r) (open_in r) op asked) refusal
+    null_refused_by v r op (null_step (told_in r) (open_in r)) (going r.halted (is_none (running_slot r)) fit) asked (null_stays (told_in r) (open_in r) op asked) refusal

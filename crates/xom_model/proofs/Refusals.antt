@@ -9,8 +9,8 @@ use Rattle.session_table.specs.declared.session.SlotState.{SlotState}
 use Rattle.session_table.specs.declared.session.SlotState.TheVariants as state
 use Rattle.xom_versions.specs.Versions.{Versions}
 use Rattle.xom_model.specs.State.{CoreState, session_of}
-use Rattle.xom_model.specs.Access.{flushed}
-use Rattle.xom_model.specs.Operation.{enter, envelope_at, go_on, image_tests, install_tests, is_cell, is_slot, kill_tests, map_tests, missing, operation, refused, reopened, restore_tests, resume, save_tests, takes, tested, unmap_tests, unmapped, unwrap}
+use Rattle.xom_model.specs.Access.{after_flush}
+use Rattle.xom_model.specs.Operation.{after_reopening, after_unmap, enter, envelope_at, first_refusal_or, go_on, image_tests, install_tests, is_cell, is_slot, kill_tests, map_tests, missing_cell, operation, refusal_of, restore_tests, resume, save_tests, slot_takes_signal, unmap_tests, unwrap}
 use Rattle.xom_model.specs.Laws.{RefusalsChangeNothing}
 
 -- each outcome of an operation
@@ -38,25 +38,25 @@ resume_outcome core slot signal state.Free = inr (inr refl)
 resume_outcome core slot signal state.Fresh = inr (inr refl)
 resume_outcome core slot signal state.Running = inr (inr refl)
 resume_outcome core slot signal state.Paused =
-    either core (nat_le signal 63) (cond (takes (session_of core slot) signal) (go_on core slot signal (missing slot (session_of core slot).mask core.cells)) (core, 2)) (core, 7)
-    (either core (takes (session_of core slot) signal) (go_on core slot signal (missing slot (session_of core slot).mask core.cells)) (core, 2) (go_on_outcome core slot signal _) (inr (inr refl)))
+    either core (nat_le signal 63) (cond (slot_takes_signal (session_of core slot) signal) (go_on core slot signal (missing_cell slot (session_of core slot).mask core.cells)) (core, 2)) (core, 7)
+    (either core (slot_takes_signal (session_of core slot) signal) (go_on core slot signal (missing_cell slot (session_of core slot).mask core.cells)) (core, 2) (go_on_outcome core slot signal _) (inr (inr refl)))
     (inr (inr refl))
 resume_outcome core slot signal state.Ended = inr (inr refl)
 resume_outcome core slot signal (state.Stopped why) = inr (inr refl)
 
-tested_outcome : (core : CoreState) (tests : List (Bool × ℕ)) (deed : CoreState × ℕ) → Outcome core deed → Outcome core (tested core tests deed)
+tested_outcome : (core : CoreState) (tests : List (Bool × ℕ)) (deed : CoreState × ℕ) → Outcome core deed → Outcome core (first_refusal_or core tests deed)
 tested_outcome core [] deed outcome = outcome
-tested_outcome core (test ∷ tests) deed outcome = either core test.0 (refused core test.1) (tested core tests deed) (inr (inr refl)) (tested_outcome core tests deed outcome)
+tested_outcome core (test ∷ tests) deed outcome = either core test.0 (refusal_of core test.1) (first_refusal_or core tests deed) (inr (inr refl)) (tested_outcome core tests deed outcome)
 
 unwrap_outcome : (v : Versions) (core : CoreState) (slot place area : ℕ) (found : Option Unwrapped) → Outcome core (unwrap v core slot place area found)
 unwrap_outcome v core slot place area None = inr (inr refl)
 unwrap_outcome v core slot place area (Some plain) = tested_outcome core (image_tests core plain) _ (inl refl)
 
-unmapped_outcome : (v : Versions) (core : CoreState) (slot page : ℕ) (result : CoreState × Option Rule) → Outcome core (unmapped v slot page result)
+unmapped_outcome : (v : Versions) (core : CoreState) (slot page : ℕ) (result : CoreState × Option Rule) → Outcome core (after_unmap v slot page result)
 unmapped_outcome v core slot page (new, None) = inl refl
 unmapped_outcome v core slot page (new, Some why) = inr (inl refl)
 
-reopened_outcome : (core : CoreState) (slot reg address : ℕ) (found : Option ℕ) → Outcome core (reopened core slot reg address found)
+reopened_outcome : (core : CoreState) (slot reg address : ℕ) (found : Option ℕ) → Outcome core (after_reopening core slot reg address found)
 reopened_outcome core slot reg address None = inr (inl refl)
 reopened_outcome core slot reg address (Some value) = inl refl
 
@@ -71,6 +71,6 @@ refusals_change_nothing v core (Install slot place area) =
 refusals_change_nothing v core (Save slot reg address) = tested_outcome core (save_tests core slot reg address) _ (inl refl)
 refusals_change_nothing v core (Restore slot reg address) = tested_outcome core (restore_tests core slot reg address) _ (reopened_outcome core slot reg address _)
 refusals_change_nothing v core (Map slot page frame) = tested_outcome core (map_tests core slot page frame) _ (inl refl)
-refusals_change_nothing v core (Unmap slot page) = tested_outcome core (unmap_tests core slot page) _ (unmapped_outcome v core slot page (flushed v slot 128 (128 * page) core))
+refusals_change_nothing v core (Unmap slot page) = tested_outcome core (unmap_tests core slot page) _ (unmapped_outcome v core slot page (after_flush v slot 128 (128 * page) core))
 refusals_change_nothing v core (Kill slot) = tested_outcome core (kill_tests core slot) _ (inl refl)
 refusals_change_nothing v core (Out byte) = inl refl

@@ -9,8 +9,8 @@ use Rattle.mips_effect.specs.Effects.{AreCells, IsInRange, Ranged, set as set_re
 use Rattle.mips_plain.specs.declared.given.Given.{Given}
 use Rattle.mips_plain.specs.declared.given.PlainStep.TheVariants.{Did, Over, Unfit}
 use Rattle.mips_plain.specs.declared.given.Given.TheVariants as given
-use Rattle.mips_plain.specs.Instruction.{fetched, tried, made, step_made, word_for, is_signal, is_signal_ready, signal_step}
-use Rattle.mips_plain.specs.Machine.{State, plain, answered, signal_answered, signalled, did, stepped, seen}
+use Rattle.mips_plain.specs.Instruction.{effect_at, instruction_in, is_signal, is_signal_ready, signal_step, step_made, step_of_wish, word_for}
+use Rattle.mips_plain.specs.Machine.{State, answer_to, plain, seen_of_cell, signal_answered, state_after_signal, state_after_step, step_done}
 use Rattle.mips_plain.specs.Follows.{given_of}
 use Rattle.tag_regs.specs.declared.cell.Cell.{Cell}
 use Rattle.xom_model.specs.Guest.{received_by}
@@ -24,7 +24,7 @@ set-AreCells reg value known = elim (eqb_tells reg 0) [
 ]
 
 -- the cells that a step writes are known
-made-AreCells : (pc npc : ℕ) (written : Writes) (wished : Wish) (word : ℕ) (got : ℕ) → AreCells written → IsInRange wished → AreCells (made pc npc written wished word got).writes
+made-AreCells : (pc npc : ℕ) (written : Writes) (wished : Wish) (word : ℕ) (got : ℕ) → AreCells written → IsInRange wished → AreCells (step_of_wish pc npc written wished word got).writes
 made-AreCells pc npc written wish.Nothing word got cells range = cells
 made-AreCells pc npc written (wish.Load reg address how old) word got cells range = set-AreCells reg _ range.register
 made-AreCells pc npc written (wish.Store address count value) word got cells range = cells
@@ -44,7 +44,7 @@ unfolding step_made
 step_made-AreCells pc npc effect word got ranged = made-AreCells pc npc effect.writes effect.wish word got ranged.writes ranged.wish
 
 -- and so is the one that it releases
-made-IsKnown : (pc npc : ℕ) (written : Writes) (wished : Wish) (word : ℕ) (got : ℕ) → IsInRange wished → IsKnown (made pc npc written wished word got).released
+made-IsKnown : (pc npc : ℕ) (written : Writes) (wished : Wish) (word : ℕ) (got : ℕ) → IsInRange wished → IsKnown (step_of_wish pc npc written wished word got).released
 made-IsKnown pc npc written wish.Nothing word got range = tt
 made-IsKnown pc npc written (wish.Load reg address how old) word got range = tt
 made-IsKnown pc npc written (wish.Store address count value) word got range = tt
@@ -65,8 +65,8 @@ step_made-IsKnown pc npc effect word got ranged = made-IsKnown pc npc effect.wri
 
 -- given what a step received, the plain machine does it
 answered-made : (p : State) (cells : List Cell) (ram : List ℕ) (pc npc next after : ℕ) (written : Writes) (wished : Wish) (word : ℕ)
-    → answered p (given_of (made pc npc written wished word (received_by cells ram wished)).received) (Ok (record { writes = written; wish = wished; pc = next; npc = after }))
-    ≡ did p (record { writes = written; wish = wished; pc = next; npc = after }) (received_by cells ram wished)
+    → answer_to p (given_of (step_of_wish pc npc written wished word (received_by cells ram wished)).received) (Ok (record { writes = written; wish = wished; pc = next; npc = after }))
+    ≡ step_done p (record { writes = written; wish = wished; pc = next; npc = after }) (received_by cells ram wished)
 answered-made p cells ram pc npc next after written wish.Nothing word = refl
 answered-made p cells ram pc npc next after written (wish.Load reg address how old) word = refl
 answered-made p cells ram pc npc next after written (wish.Store address count value) word = refl
@@ -82,27 +82,27 @@ answered-made p cells ram pc npc next after written (wish.Do operation) word = r
 answered-made p cells ram pc npc next after written (wish.Ask reg what) word = refl
 
 answered-step : (p : State) (cells : List Cell) (ram : List ℕ) (pc npc : ℕ) (effect : Effect) (word : ℕ)
-    → answered p (given_of (step_made pc npc effect word (received_by cells ram effect.wish)).received) (Ok effect) ≡ did p effect (received_by cells ram effect.wish)
+    → answer_to p (given_of (step_made pc npc effect word (received_by cells ram effect.wish)).received) (Ok effect) ≡ step_done p effect (received_by cells ram effect.wish)
 unfolding step_made
 answered-step p cells ram pc npc effect word = answered-made p cells ram pc npc effect.pc effect.npc effect.writes effect.wish word
 
 -- the plain machine over a state that isn't over, where its instruction comes to a result
-pub plain-answered : (p : State) (given : Given) → p.over ≡ false → plain p given ≡ answered p given (tried (seen p.cells) p.kept (fetched p.bytes p.pc) p.pc p.npc)
+pub plain-answered : (p : State) (given : Given) → p.over ≡ false → plain p given ≡ answer_to p given (effect_at (seen_of_cell p.cells) p.kept (instruction_in p.bytes p.pc) p.pc p.npc)
 unfolding plain
 plain-answered p given over = rw over refl
 
 -- the step of an effect that comes to a running guest is that of its program
-pub plain-does : (p : State) (cells : List Cell) (ram : List ℕ) (effect : Effect) → p.over ≡ false → tried (seen p.cells) p.kept (fetched p.bytes p.pc) p.pc p.npc ≡ Ok effect
+pub plain-does : (p : State) (cells : List Cell) (ram : List ℕ) (effect : Effect) → p.over ≡ false → effect_at (seen_of_cell p.cells) p.kept (instruction_in p.bytes p.pc) p.pc p.npc ≡ Ok effect
     → plain p (given_of (step_made p.pc p.npc effect (word_for p.bytes effect.wish) (received_by cells ram effect.wish)).received)
-    ≡ (Did (step_made p.pc p.npc effect (word_for p.bytes effect.wish) (received_by cells ram effect.wish)), stepped p effect (step_made p.pc p.npc effect (word_for p.bytes effect.wish) (received_by cells ram effect.wish)))
+    ≡ (Did (step_made p.pc p.npc effect (word_for p.bytes effect.wish) (received_by cells ram effect.wish)), state_after_step p effect (step_made p.pc p.npc effect (word_for p.bytes effect.wish) (received_by cells ram effect.wish)))
 plain-does p cells ram effect over comes =
     plain-answered p _ over
-    ∙ ap (answered p (given_of (step_made p.pc p.npc effect (word_for p.bytes effect.wish) (received_by cells ram effect.wish)).received)) comes
+    ∙ ap (answer_to p (given_of (step_made p.pc p.npc effect (word_for p.bytes effect.wish) (received_by cells ram effect.wish)).received)) comes
     ∙ answered-step p cells ram p.pc p.npc effect (word_for p.bytes effect.wish)
 
 -- a signal that the program takes
-pub plain-signals : (p : State) (n : ℕ) → p.over ≡ false → (is_signal n && is_signal_ready p.handler p.kept) ≡ true → plain p (given.Signal n) ≡ (Did (signal_step p.pc p.npc n), signalled p n)
+pub plain-signals : (p : State) (n : ℕ) → p.over ≡ false → (is_signal n && is_signal_ready p.handler p.kept) ≡ true → plain p (given.Signal n) ≡ (Did (signal_step p.pc p.npc n), state_after_signal p n)
 unfolding plain
 plain-signals p n over ready =
     ap (λ b. cond b (Over, p) (signal_answered p n)) over
-    ∙ ap (λ b. cond b (Did (signal_step p.pc p.npc n), signalled p n) (Unfit, p)) ready
+    ∙ ap (λ b. cond b (Did (signal_step p.pc p.npc n), state_after_signal p n) (Unfit, p)) ready

@@ -13,9 +13,9 @@ use Rattle.xom_model.specs.declared.outcome.Turn.{Turn}
 use Rattle.xom_model.specs.declared.outcome.Turn.TheVariants as turn
 use Rattle.xom_versions.specs.Versions.{Versions}
 use Rattle.xom_model.specs.State.{Record}
-use Rattle.xom_model.specs.Event.{chunk_size, fits, on, running}
+use Rattle.xom_model.specs.Event.{chunk_size, fits, on, running_slot}
 use Rattle.xom_model.specs.Seen.{View, view_of}
-use Rattle.xom_model.specs.Run.{IsPoke, IsSchedule, event_of, is_flagged, one_event, own_event, poke_at, run_from, turned}
+use Rattle.xom_model.specs.Run.{IsPoke, IsSchedule, after_turn, event_of, is_flagged, one_event, own_event, poke_at, run_from}
 use Rattle.xom_model.specs.Sequence.{IsRunOf, RunsAreEvents}
 
 -- a write that is found is one of the list
@@ -47,17 +47,17 @@ module _ (v : Versions) {K : Type 0} (told : K → View → Option (Turn × (Lis
 
   module _ (n : ℕ) (next : (guests : ℕ) (r : Record) (k : K) (last : Record) → run_from v told schedule n guests r k ≡ Some last → IsRunOf v n r last)
       (guests : ℕ) (r last : Record) (k : K) (going : r.halted ≡ false) where
-    by_turn : running r ≡ None → (t : Turn) (chunk : List ℕ) (k' : K) → run_from v told schedule n guests (on v r (event_of t) chunk).0 k' ≡ Some last → IsRunOf v (suc n) r last
+    by_turn : running_slot r ≡ None → (t : Turn) (chunk : List ℕ) (k' : K) → run_from v told schedule n guests (on v r (event_of t) chunk).0 k' ≡ Some last → IsRunOf v (suc n) r last
     by_turn none (turn.Do op) chunk k' is = first n r last (event.Do op) chunk (rw (going, none) refl) (next guests _ k' last is)
     by_turn none (turn.Write address count) chunk k' is =
         first n r last (event.Write address (min count chunk_size)) chunk (rw (going, none) (fits_in (min count chunk_size) (min-le_right count chunk_size))) (next guests _ k' last is)
     by_turn none turn.Null chunk k' is = first n r last event.Null chunk (rw (going, none) refl) (next guests _ k' last is)
 
-    by_told : running r ≡ None → (answer : Option (Turn × (List ℕ × K))) → turned v told schedule (run_from v told schedule n) guests r answer ≡ Some last → IsRunOf v (suc n) r last
+    by_told : running_slot r ≡ None → (answer : Option (Turn × (List ℕ × K))) → after_turn v told schedule (run_from v told schedule n) guests r answer ≡ Some last → IsRunOf v (suc n) r last
     by_told none None is = absurd (cc)
     by_told none (Some (t, (chunk, k'))) is = by_turn none t chunk k' is
 
-    by_running : (at : Option ℕ) → running r ≡ at → own_event v told schedule (run_from v told schedule n) guests r k at ≡ Some last → IsRunOf v (suc n) r last
+    by_running : (at : Option ℕ) → running_slot r ≡ at → own_event v told schedule (run_from v told schedule n) guests r k at ≡ Some last → IsRunOf v (suc n) r last
     by_running (Some slot) runs is =
         first n r last (event.Guest (is_flagged schedule.interrupts (guests + 1))) [] (rw (going, runs) refl) (next (guests + 1) _ k last is)
     by_running None none is = by_told none (told k (view_of r)) is
@@ -66,7 +66,7 @@ module _ (v : Versions) {K : Type 0} (told : K → View → Option (Turn × (Lis
     by_poke (Some poke) listed is =
         let is_poke = found-IsPoke _ schedule.pokes poke keeps.pokes listed in
         first n r last (event.Poke poke.address (length poke.bytes)) poke.bytes (rw going (fits_in (length poke.bytes) is_poke.few)) (next guests _ k last is)
-    by_poke None none is = by_running (running r) refl is
+    by_poke None none is = by_running (running_slot r) refl is
 
   pub run-IsRunOf : (n guests : ℕ) (r : Record) (k : K) (last : Record) → run_from v told schedule n guests r k ≡ Some last → IsRunOf v n r last
   unfolding run_from

@@ -17,32 +17,32 @@ use Rattle.mips_effect.proofs.Ranges.{sources_of-below, effect_of-Ranged}
 use Rattle.mips_plain.specs.declared.cell.PlainCell.{PlainCell}
 use Rattle.mips_plain.specs.declared.cell.PlainCell.TheVariants.{Own, Lent}
 use Rattle.mips_plain.specs.Memory.{word_at}
-use Rattle.mips_plain.specs.Instruction.{fetched, known, is_code, tried, returned, with_return}
-use Rattle.mips_plain.specs.Machine.{seen, seen_in, cell_at as plain_cell}
+use Rattle.mips_plain.specs.Instruction.{effect_at, instruction_in, instruction_or_fault, is_code, with_kept_pair, with_return}
+use Rattle.mips_plain.specs.Machine.{cell_at as plain_cell, seen_in, seen_of_cell}
 use Rattle.tag_regs.specs.declared.cell.Cell.{Cell}
 use Rattle.tag_regs.specs.TaggedCells.{cell_at}
 use Rattle.xom_model.specs.Guest.{seen_as, seen_by}
 use Rattle.xom_model.specs.Holds.{own_bit}
 
 -- a fetched word is an instruction whose operands are in their ranges
-known-Fits : (found : Option Ins) (ins : Ins) → ((i : Ins) → found ≡ Some i → Fits i) → known found ≡ Ok ins → Fits ins
+known-Fits : (found : Option Ins) (ins : Ins) → ((i : Ins) → found ≡ Some i → Fits i) → instruction_or_fault found ≡ Ok ins → Fits ins
 known-Fits None ins fits is = absurd (cc)
 known-Fits (Some i) ins fits is = fits ins (cc)
 
-chosen-Fits : (b : Bool) (found : Option Ins) (ins : Ins) (fault : OwnFault) → ((i : Ins) → found ≡ Some i → Fits i) → cond b (known found) (Err fault) ≡ Ok ins → Fits ins
+chosen-Fits : (b : Bool) (found : Option Ins) (ins : Ins) (fault : OwnFault) → ((i : Ins) → found ≡ Some i → Fits i) → cond b (instruction_or_fault found) (Err fault) ≡ Ok ins → Fits ins
 chosen-Fits true found ins fault fits is = known-Fits found ins fits is
 chosen-Fits false found ins fault fits is = absurd (cc)
 
-pub fetched-Fits : (bytes : List ℕ) (pc : ℕ) (ins : Ins) → fetched bytes pc ≡ Ok ins → Fits ins
-unfolding fetched
+pub fetched-Fits : (bytes : List ℕ) (pc : ℕ) (ins : Ins) → instruction_in bytes pc ≡ Ok ins → Fits ins
+unfolding instruction_in
 fetched-Fits bytes pc ins is = chosen-Fits (is_code pc) (read (word_at bytes pc)) ins _ (λ i has. read-Fits i (word_at bytes pc) has) is
 
 -- what is tried depends on nothing but what is seen in cells below 34
-pub tried-same : (see sight : ℕ → Seen) (kept : Option (ℕ × ℕ)) (found : Result Ins OwnFault) (pc npc : ℕ) → ((ins : Ins) → found ≡ Ok ins → Fits ins) → ((reg : ℕ) → reg < 34 → see reg ≡ sight reg) → tried see kept found pc npc ≡ tried sight kept found pc npc
+pub tried-same : (see sight : ℕ → Seen) (kept : Option (ℕ × ℕ)) (found : Result Ins OwnFault) (pc npc : ℕ) → ((ins : Ins) → found ≡ Ok ins → Fits ins) → ((reg : ℕ) → reg < 34 → see reg ≡ sight reg) → effect_at see kept found pc npc ≡ effect_at sight kept found pc npc
 tried-same see sight kept (Err fault) pc npc fits same = refl
 tried-same see sight kept (Ok ins) pc npc fits same =
     let below = sources_of-below ins (fits ins refl) in
-    ap (returned kept)
+    ap (with_kept_pair kept)
     (ap (λ first. effect_of ins Guest first (see (sources_of ins).1) (see (sources_of ins).2) pc npc) (same (sources_of ins).0 below.0)
     ∙ ap (λ second. effect_of ins Guest (sight (sources_of ins).0) second (see (sources_of ins).2) pc npc) (same (sources_of ins).1 below.1)
     ∙ ap (λ third. effect_of ins Guest (sight (sources_of ins).0) (sight (sources_of ins).1) third pc npc) (same (sources_of ins).2 below.2))
@@ -71,12 +71,12 @@ returned-Ranged_at kept before effect (wish.Call code) ranged is = ok_ranged bef
 returned-Ranged_at kept before effect (wish.Do operation) ranged is = ok_ranged before effect ranged is
 returned-Ranged_at kept before effect (wish.Ask reg what) ranged is = ok_ranged before effect ranged is
 
-returned-Ranged : (kept : Option (ℕ × ℕ)) (found : Result Effect OwnFault) (effect : Effect) → ((before : Effect) → found ≡ Ok before → Ranged before) → returned kept found ≡ Ok effect → Ranged effect
+returned-Ranged : (kept : Option (ℕ × ℕ)) (found : Result Effect OwnFault) (effect : Effect) → ((before : Effect) → found ≡ Ok before → Ranged before) → with_kept_pair kept found ≡ Ok effect → Ranged effect
 returned-Ranged kept (Err fault) effect ranged is = absurd (cc)
 returned-Ranged kept (Ok before) effect ranged is = returned-Ranged_at kept before effect before.wish (ranged before refl) is
 
 -- an effect that is tried has its numbers in their ranges
-pub tried-Ranged : (see : ℕ → Seen) (kept : Option (ℕ × ℕ)) (found : Result Ins OwnFault) (pc npc : ℕ) (effect : Effect) → ((ins : Ins) → found ≡ Ok ins → Fits ins) → tried see kept found pc npc ≡ Ok effect → Ranged effect
+pub tried-Ranged : (see : ℕ → Seen) (kept : Option (ℕ × ℕ)) (found : Result Ins OwnFault) (pc npc : ℕ) (effect : Effect) → ((ins : Ins) → found ≡ Ok ins → Fits ins) → effect_at see kept found pc npc ≡ Ok effect → Ranged effect
 tried-Ranged see kept (Err fault) pc npc effect fits is = absurd (cc)
 tried-Ranged see kept (Ok ins) pc npc effect fits is =
     returned-Ranged kept _ effect (λ before found. effect_of-Ranged ins _ _ _ pc npc before (fits ins refl) found) is
@@ -97,10 +97,10 @@ pub sight-same : (slot : ℕ) (cells : List Cell) (owns : List PlainCell) (mask 
     → ((reg : ℕ) → 1 ≤ reg → reg < 34 → bit_at mask reg ≡ own_bit (plain_cell owns reg))
     → ((reg : ℕ) → 1 ≤ reg → reg < 34 → (cell_at cells reg).tag ≡ slot → plain_cell owns reg ≡ Own (cell_at cells reg).value)
     → ((reg : ℕ) → 1 ≤ reg → reg < 34 → bit_at mask reg ≡ 1 → (cell_at cells reg).tag ≡ slot)
-    → (reg : ℕ) → reg < 34 → seen owns reg ≡ seen_by slot cells reg
-sight-same slot cells owns mask bits owned tagged reg known = elim (eqb_tells reg 0) [
+    → (reg : ℕ) → reg < 34 → seen_of_cell owns reg ≡ seen_by slot cells reg
+sight-same slot cells owns mask bits owned tagged reg instruction_or_fault = elim (eqb_tells reg 0) [
   | inl none ↦ rw none.0 refl
   | inr some ↦
       let from : 1 ≤ reg = let differs : reg ≢ 0 = some.1 in omega arith in
-      rw some.0 (sight-of_cell slot (cell_at cells reg) (plain_cell owns reg) (bit_at mask reg) (bits reg from known) (owned reg from known) (tagged reg from known))
+      rw some.0 (sight-of_cell slot (cell_at cells reg) (plain_cell owns reg) (bit_at mask reg) (bits reg from instruction_or_fault) (owned reg from instruction_or_fault) (tagged reg from instruction_or_fault))
 ]

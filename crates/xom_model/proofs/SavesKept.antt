@@ -18,7 +18,7 @@ use Rattle.xom_model.specs.Honest.{Sealing, seals_of}
 use Rattle.xom_versions.specs.Versions.{VersionLaw, Versions, start_version}
 use Rattle.xom_model.specs.Versions.{StandsFor}
 use Rattle.xom_model.specs.State.{CoreState, session_of, store_of}
-use Rattle.xom_model.specs.Lines.{Who, line_seals, names_line, names_version, ver, version_seals, who_of}
+use Rattle.xom_model.specs.Lines.{Who, line_seals, names_line, names_version, version_of_line, version_seals, who_of}
 use Rattle.xom_model.specs.Saves.{IsOnce, SavesAgree, SealsHold, before_ct, reg_keys, reg_name, reg_pair, reg_seal_entry}
 use Rattle.xom_model.specs.Operation.{epoch_of}
 use Rattle.xom_model.specs.Holds.{Holds, IsHeld, IsLive, IsRunning, LineHolds, Private, Shape, line_in}
@@ -180,15 +180,15 @@ module _ (Stands : StandsFor) (owners : List Owner) (v : Versions) (law : Versio
         store_places = shape.store_places;
       }
 
-  ver_same : (k line : ℕ) → ver (who_of core k) seals line ≡ ver (who_of core k) (seals_of entries) line
+  ver_same : (k line : ℕ) → version_of_line (who_of core k) seals line ≡ version_of_line (who_of core k) (seals_of entries) line
   ver_same k line = ap (λ l. start_version (who_of core k).lines line + length l) (sym (ap (line_seals (session_of core k).install line) seals_are ∙ lines_same (session_of core k).install line))
 
   private_out : (k : ℕ) (owner : Owner) (memory : ℕ → List ℕ) → Private Stands core k owner memory → Private Stands out k owner memory
   private_out k owner memory old = record {
     lines = λ line low. subst (λ s. LineHolds owner (who_of core k) k line core.ways s (memory line)) (sym seals_are)
         (line_more owner (who_of core k) k line core.ways seals (seals ++ pair ∷ []) (memory line) (lines_same (session_of core k).install line) (λ version. versions_same (session_of core k).install line version) (old.lines line low));
-    stands = law.alike entries (store_of core k) (ver (who_of core k) seals) (ver (who_of core k) (seals_of entries)) (λ line low. ver_same k line)
-        (law.longer core.entries (seal ∷ []) (store_of core k) (ver (who_of core k) seals) old.stands);
+    stands = law.alike entries (store_of core k) (version_of_line (who_of core k) seals) (version_of_line (who_of core k) (seals_of entries)) (λ line low. ver_same k line)
+        (law.longer core.entries (seal ∷ []) (store_of core k) (version_of_line (who_of core k) seals) old.stands);
   }
 
   held_out : (k : ℕ) → IsLive core k → IsHeld Stands owners out k

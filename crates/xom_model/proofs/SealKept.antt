@@ -20,7 +20,7 @@ use Rattle.xom_model.specs.Versions.{StandsFor}
 use Rattle.line_cache.specs.declared.way.Way.{Way}
 use Rattle.line_cache.specs.Ways.{way_at}
 use Rattle.xom_model.specs.State.{CoreState, no_store, session_of, store_of}
-use Rattle.xom_model.specs.Lines.{Who, is_image_at, line_seals, run_name, run_pair, seal_entry, ver, version_seals, who_of}
+use Rattle.xom_model.specs.Lines.{Who, is_image_at, line_seals, run_name, run_pair, seal_entry, version_of_line, version_seals, who_of}
 use Rattle.xom_model.specs.Holds.{Behind, RamFits, IsLive, IsOf, LineHolds, Private, Shape}
 use Rattle.xom_model.specs.Kept.{Kept}
 use Rattle.xom_model.proofs.Growth.{Goes, few_seals, goes_entry, goes_hashes, goes_on, seals_hashes, seals_more}
@@ -51,7 +51,7 @@ pub line_more : (owner : Owner) (who : Who) (slot line : ℕ) (ways : List Way) 
     → ((version : ℕ) → version_seals who.install line version more ≡ version_seals who.install line version seals)
     → LineHolds owner who slot line ways seals bytes → LineHolds owner who slot line ways more bytes
 line_more owner who slot line ways seals more bytes lines versions holds =
-    let same : ver who more line ≡ ver who seals line = ap (λ l. start_version who.lines line + length l) lines in
+    let same : version_of_line who more line ≡ version_of_line who seals line = ap (λ l. start_version who.lines line + length l) lines in
     record {
       cached = holds.cached;
       behind = λ clean. let b = holds.behind clean in
@@ -93,18 +93,18 @@ module _ (Stands : StandsFor) (owners : List Owner) (v : Versions) (law : Versio
 
   -- ---- The version
 
-  what : (number ≡ (ver who seals line + 1) % 2 ^ 64) × Stands store first (with_version (ver who seals) line number)
-  what = subst (λ t. (number ≡ (ver who seals line + 1) % 2 ^ 64) × Stands store (core.entries ++ map hash_entry t) (with_version (ver who seals) line number)) texts_are
-      (law.raises core.entries (store_of core slot) (ver who seals) line number core.ram holds.stands low (subst (λ t. NoCollision (core.entries ++ map hash_entry t)) (sym texts_are) honest) raised)
+  what : (number ≡ (version_of_line who seals line + 1) % 2 ^ 64) × Stands store first (with_version (version_of_line who seals) line number)
+  what = subst (λ t. (number ≡ (version_of_line who seals line + 1) % 2 ^ 64) × Stands store (core.entries ++ map hash_entry t) (with_version (version_of_line who seals) line number)) texts_are
+      (law.raises core.entries (store_of core slot) (version_of_line who seals) line number core.ram holds.stands low (subst (λ t. NoCollision (core.entries ++ map hash_entry t)) (sym texts_are) honest) raised)
 
-  ver_low : ver who seals line ≤ length core.entries + 1
+  ver_low : version_of_line who seals line ≤ length core.entries + 1
   ver_low =
       let a = few_first who.lines line in
       let b : length (line_seals who.install line seals) ≤ length seals = few_pass _ seals in
       let c : length seals ≤ length core.entries = few_seals core.entries in
       omega arith
 
-  number_is : number ≡ ver who seals line + 1
+  number_is : number ≡ version_of_line who seals line + 1
   number_is = what.0 ∙ (let a = ver_low in omega arith)
 
   number_low : number < 2 ^ 64
@@ -139,7 +139,7 @@ module _ (Stands : StandsFor) (owners : List Owner) (v : Versions) (law : Versio
 
   -- ---- The line itself
 
-  ver_is : ver who (seals ++ pair ∷ []) line ≡ number
+  ver_is : version_of_line who (seals ++ pair ∷ []) line ≡ number
   ver_is = ap (λ n. start_version who.lines line + n) (own_count who line number bytes (install_low slot) low number_low seals) ∙ (let a = number_is in omega arith)
 
   one_seal : version_seals who.install line number (seals ++ pair ∷ []) ≡ pair ∷ []
@@ -147,7 +147,7 @@ module _ (Stands : StandsFor) (owners : List Owner) (v : Versions) (law : Versio
       own_version who line number bytes (install_low slot) low number_low seals
       ∙ ap (λ l. l ++ pair ∷ []) ((holds.lines line low).above number (let a = number_is in omega arith) number_low)
 
-  behind_it : (its : Owner) (plain : List ℕ) → bytes ≡ plain → Behind its who line (ver who (seals ++ pair ∷ []) line) (seals ++ pair ∷ []) plain
+  behind_it : (its : Owner) (plain : List ℕ) → bytes ≡ plain → Behind its who line (version_of_line who (seals ++ pair ∷ []) line) (seals ++ pair ∷ []) plain
   behind_it its plain same = subst (λ n. Behind its who line n (seals ++ pair ∷ []) plain) (sym ver_is) (record {
     zeros = λ none. absurd (let a = number_is in omega arith);
     owners = λ image. absurd (cc (no_image, image));
@@ -188,32 +188,32 @@ module _ (Stands : StandsFor) (owners : List Owner) (v : Versions) (law : Versio
   longer : (es more : List Entry) (s : Store) (numbers : ℕ → ℕ) (whole : List Entry) → whole ≡ es ++ more → Stands s es numbers → Stands s whole numbers
   longer es more s numbers whole same old = subst (λ l. Stands s l numbers) (sym same) (law.longer es more s numbers old)
 
-  number_out : (at : ℕ) → at < 2 ^ 15 → with_version (ver who seals) line number at ≡ ver who (seals ++ pair ∷ []) at
+  number_out : (at : ℕ) → at < 2 ^ 15 → with_version (version_of_line who seals) line number at ≡ version_of_line who (seals ++ pair ∷ []) at
   number_out at few = elim (eqb_tells at line) [
-    | inl here ↦ rw here.0 (sym ver_is ∙ ap (ver who (seals ++ pair ∷ [])) (sym here.1))
+    | inl here ↦ rw here.0 (sym ver_is ∙ ap (version_of_line who (seals ++ pair ∷ [])) (sym here.1))
     | inr there ↦ rw there.0 (ap (λ l. start_version who.lines at + length l) (sym (other_seals who line number bytes (install_low slot) low number_low seals who.install at (install_low slot) few (λ _ same. there.1 (sym same)))))
   ]
 
-  stands_own : Stands store out.entries (ver who (seals ++ pair ∷ []))
-  stands_own = law.alike out.entries store (with_version (ver who seals) line number) (ver who (seals ++ pair ∷ [])) number_out
-      (longer first (seal ∷ []) store (with_version (ver who seals) line number) out.entries refl what.1)
+  stands_own : Stands store out.entries (version_of_line who (seals ++ pair ∷ []))
+  stands_own = law.alike out.entries store (with_version (version_of_line who seals) line number) (version_of_line who (seals ++ pair ∷ [])) number_out
+      (longer first (seal ∷ []) store (with_version (version_of_line who seals) line number) out.entries refl what.1)
 
-  stands_other : (k : ℕ) → IsLive core k → k ≢ slot → Stands (store_of core k) core.entries (ver (who_of core k) seals) → Stands (store_of core k) out.entries (ver (who_of core k) (seals ++ pair ∷ []))
+  stands_other : (k : ℕ) → IsLive core k → k ≢ slot → Stands (store_of core k) core.entries (version_of_line (who_of core k) seals) → Stands (store_of core k) out.entries (version_of_line (who_of core k) (seals ++ pair ∷ []))
   stands_other k lives differs old =
-      law.alike out.entries (store_of core k) (ver (who_of core k) seals) (ver (who_of core k) (seals ++ pair ∷ []))
+      law.alike out.entries (store_of core k) (version_of_line (who_of core k) seals) (version_of_line (who_of core k) (seals ++ pair ∷ []))
       (λ at few. ap (λ l. start_version (who_of core k).lines at + length l) (sym (other_seals who line number bytes (install_low slot) low number_low seals (session_of core k).install at (install_low k) few (λ same _. differs (sym (shape.apart slot k live lives same))))))
-      (longer core.entries goes_out.more.0 (store_of core k) (ver (who_of core k) seals) out.entries goes_out.more.1 old)
+      (longer core.entries goes_out.more.0 (store_of core k) (version_of_line (who_of core k) seals) out.entries goes_out.more.1 old)
 
-  stands_out : (k : ℕ) → IsLive core k → Stands (store_of core k) core.entries (ver (who_of core k) seals) → Stands (store_of out k) out.entries (ver (who_of core k) (seals ++ pair ∷ []))
+  stands_out : (k : ℕ) → IsLive core k → Stands (store_of core k) core.entries (version_of_line (who_of core k) seals) → Stands (store_of out k) out.entries (version_of_line (who_of core k) (seals ++ pair ∷ []))
   stands_out k lives old = elim (eqb_tells k slot) [
-    | inl own ↦ subst (λ j. Stands (store_of out j) out.entries (ver (who_of core j) (seals ++ pair ∷ []))) (sym own.1) (subst (λ s. Stands s out.entries (ver who (seals ++ pair ∷ []))) (sym store_here) stands_own)
-    | inr other ↦ subst (λ s. Stands s out.entries (ver (who_of core k) (seals ++ pair ∷ []))) (sym (store_there k other.1)) (stands_other k lives other.1 old)
+    | inl own ↦ subst (λ j. Stands (store_of out j) out.entries (version_of_line (who_of core j) (seals ++ pair ∷ []))) (sym own.1) (subst (λ s. Stands s out.entries (version_of_line who (seals ++ pair ∷ []))) (sym store_here) stands_own)
+    | inr other ↦ subst (λ s. Stands s out.entries (version_of_line (who_of core k) (seals ++ pair ∷ []))) (sym (store_there k other.1)) (stands_other k lives other.1 old)
   ]
 
   private_out : (k : ℕ) → IsLive core k → (its : Owner) (memory' : ℕ → List ℕ) → Private Stands core k its memory' → Private Stands out k its memory'
   private_out k lives its memory' old = record {
     lines = λ at few. subst (λ s. LineHolds its (who_of core k) k at core.ways s (memory' at)) (sym seals_out) (lines_out k lives its memory' old at few);
-    stands = subst (λ s. Stands (store_of out k) out.entries (ver (who_of core k) s)) (sym seals_out) (stands_out k lives old.stands);
+    stands = subst (λ s. Stands (store_of out k) out.entries (version_of_line (who_of core k) s)) (sym seals_out) (stands_out k lives old.stands);
   }
 
   no_image_out : (key : List ℕ) (id : ImageId) (at : ℕ) (ct : List ℕ) → is_sealed key (line_message (Image id at) ct) (seals ++ pair ∷ []) ≡ false
@@ -289,6 +289,6 @@ module _ (Stands : StandsFor) (owners : List Owner) (v : Versions) (law : Versio
       let own : slot ≡ k = sym is.0 ∙ its_of.0 in
       let here : line ≡ at = sym is.1 ∙ its_of.1 in
       let plain : bytes ≡ memory' line = plain_of (subst (λ j. Private Stands out j its memory') (sym own) now) in
-      subst (λ j. Behind its (who_of core j) at (ver (who_of core j) (seals_of out.entries) at) (seals_of out.entries) (memory' at)) own
-      (subst (λ l. Behind its who l (ver who (seals_of out.entries) l) (seals_of out.entries) (memory' l)) here
-      (subst (λ s. Behind its who line (ver who s line) s (memory' line)) (sym seals_out) (behind_it its (memory' line) plain)))
+      subst (λ j. Behind its (who_of core j) at (version_of_line (who_of core j) (seals_of out.entries) at) (seals_of out.entries) (memory' at)) own
+      (subst (λ l. Behind its who l (version_of_line who (seals_of out.entries) l) (seals_of out.entries) (memory' l)) here
+      (subst (λ s. Behind its who line (version_of_line who s line) s (memory' line)) (sym seals_out) (behind_it its (memory' line) plain)))

@@ -17,8 +17,8 @@ use Rattle.mips_effect.specs.declared.effects.Effect.{Effect}
 use Rattle.mips_effect.specs.Effects.{AreCells, Ranged}
 use Rattle.mips_plain.specs.declared.given.PlainStep.TheVariants.{Did}
 use Rattle.mips_plain.specs.Memory.{stored_in}
-use Rattle.mips_plain.specs.Instruction.{fetched, tried, step_made, word_for, handler_after, kept_after, is_signal, is_signal_ready, signal_step}
-use Rattle.mips_plain.specs.Machine.{State, start, plain, owned, lent, stepped as plain_after, signalled as plain_signalled, seen, is_exit}
+use Rattle.mips_plain.specs.Instruction.{effect_at, handler_after, instruction_in, is_signal, is_signal_ready, kept_after, signal_step, step_made, word_for}
+use Rattle.mips_plain.specs.Machine.{State, is_exit, plain, seen_of_cell, start, state_after_signal as plain_signalled, state_after_step as plain_after, with_lent, with_owned}
 use Rattle.mips_plain.specs.declared.given.Given.TheVariants as given
 use Rattle.mips_plain.specs.declared.given.PlainStep.{PlainStep}
 use Rattle.mips_plain.specs.Follows.{given_of, Reaches}
@@ -37,8 +37,8 @@ use Rattle.xom_model.specs.Saves.{SavesAgree, SealsHold}
 use Rattle.xom_seal.specs.declared.names.RegName.{RegName}
 use Rattle.xom_seal.specs.Messages.{register_message}
 use Rattle.xom_model.specs.Kept.{Kept}
-use Rattle.xom_model.specs.Access.{dropped}
-use Rattle.xom_model.specs.Guest.{seen_by, received_by, cells_after, mask_after, mask_written, moved, stepped, given_out, retired, finished, tagged, signal_of, signalled, delivered}
+use Rattle.xom_model.specs.Access.{without_guest}
+use Rattle.xom_model.specs.Guest.{after_delivery, after_exit, after_retirement, cells_after, core_after_step, given_out, mask_after, mask_written, received_by, seen_by, session_after_signal, session_after_step, signal_of, with_writes}
 use Rattle.xom_model.specs.Holds.{Agrees, FollowsAlone, RamFits, Holds, Installs, IsAlone, IsInstalled, IsLive, IsRunning, Private, Shape, line_in}
 use Rattle.xom_model.proofs.Places.{steps_of-other, steps_of-step, step_in-other, IsInstalled-more}
 use Rattle.xom_model.proofs.Frame.{IsAlone-same, Owes, changed_holds}
@@ -86,12 +86,12 @@ module _ (Stands : StandsFor) (owners : List Owner) (v : Versions) (law : Versio
 
   -- what an instruction comes to is what it comes to for the program alone, where it is the same one
   pub comes_same : (found : Result Ins OwnFault) → ((ins : Ins) → found ≡ Ok ins → Fits ins)
-      → tried (seen p.cells) p.kept found p.pc p.npc ≡ tried (seen_by slot core.cells) (session_of core slot).saved found (session_of core slot).pc (session_of core slot).npc
+      → effect_at (seen_of_cell p.cells) p.kept found p.pc p.npc ≡ effect_at (seen_by slot core.cells) (session_of core slot).saved found (session_of core slot).pc (session_of core slot).npc
   comes_same found fits =
-      ap (λ pc. tried (seen p.cells) p.kept found pc p.npc) (sym pc_same)
-      ∙ ap (λ npc. tried (seen p.cells) p.kept found (session_of core slot).pc npc) (sym npc_same)
-      ∙ ap (λ kept. tried (seen p.cells) kept found (session_of core slot).pc (session_of core slot).npc) (sym agrees.saved)
-      ∙ tried-same (seen p.cells) (seen_by slot core.cells) (session_of core slot).saved found (session_of core slot).pc (session_of core slot).npc fits
+      ap (λ pc. effect_at (seen_of_cell p.cells) p.kept found pc p.npc) (sym pc_same)
+      ∙ ap (λ npc. effect_at (seen_of_cell p.cells) p.kept found (session_of core slot).pc npc) (sym npc_same)
+      ∙ ap (λ kept. effect_at (seen_of_cell p.cells) kept found (session_of core slot).pc (session_of core slot).npc) (sym agrees.saved)
+      ∙ tried-same (seen_of_cell p.cells) (seen_by slot core.cells) (session_of core slot).saved found (session_of core slot).pc (session_of core slot).npc fits
       (sight-same slot core.cells p.cells (session_of core slot).mask tied.bits tied.values tied.tags)
 
   -- A step of the slot, with its new session, that the program alone takes too, to this state.
@@ -99,7 +99,7 @@ module _ (Stands : StandsFor) (owners : List Owner) (v : Versions) (law : Versio
     pub does : plain p (given_of step.received) ≡ (Did step, next)
     pub writes : AreCells step.writes
     pub released : IsKnown step.released
-    pub cells : next.cells ≡ lent (owned p.cells step.writes) step.released
+    pub cells : next.cells ≡ with_lent (with_owned p.cells step.writes) step.released
     pub bytes : next.bytes ≡ stored_in p.bytes step.stored
     pub over : next.over ≡ is_exit step.end
     -- the session is another in what a step may change alone
@@ -121,14 +121,14 @@ module _ (Stands : StandsFor) (owners : List Owner) (v : Versions) (law : Versio
 
     -- the registers are those of the program after it
     tied_next : Tied slot (cells_after slot core.cells step) next.cells (mask_after (session_of core slot).mask step)
-    tied_next = rw takes.cells (Tied-released slot (tagged slot core.cells step.writes) (owned p.cells step.writes) (mask_written (session_of core slot).mask step.writes) step.released
+    tied_next = rw takes.cells (Tied-released slot (with_writes slot core.cells step.writes) (with_owned p.cells step.writes) (mask_written (session_of core slot).mask step.writes) step.released
         takes.released not_null
         (Tied-written slot core.cells p.cells (session_of core slot).mask step.writes takes.writes tied))
 
     -- a cell that has another slot's tag afterwards is as it was
     foreign_next : (reg : ℕ) → (cell_at (cells_after slot core.cells step) reg).tag ≢ 0 → (cell_at (cells_after slot core.cells step) reg).tag ≢ slot → cell_at (cells_after slot core.cells step) reg ≡ cell_at core.cells reg
     foreign_next reg has other =
-        let written = tagged slot core.cells step.writes in
+        let written = with_writes slot core.cells step.writes in
         let places = length-written slot core.cells step.writes ∙ holds.slots.cell_places in
         let same = foreign-released slot reg written step.released places takes.released has other in
         same ∙ foreign-written slot reg core.cells step.writes holds.slots.cell_places takes.writes
@@ -144,7 +144,7 @@ module _ (Stands : StandsFor) (owners : List Owner) (v : Versions) (law : Versio
 
     -- the core after the step
     abbrev pub taken : CoreState
-    taken = stepped core slot place session step
+    taken = core_after_step core slot place session step
 
     session_after : session_of taken slot ≡ record (session_of core slot) { pc = next.pc; npc = next.npc; mask = mask_after (session_of core slot).mask step; handler = next.handler; saved = next.kept }
     session_after = here session ∙ takes.same
@@ -268,17 +268,17 @@ module _ (Stands : StandsFor) (owners : List Owner) (v : Versions) (law : Versio
 
     -- the core after the guest left for good with that step
     abbrev pub left_core : CoreState
-    left_core = (finished taken slot).0
+    left_core = (after_exit taken slot).0
 
     session_gone : session_of left_core slot ≡ left (session_of taken slot) state.Ended
-    unfolding dropped
+    unfolding without_guest
     session_gone = get_or-set_same taken.sessions slot _ free (let places : length core.sessions ≡ 17 = holds.slots.session_places in let same : length taken.sessions ≡ length core.sessions = length-set core.sessions slot _ in omega arith)
 
     left_frame : Kept Stands owners taken left_core
     left_frame = left_kept Stands owners v law taken slot not_null (length-set core.sessions slot _ ∙ holds.slots.session_places) known tied_next.cell_places shape_taken state.Ended refl
 
     left_tags : (reg : ℕ) → 1 ≤ reg → reg < 34 → (cell_at left_core.cells reg).tag ≢ slot
-    unfolding dropped
+    unfolding without_guest
     left_tags reg from to = scrubbed-tag slot taken.cells reg not_null (let places : length taken.cells ≡ 34 = tied_next.cell_places in omega arith)
 
     left_places : length left_core.sessions ≡ 17
@@ -288,7 +288,7 @@ module _ (Stands : StandsFor) (owners : List Owner) (v : Versions) (law : Versio
     not_live lives = let its = ap (λ s. is_live s.state) session_gone in cc
 
     gone_others : (other : ℕ) → other ≢ slot → session_of left_core other ≡ session_of core other
-    unfolding dropped
+    unfolding without_guest
     gone_others other differs = get_or-set_other taken.sessions slot other _ free differs ∙ get_or-set_other core.sessions slot other _ free differs
 
     owes_gone : Owes Stands owners core left_core slot
@@ -328,7 +328,7 @@ module _ (Stands : StandsFor) (owners : List Owner) (v : Versions) (law : Versio
     }
 
   -- The step that retires, with the word that it loads and the place in which it stores, and the state of the program after it.
-  module _ (effect : Effect) (is : tried (seen p.cells) p.kept (fetched p.bytes p.pc) p.pc p.npc ≡ Ok effect) (ranged : Ranged effect) (word place : ℕ) (word_is : word ≡ word_for p.bytes effect.wish) where
+  module _ (effect : Effect) (is : effect_at (seen_of_cell p.cells) p.kept (instruction_in p.bytes p.pc) p.pc p.npc ≡ Ok effect) (ranged : Ranged effect) (word place : ℕ) (word_is : word ≡ word_for p.bytes effect.wish) where
     abbrev pub step : Step
     step = step_made (session_of core slot).pc (session_of core slot).npc effect word (received_by core.cells core.ram effect.wish)
 
@@ -346,7 +346,7 @@ module _ (Stands : StandsFor) (owners : List Owner) (v : Versions) (law : Versio
     does : plain p (given_of step.received) ≡ (Did step, next)
     does = subst (λ s. plain p (given_of s.received) ≡ (Did s, plain_after p effect s)) step_same (plain-does p core.cells core.ram effect agrees.over is)
 
-    retired_takes : Takes (moved (session_of core slot) effect step) step next
+    retired_takes : Takes (session_after_step (session_of core slot) effect step) step next
     retired_takes = record {
       does = does;
       writes = step_made-AreCells _ _ effect _ _ ranged;
@@ -355,22 +355,22 @@ module _ (Stands : StandsFor) (owners : List Owner) (v : Versions) (law : Versio
       bytes = refl;
       over = refl;
       same =
-          ap (λ handler. record (moved (session_of core slot) effect step) { handler = handler_after handler effect.wish }) agrees.handler
-          ∙ ap (λ kept. record (moved (session_of core slot) effect step) { handler = next.handler; saved = kept_after kept effect.wish }) agrees.saved;
+          ap (λ handler. record (session_after_step (session_of core slot) effect step) { handler = handler_after handler effect.wish }) agrees.handler
+          ∙ ap (λ kept. record (session_after_step (session_of core slot) effect step) { handler = next.handler; saved = kept_after kept effect.wish }) agrees.saved;
     }
 
     abbrev pub after : CoreState
-    after = retired core slot place effect step
+    after = after_retirement core slot place effect step
 
     module _ (at : StoresAt core slot place step.stored) where
       pub runs_after : IsRunning after slot
-      runs_after = runs_taken place (moved (session_of core slot) effect step) step next retired_takes at
+      runs_after = runs_taken place (session_after_step (session_of core slot) effect step) step next retired_takes at
 
       pub retired_holds : is_exit step.end ≡ false → Holds Stands owners after
-      retired_holds = taken_holds place (moved (session_of core slot) effect step) step next retired_takes at
+      retired_holds = taken_holds place (session_after_step (session_of core slot) effect step) step next retired_takes at
 
-      pub finished_holds : Holds Stands owners (finished after slot).0
-      finished_holds = left_holds place (moved (session_of core slot) effect step) step next retired_takes at
+      pub finished_holds : Holds Stands owners (after_exit after slot).0
+      finished_holds = left_holds place (session_after_step (session_of core slot) effect step) step next retired_takes at
 
   -- The step of a signal, which the program alone takes too.
   module _ (n : ℕ) (ready : (is_signal n && is_signal_ready (session_of core slot).handler (session_of core slot).saved) ≡ true) where
@@ -381,7 +381,7 @@ module _ (Stands : StandsFor) (owners : List Owner) (v : Versions) (law : Versio
         ∙ ap (λ pc. let a : PlainStep × State = (Did (signal_step pc p.npc n), plain_signalled p n) in a) (sym pc_same)
         ∙ ap (λ npc. let a : PlainStep × State = (Did (signal_step (session_of core slot).pc npc n), plain_signalled p n) in a) (sym npc_same)
 
-    signals : Takes (signalled (session_of core slot) n) (signal_of (session_of core slot) n) (plain_signalled p n)
+    signals : Takes (session_after_signal (session_of core slot) n) (signal_of (session_of core slot) n) (plain_signalled p n)
     signals = record {
       does = signal_does;
       writes = (lit≤ tt, lit< tt);
@@ -390,11 +390,11 @@ module _ (Stands : StandsFor) (owners : List Owner) (v : Versions) (law : Versio
       bytes = refl;
       over = agrees.over;
       same =
-          ap (λ handler. record (signalled (session_of core slot) n) { pc = handler; npc = (handler + 4) % 2 ^ 32; handler = handler }) agrees.handler
-          ∙ ap (λ pc. record (signalled (session_of core slot) n) { pc = p.handler; npc = (p.handler + 4) % 2 ^ 32; handler = p.handler; saved = Some (pc, (session_of core slot).npc) }) pc_same
-          ∙ ap (λ npc. record (signalled (session_of core slot) n) { pc = p.handler; npc = (p.handler + 4) % 2 ^ 32; handler = p.handler; saved = Some (p.pc, npc) }) npc_same;
+          ap (λ handler. record (session_after_signal (session_of core slot) n) { pc = handler; npc = (handler + 4) % 2 ^ 32; handler = handler }) agrees.handler
+          ∙ ap (λ pc. record (session_after_signal (session_of core slot) n) { pc = p.handler; npc = (p.handler + 4) % 2 ^ 32; handler = p.handler; saved = Some (pc, (session_of core slot).npc) }) pc_same
+          ∙ ap (λ npc. record (session_after_signal (session_of core slot) n) { pc = p.handler; npc = (p.handler + 4) % 2 ^ 32; handler = p.handler; saved = Some (p.pc, npc) }) npc_same;
     }
 
     -- what holds still does after a signal was delivered to the guest that runs
-    pub delivered_holds : Holds Stands owners (delivered core slot n)
-    delivered_holds = taken_holds 0 (signalled (session_of core slot) n) (signal_of (session_of core slot) n) (plain_signalled p n) signals tt refl
+    pub delivered_holds : Holds Stands owners (after_delivery core slot n)
+    delivered_holds = taken_holds 0 (session_after_signal (session_of core slot) n) (signal_of (session_of core slot) n) (plain_signalled p n) signals tt refl

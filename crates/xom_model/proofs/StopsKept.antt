@@ -21,15 +21,15 @@ use Rattle.xom_versions.specs.Store.{hash_entry}
 use Rattle.line_cache.specs.declared.way.Way.{Way}
 use Rattle.line_cache.specs.Ways.{free_if, free_way, way_at, without_slot}
 use Rattle.xom_versions.specs.declared.store.Torn.{Torn}
-use Rattle.xom_model.specs.State.{CoreState, core_at_start, hashed, noted, session_of, store_of, with_session, with_way}
+use Rattle.xom_model.specs.State.{CoreState, core_at_start, core_with_hashes, session_of, store_of, with_entry, with_session, with_way}
 use Rattle.xom_model.specs.Lines.{accept_entry, seal_entry, who_of}
-use Rattle.xom_model.specs.Access.{dropped, raising, sealing, stopped, with_pointers}
-use Rattle.xom_model.specs.Guest.{finished, stepped, stored_at, trapped}
-use Rattle.xom_model.specs.Operation.{envelope_at, installed, is_free_state, killed}
+use Rattle.xom_model.specs.Access.{after_raise, after_seal, after_stop, with_pointers, without_guest}
+use Rattle.xom_model.specs.Guest.{after_exit, after_trap, core_after_step, stored_at}
+use Rattle.xom_model.specs.Operation.{after_install, after_kill, envelope_at, is_free_state}
 use Rattle.xom_model.specs.Holds.{IsLive}
 use Rattle.xom_model.specs.Named.{HasOne, UsesIt}
 use Rattle.xom_model.specs.Stops.{EventsKeepStops, ExitsIt, IsTaken, StopsAreLast, StopsHold, StopsHoldAtStart, StopsIt, StopsItBy}
-use Rattle.xom_model.specs.Touched.{touched}
+use Rattle.xom_model.specs.Touched.{slot_of_event}
 use Rattle.xom_model.proofs.Gone.{free_if-left, way-without}
 use Rattle.xom_model.proofs.WayPuts.{each_put}
 use Rattle.xom_model.proofs.CountsKept.{numbers_low}
@@ -258,7 +258,7 @@ module _ (core : CoreState) (slot : ℕ) (low : core.installs < 2 ^ 64) (holds :
     -- by a rule
     module _ (why : Rule) where
       abbrev out : CoreState
-      out = stopped core slot why
+      out = after_stop core slot why
 
       abbrev stop_entry : Entry
       stop_entry = entry.Stop n why
@@ -274,7 +274,7 @@ module _ (core : CoreState) (slot : ℕ) (low : core.installs < 2 ^ 64) (holds :
       }
 
       stop_stops : StopsHold out
-      unfolding dropped
+      unfolding without_guest
       stop_stops =
           let at : session_of out slot ≡ left_session = here core out low holds slot left_session known some refl (stop_entry ∷ []) refl refl stop_adds in
           set_stops core out low holds slot left_session known some refl (stop_entry ∷ []) refl refl stop_adds
@@ -293,10 +293,10 @@ module _ (core : CoreState) (slot : ℕ) (low : core.installs < 2 ^ 64) (holds :
           (ways_left core out low holds slot left_session known some refl (stop_entry ∷ []) refl refl stop_adds refl)
 
     -- by its exit
-    exit_stops : JustExited core slot → StopsHold (finished core slot).0
-    unfolding dropped
+    exit_stops : JustExited core slot → StopsHold (after_exit core slot).0
+    unfolding without_guest
     exit_stops exited =
-        let new = (finished core slot).0 in
+        let new = (after_exit core slot).0 in
         let s = left (session_of core slot) state.Ended in
         let at : session_of new slot ≡ s = here core new low holds slot s known some refl [] (sym (append-nil core.entries)) refl (adds_none core) in
         set_stops core new low holds slot s known some refl [] (sym (append-nil core.entries)) refl (adds_none core)
@@ -313,10 +313,10 @@ module _ (core : CoreState) (slot : ℕ) (low : core.installs < 2 ^ 64) (holds :
         (ways_left core new low holds slot s known some refl [] (sym (append-nil core.entries)) refl (adds_none core) refl)
 
   -- by the kernel
-  kill_stops : (v : Versions) → 1 ≤ slot → slot ≤ 16 → StopsHold (killed v core slot)
-  unfolding dropped
+  kill_stops : (v : Versions) → 1 ≤ slot → slot ≤ 16 → StopsHold (after_kill v core slot)
+  unfolding without_guest
   kill_stops v some_slot known_slot =
-      let new = killed v core slot in
+      let new = after_kill v core slot in
       let e = entry.Kill n in
       let some : slot ≢ 0 = λ none. absurd (omega arith) in
       let adds = adds_one core e (λ k nothing. nothing) (λ k few nothing. absurd nothing) in
@@ -344,9 +344,9 @@ module _ (core : CoreState) (slot : ℕ) (low : core.installs < 2 ^ 64) (holds :
         goes_on core new low holds slot s one two refl [] (sym (append-nil core.entries)) refl (adds_none core) live install lives (λ k nothing. nothing)
         (ways_on core new low holds slot s one two refl [] (sym (append-nil core.entries)) refl (adds_none core) live lives refl)
 
-    trap_stops : (why : Cause) → StopsHold (trapped core slot why).0
+    trap_stops : (why : Cause) → StopsHold (after_trap core slot why).0
     trap_stops why =
-        let new = (trapped core slot why).0 in
+        let new = (after_trap core slot why).0 in
         let e = entry.Trap n why in
         let s = paused (session_of core slot) in
         let one = known live in let two = some live in
@@ -356,7 +356,7 @@ module _ (core : CoreState) (slot : ℕ) (low : core.installs < 2 ^ 64) (holds :
 
     module _ (place : ℕ) (session : Session) (step : Step) (goes : GoesOn (session_of core slot) session) where
       abbrev stepped_core : CoreState
-      stepped_core = stepped core slot place session step
+      stepped_core = core_after_step core slot place session step
 
       abbrev step_entry : Entry
       step_entry = entry.Step n step
@@ -393,17 +393,17 @@ module _ (core : CoreState) (slot : ℕ) (low : core.installs < 2 ^ 64) (holds :
 -- ---- An access
 
 module _ (v : Versions) (core : CoreState) (low : core.installs < 2 ^ 64) (holds : StopsHold core) where
-  hash_stops : (texts : List (List ℕ)) → StopsHold (hashed core texts)
-  hash_stops texts = calm_stops core (hashed core texts) low holds (map hash_entry texts) refl refl refl (adds_hashes core texts) (λ n has. HasOne-hashes (StopsIt n) (λ text nothing. nothing) texts has) (ways_stay core (hashed core texts) holds refl refl)
+  hash_stops : (texts : List (List ℕ)) → StopsHold (core_with_hashes core texts)
+  hash_stops texts = calm_stops core (core_with_hashes core texts) low holds (map hash_entry texts) refl refl refl (adds_hashes core texts) (λ n has. HasOne-hashes (StopsIt n) (λ text nothing. nothing) texts has) (ways_stay core (core_with_hashes core texts) holds refl refl)
 
   -- one entry of a live slot
-  entry_stops : (e : Entry) → ((n : ℕ) → ¬ StopsIt n e) → ((n : ℕ) → n < 2 ^ 64 → UsesIt n e → (slot : ℕ) × (IsLive core slot × ((session_of core slot).install ≡ n))) → StopsHold (noted core e)
-  entry_stops e no_stop used = calm_stops core (noted core e) low holds (e ∷ []) refl refl refl (adds_one core e no_stop used) (λ n has. no_stop n (HasOne-only (StopsIt n) e has)) (ways_stay core (noted core e) holds refl refl)
+  entry_stops : (e : Entry) → ((n : ℕ) → ¬ StopsIt n e) → ((n : ℕ) → n < 2 ^ 64 → UsesIt n e → (slot : ℕ) × (IsLive core slot × ((session_of core slot).install ≡ n))) → StopsHold (with_entry core e)
+  entry_stops e no_stop used = calm_stops core (with_entry core e) low holds (e ∷ []) refl refl refl (adds_one core e no_stop used) (λ n has. no_stop n (HasOne-only (StopsIt n) e has)) (ways_stay core (with_entry core e) holds refl refl)
 
   install_low : (slot : ℕ) → (session_of core slot).install < 2 ^ 64
   install_low slot = let few = holds.numbers slot in omega arith
 
-  accept_stops : (slot line version place : ℕ) (ct : List ℕ) → IsLive core slot → StopsHold (noted core (accept_entry (who_of core slot) line version ct place))
+  accept_stops : (slot line version place : ℕ) (ct : List ℕ) → IsLive core slot → StopsHold (with_entry core (accept_entry (who_of core slot) line version ct place))
   accept_stops slot line version place ct live =
       entry_stops (accept_entry (who_of core slot) line version ct place) (λ n nothing. nothing)
       (λ n few names. (slot, (live, names-line n (who_of core slot) line version ct few (install_low slot) names)))
@@ -420,41 +420,41 @@ module _ (v : Versions) (core : CoreState) (low : core.installs < 2 ^ 64) (holds
   dirty_live : (place : ℕ) → (way_at core.ways place).dirty ≡ true → IsLive core (way_at core.ways place).slot
   dirty_live place dirty = holds.cached place (λ none. let clean = holds.clean place none in absurd (cc))
 
-  raise_stops : (slot line : ℕ) → StopsHold (raising v core slot line)
-  unfolding raising
+  raise_stops : (slot line : ℕ) → StopsHold (after_raise v core slot line)
+  unfolding after_raise
   raise_stops slot line =
       let texts = v.texts_of_raise (store_of core slot) line core.ram in
-      calm_stops core (raising v core slot line) low holds (map hash_entry texts) refl refl refl (adds_hashes core texts) (λ n has. HasOne-hashes (StopsIt n) (λ text nothing. nothing) texts has) (ways_stay core (raising v core slot line) holds refl refl)
+      calm_stops core (after_raise v core slot line) low holds (map hash_entry texts) refl refl refl (adds_hashes core texts) (λ n has. HasOne-hashes (StopsIt n) (λ text nothing. nothing) texts has) (ways_stay core (after_raise v core slot line) holds refl refl)
 
-  raised_live : (slot line other : ℕ) → IsLive core other → IsLive (raising v core slot line) other
-  unfolding raising
+  raised_live : (slot line other : ℕ) → IsLive core other → IsLive (after_raise v core slot line) other
+  unfolding after_raise
   raised_live slot line other live = live
 
-  raised_installs : (slot line : ℕ) → (raising v core slot line).installs ≡ core.installs
-  unfolding raising
+  raised_installs : (slot line : ℕ) → (after_raise v core slot line).installs ≡ core.installs
+  unfolding after_raise
   raised_installs slot line = refl
 
-seal_stops : (v : Versions) (core : CoreState) → core.installs < 2 ^ 64 → StopsHold core → (slot line version : ℕ) (bytes : List ℕ) → IsLive core slot → StopsHold (sealing v core slot line bytes version)
-unfolding sealing
+seal_stops : (v : Versions) (core : CoreState) → core.installs < 2 ^ 64 → StopsHold core → (slot line version : ℕ) (bytes : List ℕ) → IsLive core slot → StopsHold (after_seal v core slot line bytes version)
+unfolding after_seal
 seal_stops v core low holds slot line version bytes live =
     let e = seal_entry (who_of core slot) line version bytes in
-    calm_stops core (sealing v core slot line bytes version) low holds (e ∷ []) refl refl refl
+    calm_stops core (after_seal v core slot line bytes version) low holds (e ∷ []) refl refl refl
     (adds_one core e (λ n nothing. nothing) (λ n few names. (slot, (live, names-line n (who_of core slot) line version _ few (install_low v core low holds slot) names))))
-    (λ n has. HasOne-only (StopsIt n) e has) (ways_stay core (sealing v core slot line bytes version) holds refl refl)
+    (λ n has. HasOne-only (StopsIt n) e has) (ways_stay core (after_seal v core slot line bytes version) holds refl refl)
 
-may_stay : (v : Versions) (slot : ℕ) (core : CoreState) (at line version : ℕ) (bytes : List ℕ) (way : Way) → MayCome slot core way → MayCome slot (sealing v (raising v core at line) at line bytes version) way
-unfolding sealing raising
+may_stay : (v : Versions) (slot : ℕ) (core : CoreState) (at line version : ℕ) (bytes : List ℕ) (way : Way) → MayCome slot core way → MayCome slot (after_seal v (after_raise v core at line) at line bytes version) way
+unfolding after_seal after_raise
 may_stay v slot core at line version bytes way may = may
 
-sealed_installs : (v : Versions) (core : CoreState) (slot line version : ℕ) (bytes : List ℕ) → (sealing v core slot line bytes version).installs ≡ core.installs
-unfolding sealing
+sealed_installs : (v : Versions) (core : CoreState) (slot line version : ℕ) (bytes : List ℕ) → (after_seal v core slot line bytes version).installs ≡ core.installs
+unfolding after_seal
 sealed_installs v core slot line version bytes = refl
 
 written_stops : (v : Versions) (core : CoreState) → core.installs < 2 ^ 64 → StopsHold core → (slot place version : ℕ) (way : Way) → (way_at core.ways place).dirty ≡ true → MayCome slot core way
     → StopsHold (with_way (written_back v core (way_at core.ways place) version) place way)
 written_stops v core low holds slot place version way dirty may =
     let w = way_at core.ways place in
-    let mid = raising v core w.slot w.line in
+    let mid = after_raise v core w.slot w.line in
     let low_mid : mid.installs < 2 ^ 64 = (let same = raised_installs v core low holds w.slot w.line in omega arith) in
     let live = raised_live v core low holds w.slot w.line w.slot (dirty_live v core low holds place dirty) in
     let sealed = seal_stops v mid low_mid (raise_stops v core low holds w.slot w.line) w.slot w.line version w.bytes live in
@@ -463,7 +463,7 @@ written_stops v core low holds slot place version way dirty may =
 torn_stops : (v : Versions) (core : CoreState) → core.installs < 2 ^ 64 → StopsHold core → (place : ℕ) (torn : Torn) → (way_at core.ways place).dirty ≡ true → StopsHold (torn_off v core (way_at core.ways place) torn)
 torn_stops v core low holds place torn dirty =
     let w = way_at core.ways place in
-    let mid = raising v core w.slot w.line in
+    let mid = after_raise v core w.slot w.line in
     let low_mid : mid.installs < 2 ^ 64 = (let same = raised_installs v core low holds w.slot w.line in omega arith) in
     stop_stops mid w.slot low_mid (raise_stops v core low holds w.slot w.line) (raised_live v core low holds w.slot w.line w.slot (dirty_live v core low holds place dirty)) (rule.TreeNode torn.level)
 
@@ -558,12 +558,12 @@ module _ (v : Versions) (core : CoreState) (holds : StopsHold core) (slot place 
       null = ap (λ t. is_live t.state) (at_other 0 (λ none. some (sym none))) ∙ holds.null;
     }
 
-  installed_stops : StopsHold (installed v core slot place area plain)
-  unfolding installed
-  installed_stops = install_stops (installed v core slot place area plain) refl (append_assoc core.entries (its_accept ∷ its_install ∷ []) (map hash_entry its_texts)) refl refl
+  installed_stops : StopsHold (after_install v core slot place area plain)
+  unfolding after_install
+  installed_stops = install_stops (after_install v core slot place area plain) refl (append_assoc core.entries (its_accept ∷ its_install ∷ []) (map hash_entry its_texts)) refl refl
 
-installed_number : (v : Versions) (core : CoreState) (slot place area : ℕ) (plain : Unwrapped) → (installed v core slot place area plain).installs ≡ core.installs + 1
-unfolding installed
+installed_number : (v : Versions) (core : CoreState) (slot place area : ℕ) (plain : Unwrapped) → (after_install v core slot place area plain).installs ≡ core.installs + 1
+unfolding after_install
 installed_number v core slot place area plain = refl
 
 -- ---- The relation
@@ -587,30 +587,30 @@ stops_on a b c first then = record {
 }
 
 written_installs : (v : Versions) (core : CoreState) (way : Way) (version : ℕ) → (written_back v core way version).installs ≡ core.installs
-unfolding sealing raising
+unfolding after_seal after_raise
 written_installs v core way version = refl
 
-stopped_installs : (core : CoreState) (slot : ℕ) (why : Rule) → (stopped core slot why).installs ≡ core.installs
-unfolding dropped
+stopped_installs : (core : CoreState) (slot : ℕ) (why : Rule) → (after_stop core slot why).installs ≡ core.installs
+unfolding without_guest
 stopped_installs core slot why = refl
 
 torn_installs : (v : Versions) (core : CoreState) (way : Way) (torn : Torn) → (torn_off v core way torn).installs ≡ core.installs
-unfolding dropped raising
+unfolding without_guest after_raise
 torn_installs v core way torn = refl
 
-finished_installs : (core : CoreState) (slot : ℕ) → (finished core slot).0.installs ≡ core.installs
-unfolding dropped
+finished_installs : (core : CoreState) (slot : ℕ) → (after_exit core slot).0.installs ≡ core.installs
+unfolding without_guest
 finished_installs core slot = refl
 
-killed_installs : (v : Versions) (core : CoreState) (slot : ℕ) → (killed v core slot).installs ≡ core.installs
-unfolding dropped
+killed_installs : (v : Versions) (core : CoreState) (slot : ℕ) → (after_kill v core slot).installs ≡ core.installs
+unfolding without_guest
 killed_installs v core slot = refl
 
 pub stops_parts : (v : Versions) (slot : ℕ) → Parts v slot KeepsStops
 stops_parts v slot = record {
   none = stops_none_done;
   on = stops_on;
-  hash = λ core texts. quietly core (hashed core texts) refl (λ low holds. hash_stops v core low holds texts);
+  hash = λ core texts. quietly core (core_with_hashes core texts) refl (λ low holds. hash_stops v core low holds texts);
   accept = λ core line version place ct runs. quietly core _ refl (λ low holds. accept_stops v core low holds slot line version place ct (ap is_live runs));
   point = λ core line. quietly core (with_pointers core line) refl (λ low holds. aside_stops v core low holds (with_pointers core line) refl refl refl refl);
   bring = λ core place way clean may. quietly core (with_way core place way) refl (λ low holds. put_stops v core low holds slot place way may);
@@ -655,7 +655,7 @@ stops_deeds v slot = record {
 -- each event keeps what is said of stops
 pub events_keep_stops : EventsKeepStops
 events_keep_stops v r e bytes few counted holds =
-    (walk_event v KeepsStops KeepsStops r e bytes (stops_parts v (touched r e)) (stops_ends (touched r e)) (stops_deeds v (touched r e))).keeps (numbers_low v r e bytes few counted) holds
+    (walk_event v KeepsStops KeepsStops r e bytes (stops_parts v (slot_of_event r e)) (stops_ends (slot_of_event r e)) (stops_deeds v (slot_of_event r e))).keeps (numbers_low v r e bytes few counted) holds
 
 -- and it is so at power-on
 pub start_stops : StopsHoldAtStart

@@ -12,11 +12,11 @@ use Rattle.xom_base.specs.declared.step.Released.TheVariants as released
 use Rattle.mips_effect.specs.Effects.{AreCells}
 use Rattle.mips_plain.specs.declared.cell.PlainCell.{PlainCell}
 use Rattle.mips_plain.specs.declared.cell.PlainCell.TheVariants.{Own, Lent}
-use Rattle.mips_plain.specs.Machine.{owned, lent, cell_at as plain_cell}
+use Rattle.mips_plain.specs.Machine.{cell_at as plain_cell, with_lent, with_owned}
 use Rattle.tag_regs.specs.declared.cell.Cell.{Cell}
 use Rattle.tag_regs.specs.TaggedCells.{cell_at, empty}
 use Rattle.session_table.specs.Masks.{with_cell, without_cell}
-use Rattle.xom_model.specs.Guest.{tagged, untagged, mask_written, mask_released}
+use Rattle.xom_model.specs.Guest.{mask_released, mask_written, with_release, with_writes}
 use Rattle.xom_model.specs.Holds.{own_bit}
 
 -- the mask after a cell was added
@@ -102,7 +102,7 @@ module _ (slot : ℕ) (cells : List Cell) (owns : List PlainCell) (mask reg valu
   }
 
 -- what a step writes
-pub Tied-written : (slot : ℕ) (cells : List Cell) (owns : List PlainCell) (mask : ℕ) (written : Writes) → AreCells written → Tied slot cells owns mask → Tied slot (tagged slot cells written) (owned owns written) (mask_written mask written)
+pub Tied-written : (slot : ℕ) (cells : List Cell) (owns : List PlainCell) (mask : ℕ) (written : Writes) → AreCells written → Tied slot cells owns mask → Tied slot (with_writes slot cells written) (with_owned owns written) (mask_written mask written)
 Tied-written slot cells owns mask writes.Nothing known tied = tied
 Tied-written slot cells owns mask (writes.One reg value) known tied = Tied-owned slot cells owns mask reg value known.1 tied
 Tied-written slot cells owns mask (writes.Pair hi lo) known tied =
@@ -115,7 +115,7 @@ IsKnown (released.Cell reg value) = (1 ≤ reg) × (reg < 34)
 IsKnown (released.Null address value) = Unit {0}
 
 -- what a step releases
-pub Tied-released : (slot : ℕ) (cells : List Cell) (owns : List PlainCell) (mask : ℕ) (given : Released) → IsKnown given → slot ≢ 0 → Tied slot cells owns mask → Tied slot (untagged cells given) (lent owns given) (mask_released mask given)
+pub Tied-released : (slot : ℕ) (cells : List Cell) (owns : List PlainCell) (mask : ℕ) (given : Released) → IsKnown given → slot ≢ 0 → Tied slot cells owns mask → Tied slot (with_release cells given) (with_lent owns given) (mask_released mask given)
 Tied-released slot cells owns mask released.Nothing known some tied = tied
 Tied-released slot cells owns mask (released.Cell reg value) known some tied = Tied-lent slot cells owns mask reg value known.1 tied some
 Tied-released slot cells owns mask (released.Null address value) known some tied = tied
@@ -132,7 +132,7 @@ foreign-set slot tag reg r value cells whole known own some other = elim (eqb_te
 ]
 
 pub foreign-written : (slot r : ℕ) (cells : List Cell) (written : Writes) → length cells ≡ 34 → AreCells written
-    → (cell_at (tagged slot cells written) r).tag ≢ 0 → (cell_at (tagged slot cells written) r).tag ≢ slot → cell_at (tagged slot cells written) r ≡ cell_at cells r
+    → (cell_at (with_writes slot cells written) r).tag ≢ 0 → (cell_at (with_writes slot cells written) r).tag ≢ slot → cell_at (with_writes slot cells written) r ≡ cell_at cells r
 foreign-written slot r cells writes.Nothing whole known some other = refl
 foreign-written slot r cells (writes.One reg value) whole known some other = foreign-set slot slot reg r value cells whole known.1 (inr refl) some other
 foreign-written slot r cells (writes.Pair hi lo) whole known some other =
@@ -140,13 +140,13 @@ foreign-written slot r cells (writes.Pair hi lo) whole known some other =
     let same = foreign-set slot slot 33 r lo first (length-set cells 32 _ ∙ whole) (omega arith) (inr refl) some other in
     same ∙ foreign-set slot slot 32 r hi cells whole (omega arith) (inr refl) (λ none. some (ap (λ c. c.tag) same ∙ none)) (λ its. other (ap (λ c. c.tag) same ∙ its))
 
-pub length-written : (slot : ℕ) (cells : List Cell) (written : Writes) → length (tagged slot cells written) ≡ length cells
+pub length-written : (slot : ℕ) (cells : List Cell) (written : Writes) → length (with_writes slot cells written) ≡ length cells
 length-written slot cells writes.Nothing = refl
 length-written slot cells (writes.One reg value) = length-set cells reg _
 length-written slot cells (writes.Pair hi lo) = length-set _ 33 _ ∙ length-set cells 32 _
 
 pub foreign-released : (slot r : ℕ) (cells : List Cell) (given : Released) → length cells ≡ 34 → IsKnown given
-    → (cell_at (untagged cells given) r).tag ≢ 0 → (cell_at (untagged cells given) r).tag ≢ slot → cell_at (untagged cells given) r ≡ cell_at cells r
+    → (cell_at (with_release cells given) r).tag ≢ 0 → (cell_at (with_release cells given) r).tag ≢ slot → cell_at (with_release cells given) r ≡ cell_at cells r
 foreign-released slot r cells released.Nothing whole known some other = refl
 foreign-released slot r cells (released.Cell reg value) whole known some other = foreign-set slot 0 reg r value cells whole known.1 (inl refl) some other
 foreign-released slot r cells (released.Null address value) whole known some other = refl

@@ -16,7 +16,7 @@ use Rattle.line_cache.proofs.Search.{none_passes}
 use Rattle.xom_model.proofs.Growth.{IsTrusted}
 use Rattle.xom_model.specs.State.{CoreState, Record, session_of}
 use Rattle.xom_model.specs.Guest.{guest}
-use Rattle.xom_model.specs.Event.{fits, guest_turn, on, ran_on, running, null_turn, with_open, told_in, open_in}
+use Rattle.xom_model.specs.Event.{fits, guest_turn, null_turn, on, open_in, ran_on, running_slot, told_in, with_open}
 use Rattle.xom_model.specs.Null.{Answer, null_step}
 use Rattle.xom_model.proofs.Opened.{Opens, opens_null, opened_holds}
 use Rattle.xom_versions.specs.Versions.{VersionLaw, Versions}
@@ -67,7 +67,7 @@ ran_on-core r slot core None = refl
 ran_on-core r slot core (Some why) = refl
 
 module _ (Stands : StandsFor) (owners : List Owner) (v : Versions) (law : VersionLaw v Stands) where
-  guest_turn_keeps : (r : Record) (interrupt : Bool) (at : Option ℕ) → OwnersTell r.core.machine owners → running r ≡ at → IsTrusted (sealed_by r.core.machine owners) (guest_turn v r interrupt at).0.core.entries
+  guest_turn_keeps : (r : Record) (interrupt : Bool) (at : Option ℕ) → OwnersTell r.core.machine owners → running_slot r ≡ at → IsTrusted (sealed_by r.core.machine owners) (guest_turn v r interrupt at).0.core.entries
       → Holds Stands owners r.core → Holds Stands owners (guest_turn v r interrupt at).0.core
   guest_turn_keeps r interrupt None tell is honest holds = holds
   guest_turn_keeps r interrupt (Some slot) tell is honest holds =
@@ -98,10 +98,10 @@ trusted_events : (v : Versions) (Stands : StandsFor) → VersionLaw v Stands
     → Holds Stands owners r.core → Holds Stands owners (on v r e bytes).0.core
 unfolding on
 trusted_events v Stands law owners are r (event.Do op) bytes fit honest holds =
-    operation_keeps Stands owners v law (sealed_by r.core.machine owners) r.core op (owners_tell owners are r.core.machine) refl (running-none r.core (rests-of_fit r.halted (running r) fit)) honest holds
-trusted_events v Stands law owners are r (event.Guest interrupt) chunk fit honest holds = guest_turn_keeps Stands owners v law r interrupt (running r) (owners_tell owners are r.core.machine) refl honest holds
+    operation_keeps Stands owners v law (sealed_by r.core.machine owners) r.core op (owners_tell owners are r.core.machine) refl (running-none r.core (rests-of_fit r.halted (running_slot r) fit)) honest holds
+trusted_events v Stands law owners are r (event.Guest interrupt) chunk fit honest holds = guest_turn_keeps Stands owners v law r interrupt (running_slot r) (owners_tell owners are r.core.machine) refl honest holds
 trusted_events v Stands law owners are r event.Null chunk fit honest holds =
-    null_turn_keeps Stands owners v law r (null_step (told_in r) (open_in r)) (owners_tell owners are r.core.machine) (running-none r.core (rests-of_fit r.halted (running r) fit)) (opens_null (told_in r) (open_in r)) (length-null (told_in r) (open_in r)) honest holds
+    null_turn_keeps Stands owners v law r (null_step (told_in r) (open_in r)) (owners_tell owners are r.core.machine) (running-none r.core (rests-of_fit r.halted (running_slot r) fit)) (opens_null (told_in r) (open_in r)) (length-null (told_in r) (open_in r)) honest holds
 trusted_events v Stands law owners are r (event.Write address count) chunk fit honest holds = kept_holds Stands owners r.core _ (kept_ram Stands owners v law r.core _ (length-poked r.core.ram address (take count chunk))) holds
 trusted_events v Stands law owners are r (event.Poke address count) chunk fit honest holds = kept_holds Stands owners r.core _ (kept_ram Stands owners v law r.core _ (length-poked r.core.ram address (take count chunk))) holds
 

@@ -21,7 +21,7 @@ use Rattle.xom_seal.specs.Sealing.{unsealed_line}
 use Rattle.mips_effect.specs.declared.effects.Effect.{Effect}
 use Rattle.mips_effect.specs.declared.wish.Wish.{Wish}
 use Rattle.mips_effect.specs.declared.wish.Wish.TheVariants as wish
-use Rattle.mips_plain.specs.Instruction.{is_code, made, step_made}
+use Rattle.mips_plain.specs.Instruction.{is_code, step_made, step_of_wish}
 use Rattle.session_table.specs.declared.session.Session.{Session}
 use Rattle.session_table.specs.declared.session.SlotState.TheVariants as state
 use Rattle.session_table.specs.Sessions.{free, left, session_at}
@@ -32,10 +32,10 @@ use Rattle.xom_versions.specs.Versions.{Versions}
 use Rattle.line_cache.specs.declared.way.Way.{Way}
 use Rattle.line_cache.specs.Ways.{found, free_way, way_at, new_way, place_for}
 use Rattle.page_map.specs.Pages.{frame_of}
-use Rattle.xom_model.specs.State.{CoreState, hashed, noted, page_of, session_of, store_of, with_way}
+use Rattle.xom_model.specs.State.{CoreState, core_with_hashes, page_of, session_of, store_of, with_entry, with_way}
 use Rattle.xom_model.specs.Lines.{accept_entry, ct_place, keys_of, name_of, sealed_at, who_of}
-use Rattle.xom_model.specs.Access.{access, brought, cleared, cleared_at, dropped, looked, mapped, opened, or_stopped, placed, put, raising, read_from, sealed_by_raise, sealing, stopped, with_pointers}
-use Rattle.xom_model.specs.Guest.{address_in, after_step, code_reached, data_of, data_reached, finished, guest, moved, ran, received_by, retired, retires, stepped, trapped, word_in, word_loaded, word_tried}
+use Rattle.xom_model.specs.Access.{access, after_opening, after_raise, after_seal, after_stop, after_victim, brought, cleared_at, or_stopped, reach_after_placing, reach_after_victim, reach_by_cache, reach_in_frame, read_from, sealed_by_raise, with_pointers, without_guest}
+use Rattle.xom_model.specs.Guest.{address_in, after_effect, after_exit, after_retirement, after_step, after_trap, code_reached, core_after_step, data_of, data_reached, guest, received_by, retirement, session_after_step, word_in, word_loaded, word_tried}
 use Rattle.xom_model.specs.Holds.{IsLive, IsRunning}
 use Rattle.xom_model.proofs.Gone.{less, way-without}
 use Rattle.xom_model.proofs.AccessKept.{found-IsOf}
@@ -66,11 +66,11 @@ pub record GoesOn (s t : Session) : Type 0 where
 
 -- a line that stands dirty in a place is sealed and written to its frame
 abbrev pub written_back : Versions → CoreState → Way → ℕ → CoreState
-written_back v core way version = sealing v (raising v core way.slot way.line) way.slot way.line way.bytes version
+written_back v core way version = after_seal v (after_raise v core way.slot way.line) way.slot way.line way.bytes version
 
 -- or its tree is torn, and its slot stopped
 abbrev pub torn_off : Versions → CoreState → Way → Torn → CoreState
-torn_off v core way torn = stopped (raising v core way.slot way.line) way.slot (rule.TreeNode torn.level)
+torn_off v core way torn = after_stop (after_raise v core way.slot way.line) way.slot (rule.TreeNode torn.level)
 
 abbrev pub raised_for : Versions → CoreState → Way → Result ℕ Torn
 raised_for v core way = v.answer_of_raise (store_of core way.slot) way.line core.ram
@@ -80,18 +80,18 @@ pub record Parts (v : Versions) (slot : ℕ) (R : CoreState → CoreState → Ty
   pub none : (core : CoreState) → R core core
   pub on : (a b c : CoreState) → R a b → R b c → R a c
   -- a private access
-  pub hash : (core : CoreState) (texts : List (List ℕ)) → R core (hashed core texts)
-  pub accept : (core : CoreState) (line version place : ℕ) (ct : List ℕ) → IsRunning core slot → R core (noted core (accept_entry (who_of core slot) line version ct place))
+  pub hash : (core : CoreState) (texts : List (List ℕ)) → R core (core_with_hashes core texts)
+  pub accept : (core : CoreState) (line version place : ℕ) (ct : List ℕ) → IsRunning core slot → R core (with_entry core (accept_entry (who_of core slot) line version ct place))
   pub point : (core : CoreState) (line : ℕ) → R core (with_pointers core line)
   pub bring : (core : CoreState) (place : ℕ) (way : Way) → (way_at core.ways place).dirty ≡ false → MayCome slot core way → R core (with_way core place way)
   pub seal : (core : CoreState) (place version : ℕ) (way : Way) → (way_at core.ways place).dirty ≡ true → raised_for v core (way_at core.ways place) ≡ Ok version → MayCome slot core way
       → R core (with_way (written_back v core (way_at core.ways place) version) place way)
   pub tear : (core : CoreState) (place : ℕ) (torn : Torn) → (way_at core.ways place).dirty ≡ true → raised_for v core (way_at core.ways place) ≡ Err torn
       → R core (torn_off v core (way_at core.ways place) torn)
-  pub stop : (core : CoreState) (why : Rule) → IsLive core slot → R core (stopped core slot why)
+  pub stop : (core : CoreState) (why : Rule) → IsLive core slot → R core (after_stop core slot why)
   -- a step
   pub step : (core : CoreState) (place : ℕ) (session : Session) (step : Step) → IsRunning core slot → GoesOn (session_of core slot) session → StoresIn core slot place step.stored
-      → R core (stepped core slot place session step)
+      → R core (core_after_step core slot place session step)
 
 -- the last entry is the slot's exit step
 abbrev pub JustExited : CoreState → ℕ → Type 0
@@ -101,8 +101,8 @@ JustExited core slot = (before : List Entry) × (step : Step) × (core.entries �
 pub record Ends (slot : ℕ) (R T : CoreState → CoreState → Type 0) : Type 0 where
   pub went : (core : CoreState) → T core core
   pub after : (a b c : CoreState) → R a b → T b c → T a c
-  pub trap : (core : CoreState) (why : Cause) → IsRunning core slot → T core (trapped core slot why).0
-  pub exit : (core : CoreState) → IsRunning core slot → JustExited core slot → T core (finished core slot).0
+  pub trap : (core : CoreState) (why : Cause) → IsRunning core slot → T core (after_trap core slot why).0
+  pub exit : (core : CoreState) → IsRunning core slot → JustExited core slot → T core (after_exit core slot).0
 
 -- ---- What an access comes to
 
@@ -139,7 +139,7 @@ running-within core slot runs = elim (less slot (length core.sessions)) [
 
 -- what a step stores is in its line
 stores-in : (core : CoreState) (slot place pc npc : ℕ) (written : Writes) (wished : Wish) (word got : ℕ) → ((address : ℕ) → address_in wished ≡ Some address → IsOwnPlace core slot place)
-    → StoresIn core slot place (made pc npc written wished word got).stored
+    → StoresIn core slot place (step_of_wish pc npc written wished word got).stored
 stores-in core slot place pc npc written (wish.Store address count value) word got own = own address refl
 stores-in core slot place pc npc written (wish.Load reg at how old) word got own = tt
 stores-in core slot place pc npc written wish.Nothing word got own = tt
@@ -161,17 +161,17 @@ step-stores core slot place pc npc effect word got own = stores-in core slot pla
 
 -- a place of a slot that was stopped holds nothing
 stopped-clean : (v : Versions) (core : CoreState) (place : ℕ) (torn : Torn) → (way_at (torn_off v core (way_at core.ways place) torn).ways place).dirty ≡ false
-unfolding dropped raising
+unfolding without_guest after_raise
 stopped-clean v core place torn =
     let slot = (way_at core.ways place).slot in
     ap (λ w. w.dirty) (way-without slot core.ways place) ∙ elim (eqb_tells slot slot) [ inl is ↦ rw is.0 refl | inr other ↦ absurd (other.1 refl) ]
 
 torn-session : (v : Versions) (core : CoreState) (way : Way) (torn : Torn) (slot : ℕ) → slot ≢ way.slot → session_of (torn_off v core way torn) slot ≡ session_of core slot
-unfolding dropped raising
+unfolding without_guest after_raise
 torn-session v core way torn slot differs = get_or-set_other core.sessions way.slot slot (left (session_of core way.slot) (state.Stopped (rule.TreeNode torn.level))) free differs
 
 written-sessions : (v : Versions) (core : CoreState) (way : Way) (version : ℕ) → (written_back v core way version).sessions ≡ core.sessions
-unfolding sealing raising
+unfolding after_seal after_raise
 written-sessions v core way version = refl
 
 -- ---- The walk
@@ -205,7 +205,7 @@ module _ (v : Versions) (slot : ℕ) (R : CoreState → CoreState → Type 0) (p
     filled mid same walked = (parts.on core pointed (with_way mid place fresh_way) (parts.point core line) walked, (same, own-put mid.ways slot place fresh_way refl))
 
     by_answer : victim.dirty ≡ true → (answer : Result ℕ Torn) → raised_for v pointed victim ≡ answer
-        → Walked core (put v victim.slot place slot line bytes (or_stopped v victim.slot (sealed_by_raise v (raising v pointed victim.slot victim.line) victim.slot victim.line victim.bytes answer)))
+        → Walked core (reach_after_victim v victim.slot place slot line bytes (or_stopped v victim.slot (sealed_by_raise v (after_raise v pointed victim.slot victim.line) victim.slot victim.line victim.bytes answer)))
     by_answer dirty (Ok version) is =
         filled (written_back v pointed victim version) (ap (λ list. session_at list slot) (written-sessions v pointed victim version))
         (parts.seal pointed place version fresh_way dirty is (inr (refl, (refl, runs))))
@@ -219,43 +219,43 @@ module _ (v : Versions) (slot : ℕ) (R : CoreState → CoreState → Type 0) (p
               (parts.bring off place fresh_way (stopped-clean v pointed place torn) (inr (refl, (refl, ap (λ s. s.state) same ∙ runs))))))
         ]
 
-    by_dirty : (dirty : Bool) → victim.dirty ≡ dirty → Walked core (put v victim.slot place slot line bytes (cleared v pointed victim dirty))
+    by_dirty : (dirty : Bool) → victim.dirty ≡ dirty → Walked core (reach_after_victim v victim.slot place slot line bytes (after_victim v pointed victim dirty))
     by_dirty false clean = filled pointed refl (parts.bring pointed place fresh_way clean (inr (refl, (refl, runs))))
     by_dirty true dirty = by_answer dirty (raised_for v pointed victim) refl
 
-    walk_placed : Walked core (placed v core slot line bytes)
-    unfolding placed cleared_at
+    walk_placed : Walked core (reach_after_placing v core slot line bytes)
+    unfolding reach_after_placing cleared_at
     walk_placed = by_dirty victim.dirty refl
 
   -- what was read opens, or stops its slot
-  walk_opened : (core : CoreState) (line version place : ℕ) (ct : List ℕ) (bytes : Option (List ℕ)) → IsRunning core slot → Walked core (opened v core slot line version place ct bytes)
+  walk_opened : (core : CoreState) (line version place : ℕ) (ct : List ℕ) (bytes : Option (List ℕ)) → IsRunning core slot → Walked core (after_opening v core slot line version place ct bytes)
   walk_opened core line version place ct None runs = (parts.stop core (rule.LineTag line) (rw runs refl), tt)
   walk_opened core line version place ct (Some bytes) runs =
-      then_walked core (noted core (accept_entry (who_of core slot) line version ct place)) refl (parts.accept core line version place ct runs) _
-      (walk_placed (noted core (accept_entry (who_of core slot) line version ct place)) line bytes runs)
+      then_walked core (with_entry core (accept_entry (who_of core slot) line version ct place)) refl (parts.accept core line version place ct runs) _
+      (walk_placed (with_entry core (accept_entry (who_of core slot) line version ct place)) line bytes runs)
 
   walk_brought : (core : CoreState) (line frame : ℕ) (answer : Result ℕ Torn) → IsRunning core slot → Walked core (brought v core slot line frame answer)
   walk_brought core line frame (Err torn) runs = (parts.stop core (rule.TreeNode torn.level) (rw runs refl), tt)
   walk_brought core line frame (Ok version) runs =
-      cond_both (version == 0) (placed v core slot line (replicate 32 0)) (read_from v core slot line frame version) (λ result. Walked core result)
+      cond_both (version == 0) (reach_after_placing v core slot line (replicate 32 0)) (read_from v core slot line frame version) (λ result. Walked core result)
       (λ _. walk_placed core line (replicate 32 0) runs)
       (λ _. walk_opened core line version (ct_place frame line) (sealed_at core.ram frame line).ct
       (unsealed_line (name_of (who_of core slot) line version) (keys_of (who_of core slot) line version) (sealed_at core.ram frame line)) runs)
 
-  walk_looked : (core : CoreState) (line frame : ℕ) (at : Option ℕ) → found core.ways slot line ≡ at → IsRunning core slot → Walked core (looked v core slot line frame at)
+  walk_looked : (core : CoreState) (line frame : ℕ) (at : Option ℕ) → found core.ways slot line ≡ at → IsRunning core slot → Walked core (reach_by_cache v core slot line frame at)
   walk_looked core line frame (Some place) is runs = (parts.none core, (refl, inl (found-IsOf core.ways slot line place is).0))
   walk_looked core line frame None is runs =
-      let asked = hashed core (v.texts_of_version (store_of core slot) line core.ram) in
+      let asked = core_with_hashes core (v.texts_of_version (store_of core slot) line core.ram) in
       then_walked core asked refl (parts.hash core (v.texts_of_version (store_of core slot) line core.ram)) _ (walk_brought asked line frame (v.answer_of_version (store_of core slot) line core.ram) runs)
 
   -- what comes of an access
   abbrev pub Accessed : CoreState → CoreState × Reach → Type 0
   Accessed core result = R core result.0 × Reached core slot result.0 result.1
 
-  walk_mapped : (core : CoreState) (line : ℕ) (frame : Option ℕ) → IsRunning core slot → Accessed core (mapped v core slot line frame)
+  walk_mapped : (core : CoreState) (line : ℕ) (frame : Option ℕ) → IsRunning core slot → Accessed core (reach_in_frame v core slot line frame)
   walk_mapped core line None runs = (parts.none core, refl)
   walk_mapped core line (Some frame) runs =
-      let result = looked v core slot line frame (found core.ways slot line) in
+      let result = reach_by_cache v core slot line frame (found core.ways slot line) in
       let walked = walk_looked core line frame (found core.ways slot line) refl runs in
       (walked.0, found-Reached core slot result.0 result.1 walked.1)
 
@@ -270,22 +270,22 @@ module _ (v : Versions) (slot : ℕ) (R : CoreState → CoreState → Type 0) (p
     after_walks core (ended.Call code) runs exits = ends.trap core (cause.Call code) runs
     after_walks core ended.Exit runs exits = ends.exit core runs (exits refl)
     after_walks core ended.Goes runs exits =
-        cond_both interrupt (trapped core slot cause.Interrupt) (core, None) (λ (r : CoreState × Option Cause). T core r.0) (λ _. ends.trap core cause.Interrupt runs) (λ _. ends.went core)
+        cond_both interrupt (after_trap core slot cause.Interrupt) (core, None) (λ (r : CoreState × Option Cause). T core r.0) (λ _. ends.trap core cause.Interrupt runs) (λ _. ends.went core)
 
     module _ (core : CoreState) (runs : IsRunning core slot) (effect : Effect) (word place : ℕ) where
       abbrev made_step : Step
       made_step = step_made (session_of core slot).pc (session_of core slot).npc effect word (received_by core.cells core.ram effect.wish)
 
       abbrev after : CoreState
-      after = retired core slot place effect made_step
+      after = after_retirement core slot place effect made_step
 
-      here : session_of after slot ≡ moved (session_of core slot) effect made_step
+      here : session_of after slot ≡ session_after_step (session_of core slot) effect made_step
       here = get_or-set_same core.sessions slot _ free (running-within core slot runs)
 
-      walk_retires : ((address : ℕ) → address_in effect.wish ≡ Some address → IsOwnPlace core slot place) → T core (retires core slot interrupt effect word place).0
+      walk_retires : ((address : ℕ) → address_in effect.wish ≡ Some address → IsOwnPlace core slot place) → T core (retirement core slot interrupt effect word place).0
       walk_retires own =
           ends.after core after _
-          (parts.step core place (moved (session_of core slot) effect made_step) made_step runs (record { install = refl; id = refl; key = refl; lines = refl; epoch = refl; state = refl })
+          (parts.step core place (session_after_step (session_of core slot) effect made_step) made_step runs (record { install = refl; id = refl; key = refl; lines = refl; epoch = refl; state = refl })
           (step-stores core slot place (session_of core slot).pc (session_of core slot).npc effect word (received_by core.cells core.ram effect.wish) own))
           (after_walks after made_step.end (ap (λ s. s.state) here ∙ runs)
           (λ is. (core.entries, made_step, ap (λ n. core.entries ++ entry.Step n made_step ∷ []) (sym (ap (λ s. s.install) here)), is)))
@@ -301,7 +301,7 @@ module _ (v : Versions) (slot : ℕ) (R : CoreState → CoreState → Type 0) (p
     walk_data core effect None is runs = walk_retires core runs effect 0 0 (λ address some. absurd (cc))
     walk_data core effect (Some address) is runs = data_walks core effect (access v core slot (address / 32)) runs (walk_access core (address / 32) runs)
 
-    walk_ran : (core : CoreState) (result : Result Effect OwnFault) → IsRunning core slot → T core (ran v core slot interrupt result).0
+    walk_ran : (core : CoreState) (result : Result Effect OwnFault) → IsRunning core slot → T core (after_effect v core slot interrupt result).0
     walk_ran core (Err why) runs = ends.trap core (cause.Fault why) runs
     walk_ran core (Ok effect) runs = walk_data core effect (address_in effect.wish) refl runs
 
@@ -317,6 +317,6 @@ module _ (v : Versions) (slot : ℕ) (R : CoreState → CoreState → Type 0) (p
     unfolding guest
     walk_guest core runs =
         let pc = (session_of core slot).pc in
-        cond_both (is_code pc) (code_reached v slot interrupt (access v core slot (pc / 32))) (trapped core slot (cause.Fault own_fault.Address)) (λ (r : CoreState × Option Cause). T core r.0)
+        cond_both (is_code pc) (code_reached v slot interrupt (access v core slot (pc / 32))) (after_trap core slot (cause.Fault own_fault.Address)) (λ (r : CoreState × Option Cause). T core r.0)
         (λ _. code_walks core (access v core slot (pc / 32)) runs (walk_access core (pc / 32) runs))
         (λ _. ends.trap core (cause.Fault own_fault.Address) runs)

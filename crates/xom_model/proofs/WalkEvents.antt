@@ -27,16 +27,16 @@ use Rattle.line_cache.specs.declared.way.Way.{Way}
 use Rattle.line_cache.specs.Ways.{found, free_way, way_at}
 use Rattle.page_map.specs.Pages.{with_page}
 use Rattle.tag_regs.specs.TaggedCells.{cell_at}
-use Rattle.xom_model.specs.State.{CoreState, Record, noted, session_of, with_cells, with_session}
-use Rattle.xom_model.specs.Access.{and_then, cleared, cleared_at, flushed, or_stopped, raising, sealed_by_raise, taken, taken_out}
-use Rattle.xom_model.specs.Guest.{delivered, guest, signal_of, signalled}
-use Rattle.xom_model.specs.Operation.{epoch_of, is_paused, reopen, reopened, restore_register, restore_tests, restored, save_register, save_tests, saved, session_for, enter, envelope_at, go_on, image_tests, install, install_tests, installed, is_bad_image, is_bad_slot, is_cell, is_free_state, is_slot, kill, kill_tests, killed, map_page, map_tests, missing, operation, refused, resume, resume_paused, set_register, takes, tested, unmap_page, unmap_tests, unmapped, unwrap, waits, with_signal}
+use Rattle.xom_model.specs.State.{CoreState, Record, session_of, with_cells, with_entry, with_session}
+use Rattle.xom_model.specs.Access.{after_eviction, after_flush, after_raise, after_victim, and_then, cleared_at, or_stopped, sealed_by_raise, taken_out}
+use Rattle.xom_model.specs.Guest.{after_delivery, guest, session_after_signal, signal_of}
+use Rattle.xom_model.specs.Operation.{after_install, after_kill, after_reopening, after_restore, after_save, after_unmap, can_come_back, enter, envelope_at, epoch_of, first_refusal_or, go_on, image_tests, install, install_tests, is_bad_image, is_bad_slot, is_cell, is_free_state, is_paused, is_slot, kill, kill_tests, map_page, map_tests, missing_cell, operation, refusal_of, reopening, restore_register, restore_tests, resume, resume_paused, save_register, save_tests, session_for, set_register, slot_takes_signal, unmap_page, unmap_tests, unwrap, with_signal}
 use Rattle.xom_model.specs.Lines.{who_of}
 use Rattle.xom_model.specs.Saves.{reg_accept_entry, reg_keys, reg_name, reg_pair, saved_at, sealed_reg}
-use Rattle.xom_model.specs.Null.{Answer, null_step, opened}
-use Rattle.xom_model.specs.Event.{guest_turn, null_turn, on, open_in, running, told_in, with_open}
+use Rattle.xom_model.specs.Null.{Answer, null_step, with_null_writes}
+use Rattle.xom_model.specs.Event.{guest_turn, null_turn, on, open_in, running_slot, told_in, with_open}
 use Rattle.xom_model.specs.Holds.{IsLive}
-use Rattle.xom_model.specs.Touched.{named, named_in, slot_or_none, touched}
+use Rattle.xom_model.specs.Touched.{named_in, slot_of_event, slot_of_op, slot_or_none}
 use Rattle.xom_model.proofs.Opened.{Opens, opens_null}
 use Rattle.xom_model.proofs.Turns.{ran_on-core, running-runs}
 use Rattle.xom_model.proofs.Gone.{less}
@@ -49,12 +49,12 @@ pub record Deeds (v : Versions) (slot : ℕ) (R T : CoreState → CoreState → 
   pub enters : (core : CoreState) → (session_of core slot).state ≡ state.Fresh → R core (with_session core slot (entered (session_of core slot)))
   pub resumes : (core : CoreState) → (session_of core slot).state ≡ state.Paused → R core (with_session core slot (resumed (session_of core slot)))
   pub maps : (core : CoreState) (page : ℕ) (frame : Option ℕ) → IsLive core slot ⊎ (frame ≡ None) → R core (record core { pages = with_page core.pages slot page frame })
-  pub kills : (core : CoreState) → 1 ≤ slot → slot ≤ 16 → is_free_state (session_of core slot).state ≡ false → R core (killed v core slot)
-  pub outs : (core : CoreState) (byte : ℕ) → R core (noted core (entry.Out byte))
+  pub kills : (core : CoreState) → 1 ≤ slot → slot ≤ 16 → is_free_state (session_of core slot).state ≡ false → R core (after_kill v core slot)
+  pub outs : (core : CoreState) (byte : ℕ) → R core (with_entry core (entry.Out byte))
   pub installs : (core : CoreState) (place area : ℕ) (plain : Unwrapped) → 1 ≤ slot → slot ≤ 16 → (session_of core slot).state ≡ state.Free
-      → unwrapped core.machine (envelope_at core place) ≡ Some plain → is_bad_image (session_for core plain) ≡ false → T core (installed v core slot place area plain)
-  pub saves : (core : CoreState) (key ct : List ℕ) (name : RegName) → IsLive core slot → name.install ≡ (session_of core slot).install → R core (noted core (entry.Seal key (register_message name ct)))
-  pub restores : (core : CoreState) (key ct : List ℕ) (name : RegName) (place : ℕ) → IsLive core slot → name.install ≡ (session_of core slot).install → R core (noted core (entry.Accept key (register_message name ct) place))
+      → unwrapped core.machine (envelope_at core place) ≡ Some plain → is_bad_image (session_for core plain) ≡ false → T core (after_install v core slot place area plain)
+  pub saves : (core : CoreState) (key ct : List ℕ) (name : RegName) → IsLive core slot → name.install ≡ (session_of core slot).install → R core (with_entry core (entry.Seal key (register_message name ct)))
+  pub restores : (core : CoreState) (key ct : List ℕ) (name : RegName) (place : ℕ) → IsLive core slot → name.install ≡ (session_of core slot).install → R core (with_entry core (entry.Accept key (register_message name ct) place))
   pub takes_back : (core : CoreState) (reg value : ℕ) → IsLive core slot → R core (with_cells core (set core.cells reg (record { value = value; tag = slot })))
 
 -- a slot that is paused is one of the table's
@@ -84,7 +84,7 @@ good_slot core slot good = elim (is_slot slot) as (λ b. is_slot slot ≡ b → 
   | false ↦ λ _ bad. absurd (cc)
 ] refl good
 
-pub waits_live : (s : SlotState) → not (waits s) ≡ false → is_live s ≡ true
+pub waits_live : (s : SlotState) → not (can_come_back s) ≡ false → is_live s ≡ true
 waits_live state.Fresh is = refl
 waits_live state.Paused is = refl
 waits_live state.Free is = absurd (cc)
@@ -120,15 +120,15 @@ module _ (v : Versions) (slot : ℕ) (R T : CoreState → CoreState → Type 0) 
     its_way = way_at core.ways place
 
     taken_answer : its_way.dirty ≡ true → (answer : Result ℕ Torn) → raised_for v core its_way ≡ answer
-        → R core (taken place (or_stopped v its_way.slot (sealed_by_raise v (raising v core its_way.slot its_way.line) its_way.slot its_way.line its_way.bytes answer))).0
+        → R core (after_eviction place (or_stopped v its_way.slot (sealed_by_raise v (after_raise v core its_way.slot its_way.line) its_way.slot its_way.line its_way.bytes answer))).0
     taken_answer dirty (Ok version) is = parts.seal core place version free_way dirty is (inl refl)
     taken_answer dirty (Err torn) is = parts.tear core place torn dirty is
 
-    taken_dirty : (dirty : Bool) → its_way.dirty ≡ dirty → R core (taken place (cleared v core its_way dirty)).0
+    taken_dirty : (dirty : Bool) → its_way.dirty ≡ dirty → R core (after_eviction place (after_victim v core its_way dirty)).0
     taken_dirty false clean = parts.bring core place free_way clean (inl refl)
     taken_dirty true dirty = taken_answer dirty (raised_for v core its_way) refl
 
-    walk_taken_at : R core (taken place (cleared_at v core place)).0
+    walk_taken_at : R core (after_eviction place (cleared_at v core place)).0
     unfolding cleared_at
     walk_taken_at = taken_dirty its_way.dirty refl
 
@@ -140,11 +140,11 @@ module _ (v : Versions) (slot : ℕ) (R T : CoreState → CoreState → Type 0) 
   then_walks core (mid, None) rest walked more = parts.on core mid (rest mid).0 walked (more mid)
   then_walks core (mid, Some why) rest walked more = walked
 
-  walk_flushed : (count line : ℕ) (core : CoreState) → R core (flushed v slot count line core).0
-  unfolding flushed
+  walk_flushed : (count line : ℕ) (core : CoreState) → R core (after_flush v slot count line core).0
+  unfolding after_flush
   walk_flushed zero line core = parts.none core
   walk_flushed (suc count) line core =
-      then_walks core (taken_out v core (found core.ways slot line)) (flushed v slot count (line + 1)) (walk_taken core (found core.ways slot line)) (λ mid. walk_flushed count (line + 1) mid)
+      then_walks core (taken_out v core (found core.ways slot line)) (after_flush v slot count (line + 1)) (walk_taken core (found core.ways slot line)) (λ mid. walk_flushed count (line + 1) mid)
 
   -- ---- Operations
 
@@ -171,8 +171,8 @@ module _ (v : Versions) (slot : ℕ) (R T : CoreState → CoreState → Type 0) 
     -- a signal is a step
     walk_signal : R now (with_signal now slot signal)
     walk_signal =
-        cond_both (signal == 0) now (delivered now slot signal) (λ new. R now new) (λ _. parts.none now)
-        (λ _. parts.step now 0 (signalled (session_of now slot) signal) (signal_of (session_of now slot) signal) (ap (λ s. s.state) here)
+        cond_both (signal == 0) now (after_delivery now slot signal) (λ new. R now new) (λ _. parts.none now)
+        (λ _. parts.step now 0 (session_after_signal (session_of now slot) signal) (signal_of (session_of now slot) signal) (ap (λ s. s.state) here)
         (record { install = refl; id = refl; key = refl; lines = refl; epoch = refl; state = refl }) tt)
 
     walk_go_on : (lost : Option ℕ) → T core (go_on core slot signal lost).0
@@ -181,9 +181,9 @@ module _ (v : Versions) (slot : ℕ) (R T : CoreState → CoreState → Type 0) 
 
     walk_paused : T core (resume_paused core slot signal).0
     walk_paused =
-        either core (nat_le signal 63) (cond (takes (session_of core slot) signal) (go_on core slot signal (missing slot (session_of core slot).mask core.cells)) (core, 2)) (core, 7)
-        (λ _. either core (takes (session_of core slot) signal) (go_on core slot signal (missing slot (session_of core slot).mask core.cells)) (core, 2)
-        (λ _. walk_go_on (missing slot (session_of core slot).mask core.cells)) (ends.went core))
+        either core (nat_le signal 63) (cond (slot_takes_signal (session_of core slot) signal) (go_on core slot signal (missing_cell slot (session_of core slot).mask core.cells)) (core, 2)) (core, 7)
+        (λ _. either core (slot_takes_signal (session_of core slot) signal) (go_on core slot signal (missing_cell slot (session_of core slot).mask core.cells)) (core, 2)
+        (λ _. walk_go_on (missing_cell slot (session_of core slot).mask core.cells)) (ends.went core))
         (ends.went core)
 
   walk_resume : (core : CoreState) (signal : ℕ) (at : SlotState) → (session_of core slot).state ≡ at → T core (resume core slot signal at).0
@@ -194,17 +194,17 @@ module _ (v : Versions) (slot : ℕ) (R T : CoreState → CoreState → Type 0) 
   walk_resume core signal state.Ended is = ends.went core
   walk_resume core signal (state.Stopped why) is = ends.went core
 
-  walk_tested : (core : CoreState) (tests : List (Bool × ℕ)) (deed : CoreState × ℕ) → (Passes tests → T core deed.0) → T core (tested core tests deed).0
+  walk_tested : (core : CoreState) (tests : List (Bool × ℕ)) (deed : CoreState × ℕ) → (Passes tests → T core deed.0) → T core (first_refusal_or core tests deed).0
   walk_tested core [] deed does = does tt
   walk_tested core (test ∷ tests) deed does =
-      cond_both test.0 (refused core test.1) (tested core tests deed) (λ (a : CoreState × ℕ). T core a.0)
+      cond_both test.0 (refusal_of core test.1) (first_refusal_or core tests deed) (λ (a : CoreState × ℕ). T core a.0)
       (λ _. ends.went core) (λ passed. walk_tested core tests deed (λ rest. does (passed, rest)))
 
   walk_unwrap : (core : CoreState) (place area : ℕ) → (1 ≤ slot) × (slot ≤ 16) → (session_of core slot).state ≡ state.Free
       → (opens : Option Unwrapped) → unwrapped core.machine (envelope_at core place) ≡ opens → T core (unwrap v core slot place area opens).0
   walk_unwrap core place area slots is_free None is = ends.went core
   walk_unwrap core place area slots is_free (Some plain) is =
-      walk_tested core (image_tests core plain) (installed v core slot place area plain, 0) (λ (p : Passes (image_tests core plain)). deeds.installs core place area plain slots.0 slots.1 is_free is p.0)
+      walk_tested core (image_tests core plain) (after_install v core slot place area plain, 0) (λ (p : Passes (image_tests core plain)). deeds.installs core place area plain slots.0 slots.1 is_free is p.0)
 
   walk_install : (core : CoreState) (place area : ℕ) → T core (install v core slot place area).0
   walk_install core place area = walk_tested core (install_tests core slot place area) (unwrap v core slot place area (unwrapped core.machine (envelope_at core place)))
@@ -215,46 +215,46 @@ module _ (v : Versions) (slot : ℕ) (R T : CoreState → CoreState → Type 0) 
   walk_map core page frame = walk_tested core (map_tests core slot page frame) (record core { pages = with_page core.pages slot page (Some frame) }, 0)
       (λ (p : Passes (map_tests core slot page frame)). by_parts core _ (deeds.maps core page (Some frame) (inl (waits_live (session_of core slot).state p.1.0))))
 
-  walk_unmapped : (core : CoreState) (page : ℕ) (result : CoreState × Option Rule) → R core result.0 → T core (unmapped v slot page result).0
+  walk_unmapped : (core : CoreState) (page : ℕ) (result : CoreState × Option Rule) → R core result.0 → T core (after_unmap v slot page result).0
   walk_unmapped core page (mid, None) walked = by_parts core _ (parts.on core mid _ walked (deeds.maps mid page None (inr refl)))
   walk_unmapped core page (mid, Some why) walked = by_parts core mid walked
 
   walk_unmap : (core : CoreState) (page : ℕ) → T core (unmap_page v core slot page).0
-  walk_unmap core page = walk_tested core (unmap_tests core slot page) (unmapped v slot page (flushed v slot 128 (128 * page) core))
-      (λ _. walk_unmapped core page (flushed v slot 128 (128 * page) core) (walk_flushed 128 (128 * page) core))
+  walk_unmap core page = walk_tested core (unmap_tests core slot page) (after_unmap v slot page (after_flush v slot 128 (128 * page) core))
+      (λ _. walk_unmapped core page (after_flush v slot 128 (128 * page) core) (walk_flushed 128 (128 * page) core))
 
   walk_kill : (core : CoreState) → T core (kill v core slot).0
-  walk_kill core = walk_tested core (kill_tests core slot) (killed v core slot, 0)
+  walk_kill core = walk_tested core (kill_tests core slot) (after_kill v core slot, 0)
       (λ (p : Passes (kill_tests core slot)). let good = good_slot core slot p.0 in by_parts core _ (deeds.kills core good.0.0 good.0.1 good.1))
 
   -- a register is sealed and written to RAM
   walk_save : (core : CoreState) (reg address : ℕ) → T core (save_register core slot reg address).0
-  unfolding saved
-  walk_save core reg address = walk_tested core (save_tests core slot reg address) (saved core slot reg address, 0) (λ (p : Passes (save_tests core slot reg address)).
+  unfolding after_save
+  walk_save core reg address = walk_tested core (save_tests core slot reg address) (after_save core slot reg address, 0) (λ (p : Passes (save_tests core slot reg address)).
       let who = who_of core slot in
       let epoch = epoch_of core slot in
       let pair = reg_pair who epoch reg (cell_at core.cells reg).value in
-      let sealed = noted core (entry.Seal pair.0 pair.1) in
+      let sealed = with_entry core (entry.Seal pair.0 pair.1) in
       by_parts core _ (parts.on core sealed _ (deeds.saves core pair.0 (sealed_reg who epoch reg (cell_at core.cells reg).value).ct (reg_name who epoch reg) (paused_live (session_of core slot).state p.1.0) refl) (deeds.sets_ram sealed _)))
 
   -- it comes back, or stops its slot
-  walk_reopened : (core : CoreState) (reg address : ℕ) → IsLive core slot → (found : Option ℕ) → T core (reopened core slot reg address found).0
-  unfolding restored
+  walk_reopened : (core : CoreState) (reg address : ℕ) → IsLive core slot → (found : Option ℕ) → T core (after_reopening core slot reg address found).0
+  unfolding after_restore
   walk_reopened core reg address alive None = by_parts core _ (parts.stop core (rule.RegisterTag reg) alive)
   walk_reopened core reg address alive (Some value) =
       let who = who_of core slot in
-      let accepted = noted core (reg_accept_entry who (epoch_of core slot) reg (saved_at core.ram address).ct address) in
+      let accepted = with_entry core (reg_accept_entry who (epoch_of core slot) reg (saved_at core.ram address).ct address) in
       by_parts core _ (parts.on core accepted _ (deeds.restores core (reg_keys who (epoch_of core slot)).tag.0 (saved_at core.ram address).ct (reg_name who (epoch_of core slot) reg) address alive refl) (deeds.takes_back accepted reg value alive))
 
   walk_restore : (core : CoreState) (reg address : ℕ) → T core (restore_register core slot reg address).0
-  walk_restore core reg address = walk_tested core (restore_tests core slot reg address) (reopen core slot reg address)
+  walk_restore core reg address = walk_tested core (restore_tests core slot reg address) (reopening core slot reg address)
       (λ (p : Passes (restore_tests core slot reg address)). walk_reopened core reg address (paused_live (session_of core slot).state p.1.0) _)
 
   walk_register : (core : CoreState) (reg value : ℕ) → T core (set_register core reg value).0
   walk_register core reg value = either core (is_cell reg) (with_cells core (set core.cells reg (record { value = value; tag = 0 })), 0) (core, 7) (λ _. by_parts core _ (deeds.sets_register core reg value)) (ends.went core)
 
 -- an operation, over relations about the slot that it names
-pub walk_operation : (v : Versions) (op : Op) (R T : CoreState → CoreState → Type 0) → Parts v (named op) R → Ends (named op) R T → Deeds v (named op) R T → (core : CoreState) → T core (operation v core op).0
+pub walk_operation : (v : Versions) (op : Op) (R T : CoreState → CoreState → Type 0) → Parts v (slot_of_op op) R → Ends (slot_of_op op) R T → Deeds v (slot_of_op op) R T → (core : CoreState) → T core (operation v core op).0
 unfolding operation
 walk_operation v (Enter slot) R T parts ends deeds core = either v slot R T parts ends deeds core (is_slot slot) (enter core slot (session_of core slot).state) (core, 1) (λ _. walk_enter v slot R T parts ends deeds core (session_of core slot).state refl) (ends.went core)
 walk_operation v (Resume slot signal) R T parts ends deeds core = either v slot R T parts ends deeds core (is_slot slot) (resume core slot signal (session_of core slot).state) (core, 1) (λ _. walk_resume v slot R T parts ends deeds core signal (session_of core slot).state refl) (ends.went core)
@@ -271,7 +271,7 @@ walk_operation v (Out byte) R T parts ends deeds core = ends.after core _ _ (dee
 -- ---- Null code, writes and every event
 
 module _ (v : Versions) (slot : ℕ) (R T : CoreState → CoreState → Type 0) (parts : Parts v slot R) (ends : Ends slot R T) (deeds : Deeds v slot R T) where
-  walk_written : (core : CoreState) (written : Writes) → R core (with_cells core (opened core.cells written))
+  walk_written : (core : CoreState) (written : Writes) → R core (with_cells core (with_null_writes core.cells written))
   walk_written core writes.Nothing = parts.none core
   walk_written core (writes.One reg value) = deeds.sets_register core reg value
   walk_written core (writes.Pair hi lo) =
@@ -287,9 +287,9 @@ walk_null : (v : Versions) (R T : CoreState → CoreState → Type 0) (r : Recor
 walk_null v R T r (s, Err why) opens parts ends deeds = ends.after _ _ _ (walk_opened_cells v 0 R T parts ends deeds r.core s.cells s.ram opens) (ends.went _)
 walk_null v R T r (s, Ok None) opens parts ends deeds = ends.after _ _ _ (walk_opened_cells v 0 R T parts ends deeds r.core s.cells s.ram opens) (ends.went _)
 walk_null v R T r (s, Ok (Some op)) opens parts ends deeds =
-    ends.after _ _ _ (walk_opened_cells v (named op) R T parts ends deeds r.core s.cells s.ram opens) (walk_operation v op R T parts ends deeds (with_open r s).core)
+    ends.after _ _ _ (walk_opened_cells v (slot_of_op op) R T parts ends deeds r.core s.cells s.ram opens) (walk_operation v op R T parts ends deeds (with_open r s).core)
 
-walk_turn : (v : Versions) (R T : CoreState → CoreState → Type 0) (r : Record) (interrupt : Bool) (at : Option ℕ) → running r ≡ at
+walk_turn : (v : Versions) (R T : CoreState → CoreState → Type 0) (r : Record) (interrupt : Bool) (at : Option ℕ) → running_slot r ≡ at
     → Parts v (slot_or_none at) R → Ends (slot_or_none at) R T → T r.core (guest_turn v r interrupt at).0.core
 walk_turn v R T r interrupt None is parts ends = ends.went r.core
 walk_turn v R T r interrupt (Some slot) is parts ends =
@@ -298,10 +298,10 @@ walk_turn v R T r interrupt (Some slot) is parts ends =
 
 -- an event, over relations about the slot that it runs or names
 pub walk_event : (v : Versions) (R T : CoreState → CoreState → Type 0) (r : Record) (e : Event) (bytes : List ℕ)
-    → Parts v (touched r e) R → Ends (touched r e) R T → Deeds v (touched r e) R T → T r.core (on v r e bytes).0.core
+    → Parts v (slot_of_event r e) R → Ends (slot_of_event r e) R T → Deeds v (slot_of_event r e) R T → T r.core (on v r e bytes).0.core
 unfolding on
 walk_event v R T r (event.Do op) bytes parts ends deeds = walk_operation v op R T parts ends deeds r.core
-walk_event v R T r (event.Guest interrupt) bytes parts ends deeds = walk_turn v R T r interrupt (running r) refl parts ends
+walk_event v R T r (event.Guest interrupt) bytes parts ends deeds = walk_turn v R T r interrupt (running_slot r) refl parts ends
 walk_event v R T r event.Null bytes parts ends deeds = walk_null v R T r (null_step (told_in r) (open_in r)) (opens_null (told_in r) (open_in r)) parts ends deeds
 walk_event v R T r (event.Write address count) bytes parts ends deeds = ends.after _ _ _ (deeds.sets_ram r.core _) (ends.went _)
 walk_event v R T r (event.Poke address count) bytes parts ends deeds = ends.after _ _ _ (deeds.sets_ram r.core _) (ends.went _)

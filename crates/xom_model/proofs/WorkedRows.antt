@@ -14,7 +14,7 @@ use Rattle.xom_model.specs.declared.outcome.Turn.{Turn}
 use Rattle.xom_model.specs.declared.outcome.Turn.TheVariants as turn
 use Rattle.xom_model.specs.State.{Record, power_on}
 use Rattle.xom_model.specs.Operation.{operation}
-use Rattle.xom_model.specs.Null.{fetched_open, null_step, poked}
+use Rattle.xom_model.specs.Null.{fetched_open, null_step, ram_after_write}
 use Rattle.xom_model.specs.Event.{on}
 use Rattle.xom_model.specs.Run.{end_of, event_of, run_from}
 use Rattle.xom_model.specs.Seen.{View}
@@ -30,11 +30,11 @@ free_slot = refl
 
 -- a kernel write takes the first bytes of the chunk, and is refused outside RAM
 kernel_write : (on chip (machine (1 ∷ 2 ∷ 3 ∷ 4 ∷ [])) (event.Write 1 2) (9 ∷ 8 ∷ 7 ∷ [])).0.core.ram ≡ 1 ∷ 9 ∷ 8 ∷ 4 ∷ []
-unfolding on poked
+unfolding on ram_after_write
 kernel_write = refl
 
 write_outside : (on chip (machine (1 ∷ 2 ∷ 3 ∷ 4 ∷ [])) (event.Write 3 2) (9 ∷ 8 ∷ 7 ∷ [])).0.status ≡ 4
-unfolding on poked
+unfolding on ram_after_write
 write_outside = refl
 
 -- a schedule that asks for nothing

@@ -16,22 +16,22 @@ use Rattle.line_ram.specs.Bytes.{line_size}
 use Rattle.page_map.specs.Pages.{frame_of, without_pages}
 use Rattle.line_cache.specs.declared.way.Way.{Way}
 use Rattle.line_cache.specs.Ways.{free_way, found, new_way, place_for, pointers_after, way_at, without_slot}
-use Rattle.xom_model.specs.State.{CoreState, session_of, store_of, with_session, with_way, noted, hashed, page_of}
+use Rattle.xom_model.specs.State.{CoreState, core_with_hashes, page_of, session_of, store_of, with_entry, with_session, with_way}
 use Rattle.xom_model.specs.Lines.{who_of, name_of, keys_of, sealed_as, seal_entry, accept_entry, ct_place, sealed_at, with_sealed}
 
 -- ---- Leaving for good
 
 -- what is left where a slot's guest leaves for good: no cell, no line in the cache and no page of its own
-unfoldable pub dropped : CoreState → ℕ → CoreState
-dropped core slot =
+unfoldable pub without_guest : CoreState → ℕ → CoreState
+without_guest core slot =
     record core { cells = scrubbed slot core.cells; ways = without_slot slot core.ways; pages = without_pages core.pages slot }
 
-abbrev pub gone : CoreState → ℕ → SlotState → CoreState
-gone core slot final = with_session (dropped core slot) slot (left (session_of core slot) final)
+abbrev pub after_leaving : CoreState → ℕ → SlotState → CoreState
+after_leaving core slot final = with_session (without_guest core slot) slot (left (session_of core slot) final)
 
 -- the guest is stopped for good by a rule
-abbrev pub stopped : CoreState → ℕ → Rule → CoreState
-stopped core slot why = noted (gone core slot (state.Stopped why)) (entry.Stop (session_of core slot).install why)
+abbrev pub after_stop : CoreState → ℕ → Rule → CoreState
+after_stop core slot why = with_entry (after_leaving core slot (state.Stopped why)) (entry.Stop (session_of core slot).install why)
 
 -- ---- Where a line is placed
 
@@ -42,9 +42,9 @@ with_pointers core line = record core { pointers = pointers_after core.ways core
 -- ---- Lines that are taken out
 
 -- a line that was written back, where it was dirty, is taken out
-abbrev pub taken : ℕ → CoreState × Option Rule → CoreState × Option Rule
-taken place (core, None) = (with_way core place free_way, None)
-taken place (core, Some why) = (core, Some why)
+abbrev pub after_eviction : ℕ → CoreState × Option Rule → CoreState × Option Rule
+after_eviction place (core, None) = (with_way core place free_way, None)
+after_eviction place (core, Some why) = (core, Some why)
 
 -- one part, and then the rest, unless the slot was stopped
 abbrev pub and_then : CoreState × Option Rule → (CoreState → CoreState × Option Rule) → CoreState × Option Rule
@@ -55,95 +55,95 @@ module _ (v : Versions) where
   -- ---- Write-back
 
   -- the core after a version was raised, or found torn
-  unfoldable pub raising : CoreState → ℕ → ℕ → CoreState
-  raising core slot line = record core {
+  unfoldable pub after_raise : CoreState → ℕ → ℕ → CoreState
+  after_raise core slot line = record core {
     stores = slice_set core.stores slot (v.store_after_raise (store_of core slot) line core.ram);
     ram = v.ram_after_raise (store_of core slot) line core.ram;
-    entries = (hashed core (v.texts_of_raise (store_of core slot) line core.ram)).entries;
+    entries = (core_with_hashes core (v.texts_of_raise (store_of core slot) line core.ram)).entries;
   }
 
   -- the core after a line was sealed under a version and written to its frame
-  unfoldable pub sealing : CoreState → ℕ → ℕ → List ℕ → ℕ → CoreState
-  sealing core slot line bytes version = record (noted core (seal_entry (who_of core slot) line version bytes)) {
+  unfoldable pub after_seal : CoreState → ℕ → ℕ → List ℕ → ℕ → CoreState
+  after_seal core slot line bytes version = record (with_entry core (seal_entry (who_of core slot) line version bytes)) {
     ram = with_sealed core.ram (frame_of core.pages slot (page_of line)) line (sealed_as (who_of core slot) line version bytes);
   }
 
   -- a torn tree is answered with its rule
   abbrev pub sealed_by_raise : CoreState → ℕ → ℕ → List ℕ → Result ℕ Torn → CoreState × Option Rule
   sealed_by_raise core slot line bytes (Err torn) = (core, Some (rule.TreeNode torn.level))
-  sealed_by_raise core slot line bytes (Ok version) = (sealing core slot line bytes version, None)
+  sealed_by_raise core slot line bytes (Ok version) = (after_seal core slot line bytes version, None)
 
   -- a line's bytes are sealed under its next version and written to its frame
   abbrev pub write_back : CoreState → ℕ → ℕ → List ℕ → CoreState × Option Rule
   write_back core slot line bytes =
-      sealed_by_raise (raising core slot line) slot line bytes (v.answer_of_raise (store_of core slot) line core.ram)
+      sealed_by_raise (after_raise core slot line) slot line bytes (v.answer_of_raise (store_of core slot) line core.ram)
 
   -- a torn tree stops the slot whose line was to be written back
   abbrev pub or_stopped : ℕ → CoreState × Option Rule → CoreState × Option Rule
   or_stopped slot (core, None) = (core, None)
-  or_stopped slot (core, Some why) = (stopped core slot why, Some why)
+  or_stopped slot (core, Some why) = (after_stop core slot why, Some why)
 
   -- what stands dirty in a way is written back
-  abbrev pub cleared : CoreState → Way → Bool → CoreState × Option Rule
-  cleared core way false = (core, None)
-  cleared core way true = or_stopped way.slot (write_back core way.slot way.line way.bytes)
+  abbrev pub after_victim : CoreState → Way → Bool → CoreState × Option Rule
+  after_victim core way false = (core, None)
+  after_victim core way true = or_stopped way.slot (write_back core way.slot way.line way.bytes)
 
   unfoldable pub cleared_at : CoreState → ℕ → CoreState × Option Rule
-  cleared_at core place = cleared core (way_at core.ways place) (way_at core.ways place).dirty
+  cleared_at core place = after_victim core (way_at core.ways place) (way_at core.ways place).dirty
 
   -- ---- Access
 
   -- the new line stands in its place, unless its own slot was stopped
-  abbrev pub put : ℕ → ℕ → ℕ → ℕ → List ℕ → CoreState × Option Rule → CoreState × Reach
-  put victim place slot line bytes (core, None) = (with_way core place (new_way slot line bytes), reach.Ready place)
-  put victim place slot line bytes (core, Some why) =
+  abbrev pub reach_after_victim : ℕ → ℕ → ℕ → ℕ → List ℕ → CoreState × Option Rule → CoreState × Reach
+  reach_after_victim victim place slot line bytes (core, None) = (with_way core place (new_way slot line bytes), reach.Ready place)
+  reach_after_victim victim place slot line bytes (core, Some why) =
       if victim == slot then (core, reach.Stopped why) else (with_way core place (new_way slot line bytes), reach.Ready place)
 
   -- A line is placed: its way is chosen first, and stays chosen; then a dirty victim is written back.
-  unfoldable pub placed : CoreState → ℕ → ℕ → List ℕ → CoreState × Reach
-  placed core slot line bytes =
+  unfoldable pub reach_after_placing : CoreState → ℕ → ℕ → List ℕ → CoreState × Reach
+  reach_after_placing core slot line bytes =
       let place = place_for core.ways core.pointers line in
-      put (way_at core.ways place).slot place slot line bytes (cleared_at (with_pointers core line) place)
+      reach_after_victim (way_at core.ways place).slot place slot line bytes (cleared_at (with_pointers core line) place)
 
   -- a line that was read is accepted where its tag is right, and else stops its slot
-  abbrev pub opened : CoreState → ℕ → ℕ → ℕ → ℕ → List ℕ → Option (List ℕ) → CoreState × Reach
-  opened core slot line version place ct None = (stopped core slot (rule.LineTag line), reach.Stopped (rule.LineTag line))
-  opened core slot line version place ct (Some bytes) = placed (noted core (accept_entry (who_of core slot) line version ct place)) slot line bytes
+  abbrev pub after_opening : CoreState → ℕ → ℕ → ℕ → ℕ → List ℕ → Option (List ℕ) → CoreState × Reach
+  after_opening core slot line version place ct None = (after_stop core slot (rule.LineTag line), reach.Stopped (rule.LineTag line))
+  after_opening core slot line version place ct (Some bytes) = reach_after_placing (with_entry core (accept_entry (who_of core slot) line version ct place)) slot line bytes
 
   abbrev pub read_from : CoreState → ℕ → ℕ → ℕ → ℕ → CoreState × Reach
   read_from core slot line frame version =
       let sealed = sealed_at core.ram frame line in
-      opened core slot line version (ct_place frame line) sealed.ct
+      after_opening core slot line version (ct_place frame line) sealed.ct
       (unsealed_line (name_of (who_of core slot) line version) (keys_of (who_of core slot) line version) sealed)
 
   -- version 0 means zeros, and RAM isn't read
   abbrev pub brought : CoreState → ℕ → ℕ → ℕ → Result ℕ Torn → CoreState × Reach
-  brought core slot line frame (Err torn) = (stopped core slot (rule.TreeNode torn.level), reach.Stopped (rule.TreeNode torn.level))
+  brought core slot line frame (Err torn) = (after_stop core slot (rule.TreeNode torn.level), reach.Stopped (rule.TreeNode torn.level))
   brought core slot line frame (Ok version) =
-      if version == 0 then placed core slot line (replicate line_size 0) else read_from core slot line frame version
+      if version == 0 then reach_after_placing core slot line (replicate line_size 0) else read_from core slot line frame version
 
   -- a cached line is ready; for another one its version is asked for
-  abbrev pub looked : CoreState → ℕ → ℕ → ℕ → Option ℕ → CoreState × Reach
-  looked core slot line frame (Some place) = (core, reach.Ready place)
-  looked core slot line frame None =
-      brought (hashed core (v.texts_of_version (store_of core slot) line core.ram)) slot line frame (v.answer_of_version (store_of core slot) line core.ram)
+  abbrev pub reach_by_cache : CoreState → ℕ → ℕ → ℕ → Option ℕ → CoreState × Reach
+  reach_by_cache core slot line frame (Some place) = (core, reach.Ready place)
+  reach_by_cache core slot line frame None =
+      brought (core_with_hashes core (v.texts_of_version (store_of core slot) line core.ram)) slot line frame (v.answer_of_version (store_of core slot) line core.ram)
 
-  abbrev pub mapped : CoreState → ℕ → ℕ → Option ℕ → CoreState × Reach
-  mapped core slot line None = (core, reach.PageFault (page_of line))
-  mapped core slot line (Some frame) = looked core slot line frame (found core.ways slot line)
+  abbrev pub reach_in_frame : CoreState → ℕ → ℕ → Option ℕ → CoreState × Reach
+  reach_in_frame core slot line None = (core, reach.PageFault (page_of line))
+  reach_in_frame core slot line (Some frame) = reach_by_cache core slot line frame (found core.ways slot line)
 
   -- the private access to a line of a slot
   unfoldable pub access : CoreState → ℕ → ℕ → CoreState × Reach
-  access core slot line = mapped core slot line (frame_of core.pages slot (page_of line))
+  access core slot line = reach_in_frame core slot line (frame_of core.pages slot (page_of line))
 
   -- ---- Flush
 
   -- a cached line is written back where it is dirty, and taken out
   abbrev pub taken_out : CoreState → Option ℕ → CoreState × Option Rule
   taken_out core None = (core, None)
-  taken_out core (Some place) = taken place (cleared_at core place)
+  taken_out core (Some place) = after_eviction place (cleared_at core place)
 
   -- so many lines of a slot from this one on, in ascending order
-  unfoldable pub flushed : ℕ → ℕ → ℕ → CoreState → CoreState × Option Rule
-  flushed slot zero line core = (core, None)
-  flushed slot (suc count) line core = and_then (taken_out core (found core.ways slot line)) (flushed slot count (line + 1))
+  unfoldable pub after_flush : ℕ → ℕ → ℕ → CoreState → CoreState × Option Rule
+  after_flush slot zero line core = (core, None)
+  after_flush slot (suc count) line core = and_then (taken_out core (found core.ways slot line)) (after_flush slot count (line + 1))

@@ -8,7 +8,7 @@ use Rattle.xom_base.specs.declared.event.Op.TheVariants.{Halt}
 use Rattle.xom_model.specs.declared.outcome.Outcome.{Outcome}
 use Rattle.xom_model.specs.declared.outcome.Outcome.TheVariants as outcome
 use Rattle.xom_model.specs.declared.outcome.NullFault.{NullFault}
-use Rattle.xom_model.specs.Null.{Told, Open, Answer, null_step, poked}
+use Rattle.xom_model.specs.Null.{Answer, Open, Told, null_step, ram_after_write}
 use Rattle.session_table.specs.Sessions.{running_in}
 use Rattle.xom_versions.specs.Versions.{Versions}
 use Rattle.xom_model.specs.State.{CoreState, Record, holds}
@@ -16,8 +16,8 @@ use Rattle.xom_model.specs.Guest.{guest}
 use Rattle.xom_model.specs.Operation.{operation}
 
 -- the slot whose guest runs, if one does
-abbrev pub running : Record → Option ℕ
-running r = running_in r.core.sessions
+abbrev pub running_slot : Record → Option ℕ
+running_slot r = running_in r.core.sessions
 
 -- how many bytes a chunk has: those of a write are its first
 abbrev pub chunk_size : ℕ
@@ -25,10 +25,10 @@ chunk_size = 8192
 
 -- an event may come: a guest event exactly where a guest runs, a bus write always, the others where none runs; a write has no more bytes than a chunk; and nothing comes after Halt or a kernel fault
 abbrev pub fits : Record → Event → Bool
-fits r (event.Do op) = not r.halted && is_none (running r)
-fits r (event.Guest interrupt) = not r.halted && is_some (running r)
-fits r event.Null = not r.halted && is_none (running r)
-fits r (event.Write address count) = not r.halted && (is_none (running r) && nat_le count chunk_size)
+fits r (event.Do op) = not r.halted && is_none (running_slot r)
+fits r (event.Guest interrupt) = not r.halted && is_some (running_slot r)
+fits r event.Null = not r.halted && is_none (running_slot r)
+fits r (event.Write address count) = not r.halted && (is_none (running_slot r) && nat_le count chunk_size)
 fits r (event.Poke address count) = not r.halted && nat_le count chunk_size
 
 abbrev pub is_halt : Op → Bool
@@ -40,8 +40,8 @@ outcome_of Halt = outcome.Halted
 outcome_of other = outcome.Went
 
 -- after an operation
-abbrev pub operated : Record → Op → CoreState × ℕ → Record × Outcome
-operated r op after = (record r { core = after.0; status = after.1; events = r.events + 1; halted = is_halt op }, outcome_of op)
+abbrev pub after_operation : Record → Op → CoreState × ℕ → Record × Outcome
+after_operation r op after = (record r { core = after.0; status = after.1; events = r.events + 1; halted = is_halt op }, outcome_of op)
 
 -- after a guest event: cause and who are set where the guest left
 abbrev pub ran_on : Record → ℕ → CoreState × Option Cause → Record × Outcome
@@ -62,8 +62,8 @@ abbrev pub with_ram : Record → List ℕ → Record
 with_ram r ram = record r { core = record r.core { ram = ram }; events = r.events + 1 }
 
 -- a kernel write that doesn't fit in RAM is refused
-abbrev pub wrote : Record → ℕ → List ℕ → Record × Outcome
-wrote r address bytes = (record (with_ram r (poked r.core.ram address bytes)) { status = if holds r.core.ram address (length bytes) then 0 else 4 }, outcome.Went)
+abbrev pub after_kernel_write : Record → ℕ → List ℕ → Record × Outcome
+after_kernel_write r address bytes = (record (with_ram r (ram_after_write r.core.ram address bytes)) { status = if holds r.core.ram address (length bytes) then 0 else 4 }, outcome.Went)
 
 module _ (v : Versions) where
   abbrev pub guest_turn : Record → Bool → Option ℕ → Record × Outcome
@@ -74,15 +74,15 @@ module _ (v : Versions) where
   abbrev pub null_asked : Record → ℕ → Result (Option Op) NullFault → Record × Outcome
   null_asked r at (Err why) = (record r { events = r.events + 1; halted = true; fault = Some (at, why) }, outcome.KernelFault at why)
   null_asked r at (Ok None) = (record r { events = r.events + 1 }, outcome.Went)
-  null_asked r at (Ok (Some op)) = operated r op (operation v r.core op)
+  null_asked r at (Ok (Some op)) = after_operation r op (operation v r.core op)
 
   abbrev pub null_turn : Record → Answer → Record × Outcome
   null_turn r answer = null_asked (with_open r answer.0) r.pc answer.1
 
   -- the next record, and what the event came to, with the chunk that has the bytes of a write
   unfoldable pub on : Record → Event → List ℕ → Record × Outcome
-  on r (event.Do op) chunk = operated r op (operation v r.core op)
-  on r (event.Guest interrupt) chunk = guest_turn r interrupt (running r)
+  on r (event.Do op) chunk = after_operation r op (operation v r.core op)
+  on r (event.Guest interrupt) chunk = guest_turn r interrupt (running_slot r)
   on r event.Null chunk = null_turn r (null_step (told_in r) (open_in r))
-  on r (event.Write address count) chunk = wrote r address (take count chunk)
-  on r (event.Poke address count) chunk = (with_ram r (poked r.core.ram address (take count chunk)), outcome.Went)
+  on r (event.Write address count) chunk = after_kernel_write r address (take count chunk)
+  on r (event.Poke address count) chunk = (with_ram r (ram_after_write r.core.ram address (take count chunk)), outcome.Went)

@@ -21,7 +21,7 @@ use Rattle.mips_effect.specs.declared.seen.Seen.{Seen}
 use Rattle.mips_effect.specs.declared.seen.Seen.TheVariants.{Value, Foreign}
 use Rattle.mips_effect.specs.declared.wish.Wish.{Wish}
 use Rattle.mips_effect.specs.declared.wish.Wish.TheVariants as wish
-use Rattle.mips_plain.specs.Instruction.{is_code, known, tried, step_made, handler_after, kept_after, signal_step}
+use Rattle.mips_plain.specs.Instruction.{effect_at, handler_after, instruction_or_fault, is_code, kept_after, signal_step, step_made}
 use Rattle.mips_plain.specs.Memory.{low_bytes, word_at, written_at}
 use Rattle.line_ram.specs.Bytes.{line_size, stored as stored_in_ram}
 use Rattle.tag_regs.specs.declared.cell.Cell.{Cell}
@@ -35,8 +35,8 @@ use Rattle.xom_model.specs.declared.reach.Reach.TheVariants as reach
 use Rattle.xom_versions.specs.Versions.{Versions}
 use Rattle.line_cache.specs.declared.way.Way.{Way}
 use Rattle.line_cache.specs.Ways.{way_at, written}
-use Rattle.xom_model.specs.State.{CoreState, holds, line_at, noted, session_of, with_session}
-use Rattle.xom_model.specs.Access.{access, gone}
+use Rattle.xom_model.specs.State.{CoreState, holds, line_at, session_of, with_entry, with_session}
+use Rattle.xom_model.specs.Access.{access, after_leaving}
 
 -- what a slot's guest sees in a cell: the value where the cell has the slot's tag; $0 is zero
 abbrev pub seen_as : ℕ → Cell → Seen
@@ -65,20 +65,20 @@ given_out ram (released.Cell reg value) = ram
 given_out ram (released.Null address value) = if holds ram address 4 then stored_in_ram ram address (to_be_bytes w32 value) else ram
 
 -- a written cell gets the slot's tag
-abbrev pub tagged : ℕ → List Cell → Writes → List Cell
-tagged slot cells writes.Nothing = cells
-tagged slot cells (writes.One reg value) = written_cell cells reg value slot
-tagged slot cells (writes.Pair hi lo) = written_cell (written_cell cells 32 hi slot) 33 lo slot
+abbrev pub with_writes : ℕ → List Cell → Writes → List Cell
+with_writes slot cells writes.Nothing = cells
+with_writes slot cells (writes.One reg value) = written_cell cells reg value slot
+with_writes slot cells (writes.Pair hi lo) = written_cell (written_cell cells 32 hi slot) 33 lo slot
 
 -- a released cell is of the null compartment, and keeps its value
-abbrev pub untagged : List Cell → Released → List Cell
-untagged cells released.Nothing = cells
-untagged cells (released.Cell reg value) = written_cell cells reg value 0
-untagged cells (released.Null address value) = cells
+abbrev pub with_release : List Cell → Released → List Cell
+with_release cells released.Nothing = cells
+with_release cells (released.Cell reg value) = written_cell cells reg value 0
+with_release cells (released.Null address value) = cells
 
 -- the cells after a step of a slot's guest
 abbrev pub cells_after : ℕ → List Cell → Step → List Cell
-cells_after slot cells step = untagged (tagged slot cells step.writes) step.released
+cells_after slot cells step = with_release (with_writes slot cells step.writes) step.released
 
 -- the cells that the guest owns after what it wrote and released
 abbrev pub mask_written : ℕ → Writes → ℕ
@@ -95,8 +95,8 @@ abbrev pub mask_after : ℕ → Step → ℕ
 mask_after mask step = mask_released (mask_written mask step.writes) step.released
 
 -- the session after a step of this effect
-abbrev pub moved : Session → Effect → Step → Session
-moved s effect step = record s {
+abbrev pub session_after_step : Session → Effect → Step → Session
+session_after_step s effect step = record s {
   pc = effect.pc;
   npc = effect.npc;
   mask = mask_after s.mask step;
@@ -115,9 +115,9 @@ stored_at ways place (stored.Bytes address count value) =
     slice_set ways place (stored_way (way_at ways place) address (low_bytes count value))
 
 -- the core after a step with which the slot's session becomes this one, and which stores in the line at this place, if it stores
-abbrev pub stepped : CoreState → ℕ → ℕ → Session → Step → CoreState
-stepped core slot place session step =
-    noted
+abbrev pub core_after_step : CoreState → ℕ → ℕ → Session → Step → CoreState
+core_after_step core slot place session step =
+    with_entry
     (record core {
       cells = cells_after slot core.cells step;
       sessions = slice_set core.sessions slot session;
@@ -127,39 +127,39 @@ stepped core slot place session step =
     (entry.Step (session_of core slot).install step)
 
 -- the core after the instruction retired with this step
-abbrev pub retired : CoreState → ℕ → ℕ → Effect → Step → CoreState
-retired core slot place effect step = stepped core slot place (moved (session_of core slot) effect step) step
+abbrev pub after_retirement : CoreState → ℕ → ℕ → Effect → Step → CoreState
+after_retirement core slot place effect step = core_after_step core slot place (session_after_step (session_of core slot) effect step) step
 
 -- a signal is delivered: its step keeps the pair and goes to the handler
 abbrev pub signal_of : Session → ℕ → Step
 signal_of s n = signal_step s.pc s.npc n
 
-abbrev pub signalled : Session → ℕ → Session
-signalled s n = record s { pc = s.handler; npc = (s.handler + 4) % 2 ^ 32; mask = mask_after s.mask (signal_of s n); saved = Some (s.pc, s.npc) }
+abbrev pub session_after_signal : Session → ℕ → Session
+session_after_signal s n = record s { pc = s.handler; npc = (s.handler + 4) % 2 ^ 32; mask = mask_after s.mask (signal_of s n); saved = Some (s.pc, s.npc) }
 
-abbrev pub delivered : CoreState → ℕ → ℕ → CoreState
-delivered core slot n = stepped core slot 0 (signalled (session_of core slot) n) (signal_of (session_of core slot) n)
+abbrev pub after_delivery : CoreState → ℕ → ℕ → CoreState
+after_delivery core slot n = core_after_step core slot 0 (session_after_signal (session_of core slot) n) (signal_of (session_of core slot) n)
 
 -- the guest leaves to come back: the pair is kept, and the epoch is raised
-abbrev pub trapped : CoreState → ℕ → Cause → CoreState × Option Cause
-trapped core slot why =
-    (noted (with_session core slot (paused (session_of core slot))) (entry.Trap (session_of core slot).install why), Some why)
+abbrev pub after_trap : CoreState → ℕ → Cause → CoreState × Option Cause
+after_trap core slot why =
+    (with_entry (with_session core slot (paused (session_of core slot))) (entry.Trap (session_of core slot).install why), Some why)
 
 -- the guest leaves for good
-abbrev pub finished : CoreState → ℕ → CoreState × Option Cause
-finished core slot = (gone core slot state.Ended, Some cause.Exit)
+abbrev pub after_exit : CoreState → ℕ → CoreState × Option Cause
+after_exit core slot = (after_leaving core slot state.Ended, Some cause.Exit)
 
 -- what follows a step: its own end comes before the interrupt line
 abbrev pub after_step : CoreState → ℕ → Bool → StepEnd → CoreState × Option Cause
-after_step core slot interrupt (ended.Call code) = trapped core slot (cause.Call code)
-after_step core slot interrupt ended.Exit = finished core slot
-after_step core slot interrupt ended.Goes = if interrupt then trapped core slot cause.Interrupt else (core, None)
+after_step core slot interrupt (ended.Call code) = after_trap core slot (cause.Call code)
+after_step core slot interrupt ended.Exit = after_exit core slot
+after_step core slot interrupt ended.Goes = if interrupt then after_trap core slot cause.Interrupt else (core, None)
 
 -- an effect retires, where this word is what it loads from and the line at this place is what it stores in
-abbrev pub retires : CoreState → ℕ → Bool → Effect → ℕ → ℕ → CoreState × Option Cause
-retires core slot interrupt effect word place =
+abbrev pub retirement : CoreState → ℕ → Bool → Effect → ℕ → ℕ → CoreState × Option Cause
+retirement core slot interrupt effect word place =
     let step = step_made (session_of core slot).pc (session_of core slot).npc effect word (received_by core.cells core.ram effect.wish) in
-    after_step (retired core slot place effect step) slot interrupt step.end
+    after_step (after_retirement core slot place effect step) slot interrupt step.end
 
 -- the address of private memory that an instruction reads or writes
 abbrev pub address_in : Wish → Option ℕ
@@ -178,36 +178,36 @@ word_loaded bytes other = 0
 
 -- what stands against an access: an unmapped page traps before anything changes, and a broken line has stopped the slot
 abbrev pub data_reached : ℕ → Bool → Effect → CoreState × Reach → CoreState × Option Cause
-data_reached slot interrupt effect (core, reach.PageFault page) = trapped core slot (cause.Page page)
+data_reached slot interrupt effect (core, reach.PageFault page) = after_trap core slot (cause.Page page)
 data_reached slot interrupt effect (core, reach.Stopped why) = (core, Some (cause.Stopped why))
 data_reached slot interrupt effect (core, reach.Ready place) =
-    retires core slot interrupt effect (word_loaded (way_at core.ways place).bytes effect.wish) place
+    retirement core slot interrupt effect (word_loaded (way_at core.ways place).bytes effect.wish) place
 
 module _ (v : Versions) where
   -- the private access of an instruction's own bytes, if it has some
   abbrev pub data_of : CoreState → ℕ → Bool → Effect → Option ℕ → CoreState × Option Cause
-  data_of core slot interrupt effect None = retires core slot interrupt effect 0 0
+  data_of core slot interrupt effect None = retirement core slot interrupt effect 0 0
   data_of core slot interrupt effect (Some address) = data_reached slot interrupt effect (access v core slot (line_at address))
 
   -- an own fault traps before anything changes, and an effect goes on to its access
-  abbrev pub ran : CoreState → ℕ → Bool → Result Effect OwnFault → CoreState × Option Cause
-  ran core slot interrupt (Err why) = trapped core slot (cause.Fault why)
-  ran core slot interrupt (Ok effect) = data_of core slot interrupt effect (address_in effect.wish)
+  abbrev pub after_effect : CoreState → ℕ → Bool → Result Effect OwnFault → CoreState × Option Cause
+  after_effect core slot interrupt (Err why) = after_trap core slot (cause.Fault why)
+  after_effect core slot interrupt (Ok effect) = data_of core slot interrupt effect (address_in effect.wish)
 
   -- what the word of an instruction comes to for the guest in a slot
   abbrev pub word_tried : CoreState → ℕ → ℕ → Result Effect OwnFault
   word_tried core slot word =
-      tried (seen_by slot core.cells) (session_of core slot).saved (known (read word)) (session_of core slot).pc (session_of core slot).npc
+      effect_at (seen_by slot core.cells) (session_of core slot).saved (instruction_or_fault (read word)) (session_of core slot).pc (session_of core slot).npc
 
   abbrev pub code_reached : ℕ → Bool → CoreState × Reach → CoreState × Option Cause
-  code_reached slot interrupt (core, reach.PageFault page) = trapped core slot (cause.Page page)
+  code_reached slot interrupt (core, reach.PageFault page) = after_trap core slot (cause.Page page)
   code_reached slot interrupt (core, reach.Stopped why) = (core, Some (cause.Stopped why))
   code_reached slot interrupt (core, reach.Ready place) =
-      ran core slot interrupt (word_tried core slot (word_in (way_at core.ways place).bytes (session_of core slot).pc))
+      after_effect core slot interrupt (word_tried core slot (word_in (way_at core.ways place).bytes (session_of core slot).pc))
 
   -- an event of the guest in a slot, with the interrupt line after it; the cause where the guest leaves
   unfoldable pub guest : CoreState → ℕ → Bool → CoreState × Option Cause
   guest core slot interrupt =
       if is_code (session_of core slot).pc
       then code_reached slot interrupt (access v core slot (line_at (session_of core slot).pc))
-      else trapped core slot (cause.Fault fault.Address)
+      else after_trap core slot (cause.Fault fault.Address)

@@ -29,7 +29,7 @@ use Rattle.line_cache.specs.Ways.{way_at}
 use Rattle.line_ram.specs.Bytes.{HoldsFrame, bytes_at, line_size}
 use Rattle.page_map.specs.Pages.{Pages, frame_of}
 use Rattle.xom_model.specs.State.{CoreState, lines_of, page_of, session_of, store_of}
-use Rattle.xom_model.specs.Lines.{Who, who_of, is_image_at, run_pair, ver, line_seals, version_seals}
+use Rattle.xom_model.specs.Lines.{Who, is_image_at, line_seals, run_pair, version_of_line, version_seals, who_of}
 use Rattle.xom_model.specs.Saves.{SavesAgree, SealsHold}
 
 -- the recorded steps of an install are those of the plain machine over this owner's image, which is then in state p
@@ -99,8 +99,8 @@ pub record Behind (owner : Owner) (who : Who) (line version : ℕ) (seals : List
 -- A line of a live guest: where it is cached it has the program's bytes, where it isn't cached dirty they stand behind it, and no Seal names a later version of it.
 pub record LineHolds (owner : Owner) (who : Who) (slot line : ℕ) (ways : List Way) (seals : List Sealing) (bytes : List ℕ) : Type 0 where
   pub cached : (place : ℕ) → IsOf (way_at ways place) slot line → (way_at ways place).bytes ≡ bytes
-  pub behind : ((place : ℕ) → IsOf (way_at ways place) slot line → (way_at ways place).dirty ≡ false) → Behind owner who line (ver who seals line) seals bytes
-  pub above : (version : ℕ) → ver who seals line < version → version < 2 ^ 64 → version_seals who.install line version seals ≡ []
+  pub behind : ((place : ℕ) → IsOf (way_at ways place) slot line → (way_at ways place).dirty ≡ false) → Behind owner who line (version_of_line who seals line) seals bytes
+  pub above : (version : ℕ) → version_of_line who seals line < version → version < 2 ^ 64 → version_seals who.install line version seals ≡ []
   pub size : length bytes ≡ line_size
 
 -- The cache and the journal as a whole: cached lines are of mapped pages, Seals are of no install to come, and what makes the others hold.
@@ -148,7 +148,7 @@ pub record RamFits (core : CoreState) : Type 0 where
 -- Private memory is a function from lines to bytes: each line holds, and the version store stands for the versions.
 pub record Private (Stands : StandsFor) (core : CoreState) (slot : ℕ) (owner : Owner) (memory : ℕ → List ℕ) : Type 0 where
   pub lines : (line : ℕ) → line < lines_of (session_of core slot) → LineHolds owner (who_of core slot) slot line core.ways (seals_of core.entries) (memory line)
-  pub stands : Stands (store_of core slot) core.entries (ver (who_of core slot) (seals_of core.entries))
+  pub stands : Stands (store_of core slot) core.entries (version_of_line (who_of core slot) (seals_of core.entries))
 
 -- a live slot's guest agrees with its program after its recorded steps
 abbrev pub IsHeld : StandsFor → List Owner → CoreState → ℕ → Type 0

@@ -107,5 +107,5 @@ abbrev pub version_seals : ℕ → ℕ → ℕ → List Sealing → List Sealing
 version_seals install line version seals = filter (names_version install line version) seals
 
 -- the version of a line: its first one, raised by each Seal of it
-abbrev pub ver : Who → List Sealing → ℕ → ℕ
-ver who seals line = start_version who.lines line + length (line_seals who.install line seals)
+abbrev pub version_of_line : Who → List Sealing → ℕ → ℕ
+version_of_line who seals line = start_version who.lines line + length (line_seals who.install line seals)

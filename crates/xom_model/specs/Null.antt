@@ -25,14 +25,14 @@ use Rattle.xom_base.specs.declared.step.Writes.{Writes}
 use Rattle.xom_base.specs.declared.step.Writes.TheVariants as writes
 use Rattle.tag_regs.specs.declared.cell.Cell.{Cell}
 use Rattle.tag_regs.specs.TaggedCells.{cell_at, with_cell}
-use Rattle.mips_plain.specs.Instruction.{known}
+use Rattle.mips_plain.specs.Instruction.{instruction_or_fault}
 use Rattle.mips_plain.specs.Memory.{low_bytes, word_at}
 use Rattle.line_ram.specs.Bytes.{stored}
 use Rattle.xom_model.specs.State.{holds}
 
 -- a write outside RAM changes nothing
-unfoldable pub poked : List ℕ → ℕ → List ℕ → List ℕ
-poked ram address bytes = if holds ram address (length bytes) then stored ram address bytes else ram
+unfoldable pub ram_after_write : List ℕ → ℕ → List ℕ → List ℕ
+ram_after_write ram address bytes = if holds ram address (length bytes) then stored ram address bytes else ram
 
 -- what null code may be told
 pub record Told : Type 0 where
@@ -97,7 +97,7 @@ seen_open cells reg = if reg == 0 then Value 0 else open_cell (cell_at cells reg
 
 -- the instruction at an address of RAM
 unfoldable pub fetched_open : List ℕ → ℕ → Result Ins OwnFault
-fetched_open ram pc = if (pc % 4 == 0) && holds ram pc 4 then known (read (word_at ram pc)) else Err fault.Address
+fetched_open ram pc = if (pc % 4 == 0) && holds ram pc 4 then instruction_or_fault (read (word_at ram pc)) else Err fault.Address
 
 -- what it comes to
 abbrev pub tried_open : (ℕ → Seen) → Result Ins OwnFault → ℕ → ℕ → Result Effect OwnFault
@@ -107,14 +107,14 @@ tried_open see (Ok ins) pc npc = effect_of ins Null (see (sources_of ins).0) (se
 -- ---- What it does
 
 -- a written cell is of the null compartment
-abbrev pub opened : List Cell → Writes → List Cell
-opened cells writes.Nothing = cells
-opened cells (writes.One reg value) = with_cell cells reg value 0
-opened cells (writes.Pair hi lo) = with_cell (with_cell cells 32 hi 0) 33 lo 0
+abbrev pub with_null_writes : List Cell → Writes → List Cell
+with_null_writes cells writes.Nothing = cells
+with_null_writes cells (writes.One reg value) = with_cell cells reg value 0
+with_null_writes cells (writes.Pair hi lo) = with_cell (with_cell cells 32 hi 0) 33 lo 0
 
 -- the cells are written, and the pair goes on
-abbrev pub passed : Open → Effect → Writes → Open
-passed s effect written = record { cells = opened s.cells written; ram = s.ram; pc = effect.pc; npc = effect.npc }
+abbrev pub open_after : Open → Effect → Writes → Open
+open_after s effect written = record { cells = with_null_writes s.cells written; ram = s.ram; pc = effect.pc; npc = effect.npc }
 
 abbrev pub stored_open : Open → ℕ → List ℕ → Open
 stored_open s address bytes = record s { ram = stored s.ram address bytes }
@@ -135,33 +135,33 @@ abbrev pub Answer : Type 0
 Answer = Open × Result (Option Op) NullFault
 
 -- it is done
-abbrev pub went : Open → Answer
-went s = (s, Ok None)
+abbrev pub done_answer : Open → Answer
+done_answer s = (s, Ok None)
 
 abbrev pub stopped_by : Open → NullFault → Answer
 stopped_by s why = (s, Err why)
 
 -- a wish is granted, or ends the run and changes nothing
-abbrev pub granted : Told → Open → Effect → Wish → Answer
-granted told s effect wish.Nothing = went (passed s effect effect.writes)
-granted told s effect (wish.Load reg address how old) =
-    if holds s.ram (address - address % 4) 4 then went (passed s effect (set reg (loaded_open s.ram how old address))) else stopped_by s null.Address
-granted told s effect (wish.Store address count value) =
-    if holds s.ram address count then went (stored_open (passed s effect effect.writes) address (low_bytes count value)) else stopped_by s null.Address
-granted told s effect (wish.Call code) = stopped_by s null.Call
-granted told s effect (wish.Do operation) = (passed s effect effect.writes, Ok (Some operation))
-granted told s effect (wish.Ask reg what) = went (passed s effect (set reg (answer_of told what)))
-granted told s effect (wish.Release reg value) = stopped_by s null.Reserved
-granted told s effect (wish.Receive reg from) = stopped_by s null.Reserved
-granted told s effect (wish.NullLoad reg address) = stopped_by s null.Reserved
-granted told s effect (wish.NullStore address value) = stopped_by s null.Reserved
-granted told s effect (wish.Hand address) = stopped_by s null.Reserved
-granted told s effect wish.SigRet = stopped_by s null.Reserved
-granted told s effect wish.Exit = stopped_by s null.Reserved
+abbrev pub wish_answer : Told → Open → Effect → Wish → Answer
+wish_answer told s effect wish.Nothing = done_answer (open_after s effect effect.writes)
+wish_answer told s effect (wish.Load reg address how old) =
+    if holds s.ram (address - address % 4) 4 then done_answer (open_after s effect (set reg (loaded_open s.ram how old address))) else stopped_by s null.Address
+wish_answer told s effect (wish.Store address count value) =
+    if holds s.ram address count then done_answer (stored_open (open_after s effect effect.writes) address (low_bytes count value)) else stopped_by s null.Address
+wish_answer told s effect (wish.Call code) = stopped_by s null.Call
+wish_answer told s effect (wish.Do operation) = (open_after s effect effect.writes, Ok (Some operation))
+wish_answer told s effect (wish.Ask reg what) = done_answer (open_after s effect (set reg (answer_of told what)))
+wish_answer told s effect (wish.Release reg value) = stopped_by s null.Reserved
+wish_answer told s effect (wish.Receive reg from) = stopped_by s null.Reserved
+wish_answer told s effect (wish.NullLoad reg address) = stopped_by s null.Reserved
+wish_answer told s effect (wish.NullStore address value) = stopped_by s null.Reserved
+wish_answer told s effect (wish.Hand address) = stopped_by s null.Reserved
+wish_answer told s effect wish.SigRet = stopped_by s null.Reserved
+wish_answer told s effect wish.Exit = stopped_by s null.Reserved
 
 abbrev pub ran_open : Told → Open → Result Effect OwnFault → Answer
 ran_open told s (Err why) = stopped_by s (null_fault why)
-ran_open told s (Ok effect) = granted told s effect effect.wish
+ran_open told s (Ok effect) = wish_answer told s effect effect.wish
 
 -- one instruction of null code
 unfoldable pub null_step : Told → Open → Answer

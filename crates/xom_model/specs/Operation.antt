@@ -21,18 +21,18 @@ use Rattle.xom_versions.specs.Store.{area_size}
 use Rattle.xom_versions.specs.Versions.{Versions}
 use Rattle.line_ram.specs.Bytes.{bytes_at, frame_lines, frame_size}
 use Rattle.page_map.specs.Pages.{frame_of, with_page}
-use Rattle.xom_model.specs.State.{CoreState, session_of, with_cells, with_session, noted, hashed, holds, lines_of, pages_of, window_of}
+use Rattle.xom_model.specs.State.{CoreState, core_with_hashes, holds, lines_of, pages_of, session_of, window_of, with_cells, with_entry, with_session}
 use Rattle.xom_model.specs.Lines.{who_of}
 use Rattle.xom_model.specs.Saves.{reg_accept_entry, reg_keys, reg_name, reg_seal_entry, saved_at, saved_size, sealed_reg, with_saved}
-use Rattle.xom_model.specs.Access.{dropped, stopped, flushed}
-use Rattle.xom_model.specs.Guest.{delivered}
+use Rattle.xom_model.specs.Access.{after_flush, after_stop, without_guest}
+use Rattle.xom_model.specs.Guest.{after_delivery}
 
 -- an operation that is refused changes nothing
-abbrev pub refused : CoreState → ℕ → CoreState × ℕ
-refused core status = (core, status)
+abbrev pub refusal_of : CoreState → ℕ → CoreState × ℕ
+refusal_of core status = (core, status)
 
-abbrev pub done : CoreState → CoreState × ℕ
-done core = (core, 0)
+abbrev pub success : CoreState → CoreState × ℕ
+success core = (core, 0)
 
 -- a number names a slot
 abbrev pub is_slot : ℕ → Bool
@@ -44,12 +44,12 @@ is_cell reg = nat_le 1 reg && nat_le reg 33
 
 -- Enter: only a fresh guest is started
 abbrev pub enter : CoreState → ℕ → SlotState → CoreState × ℕ
-enter core slot state.Free = refused core 1
-enter core slot state.Fresh = done (with_session core slot (entered (session_of core slot)))
-enter core slot state.Running = refused core 2
-enter core slot state.Paused = refused core 2
-enter core slot state.Ended = refused core 2
-enter core slot (state.Stopped rule) = refused core 2
+enter core slot state.Free = refusal_of core 1
+enter core slot state.Fresh = success (with_session core slot (entered (session_of core slot)))
+enter core slot state.Running = refusal_of core 2
+enter core slot state.Paused = refusal_of core 2
+enter core slot state.Ended = refusal_of core 2
+enter core slot (state.Stopped rule) = refusal_of core 2
 
 -- the guest owns the cell, and the cell hasn't its tag
 abbrev pub is_missing : ℕ → ℕ → List Cell → ℕ → Bool
@@ -62,58 +62,58 @@ missing_from slot mask cells (suc count) reg =
     if is_missing slot mask cells reg then Some reg else missing_from slot mask cells count (reg + 1)
 
 -- the least cell that is missing
-unfoldable pub missing : ℕ → ℕ → List Cell → Option ℕ
-missing slot mask cells = missing_from slot mask cells 33 1
+unfoldable pub missing_cell : ℕ → ℕ → List Cell → Option ℕ
+missing_cell slot mask cells = missing_from slot mask cells 33 1
 
 -- a signal, if there is one, is delivered to the guest that goes on
 abbrev pub with_signal : CoreState → ℕ → ℕ → CoreState
-with_signal core slot signal = if signal == 0 then core else delivered core slot signal
+with_signal core slot signal = if signal == 0 then core else after_delivery core slot signal
 
 -- a guest goes on only where each cell that it owns has its tag; else it is stopped for good
 abbrev pub go_on : CoreState → ℕ → ℕ → Option ℕ → CoreState × ℕ
-go_on core slot signal None = done (with_signal (with_session core slot (resumed (session_of core slot))) slot signal)
-go_on core slot signal (Some reg) = (stopped core slot (rule.RegisterMissing reg), 8)
+go_on core slot signal None = success (with_signal (with_session core slot (resumed (session_of core slot))) slot signal)
+go_on core slot signal (Some reg) = (after_stop core slot (rule.RegisterMissing reg), 8)
 
 -- the slot takes the signal: there is none, or the slot is ready for one
-abbrev pub takes : Session → ℕ → Bool
-takes s signal = (signal == 0) || is_signal_ready s.handler s.saved
+abbrev pub slot_takes_signal : Session → ℕ → Bool
+slot_takes_signal s signal = (signal == 0) || is_signal_ready s.handler s.saved
 
 -- Resume of a paused guest: a signal above 63 is no signal
 abbrev pub resume_paused : CoreState → ℕ → ℕ → CoreState × ℕ
 resume_paused core slot signal =
     if nat_le signal 63
-    then (if takes (session_of core slot) signal then go_on core slot signal (missing slot (session_of core slot).mask core.cells) else refused core 2)
-    else refused core 7
+    then (if slot_takes_signal (session_of core slot) signal then go_on core slot signal (missing_cell slot (session_of core slot).mask core.cells) else refusal_of core 2)
+    else refusal_of core 7
 
 abbrev pub resume : CoreState → ℕ → ℕ → SlotState → CoreState × ℕ
-resume core slot signal state.Free = refused core 1
-resume core slot signal state.Fresh = refused core 2
-resume core slot signal state.Running = refused core 2
+resume core slot signal state.Free = refusal_of core 1
+resume core slot signal state.Fresh = refusal_of core 2
+resume core slot signal state.Running = refusal_of core 2
 resume core slot signal state.Paused = resume_paused core slot signal
-resume core slot signal state.Ended = refused core 2
-resume core slot signal (state.Stopped rule) = refused core 2
+resume core slot signal state.Ended = refusal_of core 2
+resume core slot signal (state.Stopped rule) = refusal_of core 2
 
 -- SetReg: the cell is of the null compartment, whatever it was
 abbrev pub set_register : CoreState → ℕ → ℕ → CoreState × ℕ
 set_register core reg value =
-    if is_cell reg then done (with_cells core (with_cell core.cells reg value 0)) else refused core 7
+    if is_cell reg then success (with_cells core (with_cell core.cells reg value 0)) else refusal_of core 7
 
 -- ---- Operations with a row of tests
 
 -- the first test that holds answers with its status; where none does, the deed is done
-abbrev pub tested : CoreState → List (Bool × ℕ) → CoreState × ℕ → CoreState × ℕ
-tested core [] deed = deed
-tested core (test ∷ tests) deed = if test.0 then refused core test.1 else tested core tests deed
+abbrev pub first_refusal_or : CoreState → List (Bool × ℕ) → CoreState × ℕ → CoreState × ℕ
+first_refusal_or core [] deed = deed
+first_refusal_or core (test ∷ tests) deed = if test.0 then refusal_of core test.1 else first_refusal_or core tests deed
 
 abbrev pub is_free_state : SlotState → Bool
 is_free_state state.Free = true
 is_free_state other = false
 
 -- a guest may come back: pages are mapped and unmapped while it doesn't run
-abbrev pub waits : SlotState → Bool
-waits state.Fresh = true
-waits state.Paused = true
-waits other = false
+abbrev pub can_come_back : SlotState → Bool
+can_come_back state.Fresh = true
+can_come_back state.Paused = true
+can_come_back other = false
 
 -- no slot, or one that holds nothing
 abbrev pub is_bad_slot : CoreState → ℕ → Bool
@@ -148,12 +148,12 @@ image_tests core plain = (is_bad_image (session_for core plain), 7) ∷ []
 
 abbrev pub map_tests : CoreState → ℕ → ℕ → ℕ → List (Bool × ℕ)
 map_tests core slot page frame =
-    (is_bad_slot core slot, 1) ∷ (not (waits (session_of core slot).state), 2) ∷ (nat_le (pages_of (session_of core slot)) page, 7)
+    (is_bad_slot core slot, 1) ∷ (not (can_come_back (session_of core slot).state), 2) ∷ (nat_le (pages_of (session_of core slot)) page, 7)
     ∷ (not (holds core.ram (frame * frame_size) frame_size), 4) ∷ (is_some (frame_of core.pages slot page), 5) ∷ []
 
 abbrev pub unmap_tests : CoreState → ℕ → ℕ → List (Bool × ℕ)
 unmap_tests core slot page =
-    (is_bad_slot core slot, 1) ∷ (not (waits (session_of core slot).state), 2) ∷ (nat_le (pages_of (session_of core slot)) page, 7)
+    (is_bad_slot core slot, 1) ∷ (not (can_come_back (session_of core slot).state), 2) ∷ (nat_le (pages_of (session_of core slot)) page, 7)
     ∷ (is_none (frame_of core.pages slot page), 5) ∷ []
 
 abbrev pub kill_tests : CoreState → ℕ → List (Bool × ℕ)
@@ -182,41 +182,41 @@ abbrev pub epoch_of : CoreState → ℕ → ℕ
 epoch_of core slot = (session_of core slot).epoch
 
 -- Save: the cell's value is sealed under the epoch and written to RAM
-unfoldable pub saved : CoreState → ℕ → ℕ → ℕ → CoreState
-saved core slot reg address =
+unfoldable pub after_save : CoreState → ℕ → ℕ → ℕ → CoreState
+after_save core slot reg address =
     let value = (cell_at core.cells reg).value in
-    record (noted core (reg_seal_entry (who_of core slot) (epoch_of core slot) reg value)) {
+    record (with_entry core (reg_seal_entry (who_of core slot) (epoch_of core slot) reg value)) {
       ram = with_saved core.ram address (sealed_reg (who_of core slot) (epoch_of core slot) reg value);
     }
 
 abbrev pub save_register : CoreState → ℕ → ℕ → ℕ → CoreState × ℕ
-save_register core slot reg address = tested core (save_tests core slot reg address) (done (saved core slot reg address))
+save_register core slot reg address = first_refusal_or core (save_tests core slot reg address) (success (after_save core slot reg address))
 
 -- Restore: the tag that was right is recorded, and the cell gets the value and the slot's tag
-unfoldable pub restored : CoreState → ℕ → ℕ → ℕ → ℕ → CoreState
-restored core slot reg address value =
-    record (noted core (reg_accept_entry (who_of core slot) (epoch_of core slot) reg (saved_at core.ram address).ct address)) {
+unfoldable pub after_restore : CoreState → ℕ → ℕ → ℕ → ℕ → CoreState
+after_restore core slot reg address value =
+    record (with_entry core (reg_accept_entry (who_of core slot) (epoch_of core slot) reg (saved_at core.ram address).ct address)) {
       cells = with_cell core.cells reg value slot;
     }
 
 -- a tag that differs stops the guest
-abbrev pub reopened : CoreState → ℕ → ℕ → ℕ → Option ℕ → CoreState × ℕ
-reopened core slot reg address None = (stopped core slot (rule.RegisterTag reg), 8)
-reopened core slot reg address (Some value) = done (restored core slot reg address value)
+abbrev pub after_reopening : CoreState → ℕ → ℕ → ℕ → Option ℕ → CoreState × ℕ
+after_reopening core slot reg address None = (after_stop core slot (rule.RegisterTag reg), 8)
+after_reopening core slot reg address (Some value) = success (after_restore core slot reg address value)
 
-abbrev pub reopen : CoreState → ℕ → ℕ → ℕ → CoreState × ℕ
-reopen core slot reg address =
-    reopened core slot reg address
+abbrev pub reopening : CoreState → ℕ → ℕ → ℕ → CoreState × ℕ
+reopening core slot reg address =
+    after_reopening core slot reg address
     (unsealed_register (reg_name (who_of core slot) (epoch_of core slot) reg) (reg_keys (who_of core slot) (epoch_of core slot)) (saved_at core.ram address))
 
 abbrev pub restore_register : CoreState → ℕ → ℕ → ℕ → CoreState × ℕ
-restore_register core slot reg address = tested core (restore_tests core slot reg address) (reopen core slot reg address)
+restore_register core slot reg address = first_refusal_or core (restore_tests core slot reg address) (reopening core slot reg address)
 
 module _ (v : Versions) where
   -- Install: the tag that was right is recorded, then the guest, then what its version store hashes
-  unfoldable pub installed : CoreState → ℕ → ℕ → ℕ → Unwrapped → CoreState
-  installed core slot place area plain =
-      hashed
+  unfoldable pub after_install : CoreState → ℕ → ℕ → ℕ → Unwrapped → CoreState
+  after_install core slot place area plain =
+      core_with_hashes
       (record core {
         sessions = slice_set core.sessions slot (session_for core plain);
         stores = slice_set core.stores slot (v.store_after_build area plain.lines core.ram);
@@ -229,42 +229,42 @@ module _ (v : Versions) where
       (v.texts_of_build area plain.lines core.ram)
 
   abbrev pub unwrap : CoreState → ℕ → ℕ → ℕ → Option Unwrapped → CoreState × ℕ
-  unwrap core slot place area None = refused core 3
-  unwrap core slot place area (Some plain) = tested core (image_tests core plain) (done (installed core slot place area plain))
+  unwrap core slot place area None = refusal_of core 3
+  unwrap core slot place area (Some plain) = first_refusal_or core (image_tests core plain) (success (after_install core slot place area plain))
 
   abbrev pub install : CoreState → ℕ → ℕ → ℕ → CoreState × ℕ
-  install core slot place area = tested core (install_tests core slot place area)
+  install core slot place area = first_refusal_or core (install_tests core slot place area)
       (unwrap core slot place area (unwrapped core.machine (envelope_at core place)))
 
   -- Map
   abbrev pub map_page : CoreState → ℕ → ℕ → ℕ → CoreState × ℕ
-  map_page core slot page frame = tested core (map_tests core slot page frame) (done (record core { pages = with_page core.pages slot page (Some frame) }))
+  map_page core slot page frame = first_refusal_or core (map_tests core slot page frame) (success (record core { pages = with_page core.pages slot page (Some frame) }))
 
   -- Unmap: the page's lines leave the cache, the dirty ones sealed, before it is unmapped
-  abbrev pub unmapped : ℕ → ℕ → CoreState × Option Rule → CoreState × ℕ
-  unmapped slot page (core, None) = done (record core { pages = with_page core.pages slot page None })
-  unmapped slot page (core, Some why) = (core, 8)
+  abbrev pub after_unmap : ℕ → ℕ → CoreState × Option Rule → CoreState × ℕ
+  after_unmap slot page (core, None) = success (record core { pages = with_page core.pages slot page None })
+  after_unmap slot page (core, Some why) = (core, 8)
 
   abbrev pub unmap_page : CoreState → ℕ → ℕ → CoreState × ℕ
-  unmap_page core slot page = tested core (unmap_tests core slot page) (unmapped slot page (flushed v slot frame_lines (frame_lines * page) core))
+  unmap_page core slot page = first_refusal_or core (unmap_tests core slot page) (after_unmap slot page (after_flush v slot frame_lines (frame_lines * page) core))
 
   -- Kill: the slot is free again, and its version store stays as it is
-  abbrev pub killed : CoreState → ℕ → CoreState
-  killed core slot = noted (with_session (dropped core slot) slot free) (entry.Kill (session_of core slot).install)
+  abbrev pub after_kill : CoreState → ℕ → CoreState
+  after_kill core slot = with_entry (with_session (without_guest core slot) slot free) (entry.Kill (session_of core slot).install)
 
   abbrev pub kill : CoreState → ℕ → CoreState × ℕ
-  kill core slot = tested core (kill_tests core slot) (done (killed core slot))
+  kill core slot = first_refusal_or core (kill_tests core slot) (success (after_kill core slot))
 
   -- an operation, with its status
   unfoldable pub operation : CoreState → Op → CoreState × ℕ
-  operation core (Enter slot) = if is_slot slot then enter core slot (session_of core slot).state else refused core 1
-  operation core (Resume slot signal) = if is_slot slot then resume core slot signal (session_of core slot).state else refused core 1
+  operation core (Enter slot) = if is_slot slot then enter core slot (session_of core slot).state else refusal_of core 1
+  operation core (Resume slot signal) = if is_slot slot then resume core slot signal (session_of core slot).state else refusal_of core 1
   operation core (SetReg reg value) = set_register core reg value
-  operation core Halt = done core
+  operation core Halt = success core
   operation core (Install slot envelope area) = install core slot envelope area
   operation core (Save slot reg address) = save_register core slot reg address
   operation core (Restore slot reg address) = restore_register core slot reg address
   operation core (Map slot page frame) = map_page core slot page frame
   operation core (Unmap slot page) = unmap_page core slot page
   operation core (Kill slot) = kill core slot
-  operation core (Out byte) = done (noted core (entry.Out byte))
+  operation core (Out byte) = success (with_entry core (entry.Out byte))

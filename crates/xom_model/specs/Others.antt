@@ -10,7 +10,7 @@ use Rattle.xom_model.specs.Event.{on}
 use Rattle.xom_model.specs.Counts.{AreCounted}
 use Rattle.xom_model.specs.Named.{install_seals}
 use Rattle.xom_model.specs.Stops.{IsTaken, StopsHold}
-use Rattle.xom_model.specs.Touched.{touched}
+use Rattle.xom_model.specs.Touched.{slot_of_event}
 
 -- no line of the slot was written back: each one that stood dirty in the cache still stands there as it was
 abbrev pub NoneWrittenBack : CoreState → CoreState → ℕ → Type 0
@@ -31,4 +31,4 @@ pub record StaysAside (core new : CoreState) (slot : ℕ) : Type 0 where
 -- so it is of each slot that an event neither runs nor names
 abbrev pub EventsLeaveOthers : Type 0
 EventsLeaveOthers = (v : Versions) (r : Record) (e : Event) (bytes : List ℕ) → r.events < 2 ^ 63 → AreCounted r.core r.events → StopsHold r.core
-    → (slot : ℕ) → slot ≢ 0 → slot ≢ touched r e → StaysAside r.core (on v r e bytes).0.core slot
+    → (slot : ℕ) → slot ≢ 0 → slot ≢ slot_of_event r e → StaysAside r.core (on v r e bytes).0.core slot

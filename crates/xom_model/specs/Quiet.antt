@@ -18,7 +18,7 @@ use Rattle.xom_model.specs.Holds.{IsOf, IsRunning}
 use Rattle.xom_model.specs.Event.{on}
 use Rattle.xom_model.specs.Named.{HasOne}
 use Rattle.xom_model.specs.Stops.{StopsHold}
-use Rattle.xom_model.specs.Touched.{touched}
+use Rattle.xom_model.specs.Touched.{slot_of_event}
 
 -- the guest left with no instruction retired: a page isn't mapped, or the instruction faults
 abbrev pub IsQuiet : Cause → Type 0
@@ -72,4 +72,4 @@ TrapsChangeNothing = (v : Versions) (core : CoreState) (slot : ℕ) (interrupt :
 -- and of every event of the machine with which a guest leaves so
 abbrev pub EventsTrapQuietly : Type 0
 EventsTrapQuietly = (v : Versions) (r : Record) (e : Event) (bytes : List ℕ) (why : Cause) → StopsHold r.core
-    → (on v r e bytes).1 ≡ outcome.Left why → IsQuiet why → TrapsQuietly r.core (on v r e bytes).0.core (touched r e) why
+    → (on v r e bytes).1 ≡ outcome.Left why → IsQuiet why → TrapsQuietly r.core (on v r e bytes).0.core (slot_of_event r e) why

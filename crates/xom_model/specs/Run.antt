@@ -15,7 +15,7 @@ use Rattle.xom_model.specs.declared.outcome.Turn.{Turn}
 use Rattle.xom_model.specs.declared.outcome.Turn.TheVariants as turn
 use Rattle.xom_versions.specs.Versions.{Versions}
 use Rattle.xom_model.specs.State.{Record}
-use Rattle.xom_model.specs.Event.{chunk_size, on, running}
+use Rattle.xom_model.specs.Event.{chunk_size, on, running_slot}
 use Rattle.xom_model.specs.Seen.{View, view_of}
 
 -- ---- Schedules
@@ -68,19 +68,19 @@ module _ (v : Versions) {K : Type 0} (told : K → View → Option (Turn × (Lis
   Next = ℕ → Record → K → Option Record
 
   -- the kernel's turn, if it tells one
-  abbrev pub turned : Next → ℕ → Record → Option (Turn × (List ℕ × K)) → Option Record
-  turned next guests r None = None
-  turned next guests r (Some (t, (chunk, k))) = next guests (on v r (event_of t) chunk).0 k
+  abbrev pub after_turn : Next → ℕ → Record → Option (Turn × (List ℕ × K)) → Option Record
+  after_turn next guests r None = None
+  after_turn next guests r (Some (t, (chunk, k))) = next guests (on v r (event_of t) chunk).0 k
 
   -- of the guest where one runs, else the kernel's turn
   abbrev pub own_event : Next → ℕ → Record → K → Option ℕ → Option Record
   own_event next guests r k (Some slot) = next (guests + 1) (on v r (event.Guest (is_flagged schedule.interrupts (guests + 1))) []).0 k
-  own_event next guests r k None = turned next guests r (told k (view_of r))
+  own_event next guests r k None = after_turn next guests r (told k (view_of r))
 
   -- one event: the write of the bus that is listed for its number, else one of the machine's own
   abbrev pub one_event : Next → ℕ → Record → K → Option Poke → Option Record
   one_event next guests r k (Some poke) = next guests (on v r (event.Poke poke.address (length poke.bytes)) poke.bytes).0 k
-  one_event next guests r k None = own_event next guests r k (running r)
+  one_event next guests r k None = own_event next guests r k (running_slot r)
 
   -- the record after at most so many events, or up to Halt or a kernel fault; none where the kernel doesn't tell a turn
   unfoldable pub run_from : ℕ → Next

@@ -116,9 +116,9 @@ abbrev pub with_way : CoreState → ℕ → Way → CoreState
 with_way core place way = record core { ways = slice_set core.ways place way }
 
 -- the core with one more entry
-abbrev pub noted : CoreState → Entry → CoreState
-noted core entry = record core { entries = core.entries ++ entry ∷ [] }
+abbrev pub with_entry : CoreState → Entry → CoreState
+with_entry core entry = record core { entries = core.entries ++ entry ∷ [] }
 
 -- the core with an entry for each text that was hashed
-abbrev pub hashed : CoreState → List (List ℕ) → CoreState
-hashed core texts = record core { entries = with_hashes core.entries texts }
+abbrev pub core_with_hashes : CoreState → List (List ℕ) → CoreState
+core_with_hashes core texts = record core { entries = with_hashes core.entries texts }

@@ -1,6 +1,6 @@
 ghost use Rattle.std.specs.Prelude.{◌≡◌, ◌<◌};
 ghost use Rattle.mips_effect.specs.Effects.{AreCells, set as set_of};
-ghost use Rattle.xom_model.specs.Null.{open_cell, opened, seen_open};
+ghost use Rattle.xom_model.specs.Null.{open_cell, seen_open, with_null_writes};
 
 use mips_effect::Seen;
 use tag_regs::Cells;
@@ -32,7 +32,7 @@ fn seen_cell(value: u32, tag: u8) -> Seen
 /// A written cell is of the null compartment.
 pub fn write(cells: &mut Cells, writes: Writes)
     requires { AreCells writes }
-    ensures { cells.new ≡ opened cells.old writes }
+    ensures { cells.new ≡ with_null_writes cells.old writes }
 {
     match writes {
         Writes::Nothing => {}
@@ -47,7 +47,7 @@ pub fn write(cells: &mut Cells, writes: Writes)
 /// Writes one register, 0 to 33, where a value for $0 is dropped.
 pub fn write_one(cells: &mut Cells, reg: u8, value: u32)
     requires { reg < 34 }
-    ensures { cells.new ≡ opened cells.old (set_of reg value) }
+    ensures { cells.new ≡ with_null_writes cells.old (set_of reg value) }
 {
     if reg != 0 {
         cells.set(reg, value, 0);

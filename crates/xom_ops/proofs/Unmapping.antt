@@ -10,7 +10,7 @@ use Rattle.session_table.specs.declared.session.Session.{Session}
 use Rattle.slot_keys.specs.GuestKeys.{GuestKeys}
 use Rattle.xom_versions.specs.Store.{Store}
 use Rattle.xom_versions.specs.Versions.{Versions}
-use Rattle.xom_model.specs.Operation.{tested, unmap_page, unmapped}
+use Rattle.xom_model.specs.Operation.{after_unmap, first_refusal_or, unmap_page}
 use Rattle.xom_model.specs.State.{CoreState, page_of}
 use Rattle.xom_private.specs.Cores.{Fits}
 use Rattle.xom_ops.specs.Refusals.{or_refused, page_tests, refusal}
@@ -21,17 +21,17 @@ use Rattle.xom_ops.proofs.Tested.{split_by}
 -- ---- The row of tests, and what is behind it
 
 pub unmap_parts : (v : Versions) (core : CoreState) (slot page : ℕ) (status : Option ℕ) → status ≡ refusal (page_tests core slot page)
-    → or_refused core status (tested core (mapped_tests core slot page) (frame_taken v core slot page)) ≡ unmap_page v core slot page
+    → or_refused core status (first_refusal_or core (mapped_tests core slot page) (frame_taken v core slot page)) ≡ unmap_page v core slot page
 unmap_parts v core slot page status is = split_by core (mapped_tests core slot page) (frame_taken v core slot page) (page_tests core slot page) status is
 
 module _ (v : Versions) (slot page : ℕ) where
   -- after a flush that came to its end the page is unmapped
-  pub unmapped-flushed : (flush : CoreState × Option Rule) → None ≡ flush.1 → unmapped v slot page flush ≡ (without_frame flush.0 slot page, 0)
+  pub unmapped-flushed : (flush : CoreState × Option Rule) → None ≡ flush.1 → after_unmap v slot page flush ≡ (without_frame flush.0 slot page, 0)
   unmapped-flushed (core, None) is = refl
   unmapped-flushed (core, Some why) is = absurd (cc)
 
   -- after one that stopped the slot nothing more is done
-  pub unmapped-stopped : (flush : CoreState × Option Rule) (why : Rule) → Some why ≡ flush.1 → unmapped v slot page flush ≡ (flush.0, 8)
+  pub unmapped-stopped : (flush : CoreState × Option Rule) (why : Rule) → Some why ≡ flush.1 → after_unmap v slot page flush ≡ (flush.0, 8)
   unmapped-stopped (core, None) why is = absurd (cc)
   unmapped-stopped (core, Some other) why is = refl
 

@@ -4,7 +4,7 @@ use Rattle.std.specs.Int.{bit_at}
 use Rattle.line_ram.specs.Bytes.{frame_size}
 use Rattle.page_map.specs.Pages.{frame_of, with_page}
 use Rattle.tag_regs.specs.TaggedCells.{cell_at}
-use Rattle.xom_model.specs.Operation.{is_bad_slot, is_own_cell, refused, waits}
+use Rattle.xom_model.specs.Operation.{can_come_back, is_bad_slot, is_own_cell, refusal_of}
 use Rattle.xom_model.specs.State.{CoreState, holds, pages_of, session_of}
 
 -- the status of the first test that holds, if one does
@@ -15,12 +15,12 @@ refusal (test ∷ tests) = if test.0 then Some test.1 else refusal tests
 -- an operation that is refused with a status, or goes on
 abbrev pub or_refused : CoreState → Option ℕ → CoreState × ℕ → CoreState × ℕ
 or_refused core None after = after
-or_refused core (Some status) after = refused core status
+or_refused core (Some status) after = refusal_of core status
 
 -- the tests that Map and Unmap have in common
 abbrev pub page_tests : CoreState → ℕ → ℕ → List (Bool × ℕ)
 page_tests core slot page =
-    (is_bad_slot core slot, 1) ∷ (not (waits (session_of core slot).state), 2) ∷ (nat_le (pages_of (session_of core slot)) page, 7) ∷ []
+    (is_bad_slot core slot, 1) ∷ (not (can_come_back (session_of core slot).state), 2) ∷ (nat_le (pages_of (session_of core slot)) page, 7) ∷ []
 
 -- the tests that Map has behind them
 abbrev pub frame_tests : CoreState → ℕ → ℕ → ℕ → List (Bool × ℕ)

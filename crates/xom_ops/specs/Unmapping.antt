@@ -3,8 +3,8 @@ use Rattle.std.specs.Prelude.{ℕ, ◌*◌, Bool, List, [], ◌∷◌, None, is_
 use Rattle.line_ram.specs.Bytes.{frame_lines}
 use Rattle.page_map.specs.Pages.{frame_of, with_page}
 use Rattle.xom_versions.specs.Versions.{Versions}
-use Rattle.xom_model.specs.Access.{flushed}
-use Rattle.xom_model.specs.Operation.{unmapped}
+use Rattle.xom_model.specs.Access.{after_flush}
+use Rattle.xom_model.specs.Operation.{after_unmap}
 use Rattle.xom_model.specs.State.{CoreState}
 
 -- the last test: the page has a frame
@@ -13,7 +13,7 @@ mapped_tests core slot page = (is_none (frame_of core.pages slot page), 5) ∷ [
 
 -- the page is flushed, and then it has no frame, unless its slot was stopped
 abbrev pub frame_taken : Versions → CoreState → ℕ → ℕ → CoreState × ℕ
-frame_taken v core slot page = unmapped v slot page (flushed v slot frame_lines (frame_lines * page) core)
+frame_taken v core slot page = after_unmap v slot page (after_flush v slot frame_lines (frame_lines * page) core)
 
 -- the core in which a page has no frame
 abbrev pub without_frame : CoreState → ℕ → ℕ → CoreState

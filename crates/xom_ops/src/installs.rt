@@ -2,7 +2,7 @@ ghost use Rattle.std.specs.Prelude.{◌≡◌, ◌≤◌, ◌<◌, ◌+◌, ◌^
 ghost use Rattle.line_ram.specs.Bytes.{HoldsRange};
 ghost use Rattle.xom_journal.specs.Log.{cost};
 ghost use Rattle.xom_versions.specs.Store.{area_size, line_limit};
-ghost use Rattle.xom_model.specs.Operation.{envelope_at, envelope_size, install as install_of, installed, is_bad_image as is_bad_image_of, unwrap as unwrap_of};
+ghost use Rattle.xom_model.specs.Operation.{after_install, envelope_at, envelope_size, install as install_of, is_bad_image as is_bad_image_of, unwrap as unwrap_of};
 ghost use Rattle.xom_model.specs.State.{session_of};
 ghost use Rattle.session_table.specs.Sessions.{fresh};
 ghost use Rattle.session_table.specs.declared.session.SlotState.TheVariants as state;
@@ -86,7 +86,7 @@ fn is_bad_image(plain: &Unwrapped) -> bool
 }
 
 /// Records the Accept and the Install, makes the guest's keys and session, and builds its versions.
-#[tactic(auto, unfolding(xom_model::specs::Operation::installed))]
+#[tactic(auto, unfolding(xom_model::specs::Operation::after_install))]
 fn set_up<V: VersionStore>(core: &mut Core<V>, slot: u8, place: u32, area: u32, plain: &Unwrapped)
     requires some { 1 ≤ slot }
     requires known { slot ≤ 16 }
@@ -96,7 +96,7 @@ fn set_up<V: VersionStore>(core: &mut Core<V>, slot: u8, place: u32, area: u32, 
     requires lines { plain.now.lines ≤ line_limit }
     requires number { core.old.core.installs < 2 ^ 63 }
     requires room { 801000 ≤ core.old.spare }
-    ensures core { core.new.core ≡ installed V.versions core.old.core slot place area plain.now }
+    ensures core { core.new.core ≡ after_install V.versions core.old.core slot place area plain.now }
     ensures room { core.old.spare ≤ core.new.spare + 801000 }
 {
     let message = envelope_message(&envelope_in(core, place));

@@ -1,7 +1,7 @@
 ghost use Rattle.std.specs.Prelude.{◌≡◌, ◌≤◌, ◌+◌};
 ghost use Rattle.xom_base.specs.declared.entry.Entry.TheVariants as entry;
-ghost use Rattle.xom_model.specs.Operation.{kill as kill_of, killed};
-ghost use Rattle.xom_model.specs.State.{noted};
+ghost use Rattle.xom_model.specs.Operation.{after_kill, kill as kill_of};
+ghost use Rattle.xom_model.specs.State.{with_entry};
 
 use crate::tests::is_bad_slot;
 use xom_base::Entry;
@@ -23,12 +23,12 @@ pub fn kill<V: VersionStore>(core: &mut Core<V>, slot: u32) -> u32
 }
 
 /// Takes all that is left of a slot's guest away, frees the slot, and records the Kill.
-#[tactic(auto, unfolding(xom_model::specs::Access::dropped))]
+#[tactic(auto, unfolding(xom_model::specs::Access::without_guest))]
 fn free<V: VersionStore>(core: &mut Core<V>, slot: u8)
     requires some { 1 ≤ slot }
     requires known { slot ≤ 16 }
     requires room { 48 ≤ core.old.spare }
-    ensures core { core.new.core ≡ killed V.versions core.old.core slot }
+    ensures core { core.new.core ≡ after_kill V.versions core.old.core slot }
     ensures room { core.old.spare ≤ core.new.spare + 48 }
 {
     let kill = Entry::Kill {
@@ -44,7 +44,7 @@ fn free<V: VersionStore>(core: &mut Core<V>, slot: u8)
 /// Writes a byte to the console.
 pub fn out<V: VersionStore>(core: &mut Core<V>, byte: u8)
     requires { 48 ≤ core.old.spare }
-    ensures core { core.new.core ≡ noted core.old.core (entry.Out byte) }
+    ensures core { core.new.core ≡ with_entry core.old.core (entry.Out byte) }
     ensures room { core.old.spare ≤ core.new.spare + 48 }
 {
     core.journal.push(&Entry::Out { byte });

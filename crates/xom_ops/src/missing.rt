@@ -1,5 +1,5 @@
 ghost use Rattle.std.specs.Prelude.{◌≡◌, ◌≤◌, ◌<◌};
-ghost use Rattle.xom_model.specs.Operation.{is_missing as is_missing_of, missing as missing_of};
+ghost use Rattle.xom_model.specs.Operation.{is_missing as is_missing_of, missing_cell as missing_of};
 
 use session_table::owns;
 use tag_regs::Cells;

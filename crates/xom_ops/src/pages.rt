@@ -2,7 +2,7 @@ ghost use Rattle.std.specs.Prelude.{◌≡◌, ◌≤◌, ◌<◌, ◌*◌, IfNo
 ghost use Rattle.line_ram.specs.Bytes.{HoldsFrame, frame_size};
 ghost use Rattle.page_map.specs.Pages.{frame_of};
 ghost use Rattle.xom_model.specs.Holds.{IsLive};
-ghost use Rattle.xom_model.specs.Operation.{done, map_page as map_page_of, tested};
+ghost use Rattle.xom_model.specs.Operation.{first_refusal_or, map_page as map_page_of, success};
 ghost use Rattle.xom_model.specs.State.{holds as holds_range};
 ghost use Rattle.xom_ops.specs.Refusals.{frame_tests, page_tests, refusal, with_frame};
 
@@ -50,8 +50,8 @@ fn map_free<V: VersionStore>(core: &mut Core<V>, slot: u8, page: u32, frame: u32
     requires slots { (1 ≤ slot) × (slot ≤ 16) }
     requires page { page < 256 }
     requires live { IsLive core.old.core slot }
-    ensures core { core.new.core ≡ (tested core.old.core (frame_tests core.old.core slot page frame) (done (with_frame core.old.core slot page frame))).0 }
-    ensures status { result ≡ (tested core.old.core (frame_tests core.old.core slot page frame) (done (with_frame core.old.core slot page frame))).1 }
+    ensures core { core.new.core ≡ (first_refusal_or core.old.core (frame_tests core.old.core slot page frame) (success (with_frame core.old.core slot page frame))).0 }
+    ensures status { result ≡ (first_refusal_or core.old.core (frame_tests core.old.core slot page frame) (success (with_frame core.old.core slot page frame))).1 }
     ensures room { core.new.spare ≡ core.old.spare }
 {
     if !holds_frame(&core.ram, frame) {

@@ -5,7 +5,7 @@ ghost use Rattle.xom_seal.specs.Messages.{register_message};
 ghost use Rattle.xom_seal.specs.Sealing.{unsealed_register};
 ghost use Rattle.xom_model.specs.Holds.{IsLive};
 ghost use Rattle.xom_model.specs.Lines.{who_of};
-ghost use Rattle.xom_model.specs.Operation.{done, epoch_of, is_own_cell as is_own_cell_of, register_tests, reopen as reopen_of, restore_register as restore_register_of, restored, save_register as save_register_of, saved, tested};
+ghost use Rattle.xom_model.specs.Operation.{after_restore, after_save, epoch_of, first_refusal_or, is_own_cell as is_own_cell_of, register_tests, reopening as reopen_of, restore_register as restore_register_of, save_register as save_register_of, success};
 ghost use Rattle.xom_model.specs.Saves.{reg_keys, reg_name, saved_at, saved_size, with_saved};
 ghost use Rattle.xom_ops.specs.Refusals.{mask_tests, own_tests, refusal};
 
@@ -82,8 +82,8 @@ fn save_own<V: VersionStore>(core: &mut Core<V>, slot: u8, reg: u8, address: u32
     requires range { HoldsRange core.old.core.ram address saved_size }
     requires live { IsLive core.old.core slot }
     requires room { 240 ≤ core.old.spare }
-    ensures core { core.new.core ≡ (tested core.old.core (own_tests core.old.core slot reg) (done (saved core.old.core slot reg address))).0 }
-    ensures status { result ≡ (tested core.old.core (own_tests core.old.core slot reg) (done (saved core.old.core slot reg address))).1 }
+    ensures core { core.new.core ≡ (first_refusal_or core.old.core (own_tests core.old.core slot reg) (success (after_save core.old.core slot reg address))).0 }
+    ensures status { result ≡ (first_refusal_or core.old.core (own_tests core.old.core slot reg) (success (after_save core.old.core slot reg address))).1 }
     ensures room { core.old.spare ≤ core.new.spare + 240 }
 {
     if !is_own_cell(&core.cells, slot, reg) {
@@ -103,14 +103,14 @@ fn is_own_cell(cells: &Cells, slot: u8, reg: u8) -> bool
 }
 
 /// Seals a register, records the Seal, and writes the sealed register to RAM.
-#[tactic(auto, unfolding(xom_model::specs::Operation::saved))]
+#[tactic(auto, unfolding(xom_model::specs::Operation::after_save))]
 fn save<V: VersionStore>(core: &mut Core<V>, slot: u8, reg: u8, address: u32)
     requires slots { (1 ≤ slot) × (slot ≤ 16) }
     requires cells { (1 ≤ reg) × (reg < 34) }
     requires range { HoldsRange core.old.core.ram address saved_size }
     requires live { IsLive core.old.core slot }
     requires room { 240 ≤ core.old.spare }
-    ensures core { core.new.core ≡ saved core.old.core slot reg address }
+    ensures core { core.new.core ≡ after_save core.old.core slot reg address }
     ensures room { core.old.spare ≤ core.new.spare + 240 }
 {
     let name = name_of(core, slot, reg);
@@ -187,8 +187,8 @@ fn restore_owned<V: VersionStore>(core: &mut Core<V>, slot: u8, reg: u8, address
     requires range { HoldsRange core.old.core.ram address saved_size }
     requires live { IsLive core.old.core slot }
     requires room { 240 ≤ core.old.spare }
-    ensures core { core.new.core ≡ (tested core.old.core (mask_tests core.old.core slot reg) (reopen_of core.old.core slot reg address)).0 }
-    ensures status { result ≡ (tested core.old.core (mask_tests core.old.core slot reg) (reopen_of core.old.core slot reg address)).1 }
+    ensures core { core.new.core ≡ (first_refusal_or core.old.core (mask_tests core.old.core slot reg) (reopen_of core.old.core slot reg address)).0 }
+    ensures status { result ≡ (first_refusal_or core.old.core (mask_tests core.old.core slot reg) (reopen_of core.old.core slot reg address)).1 }
     ensures room { core.old.spare ≤ core.new.spare + 240 }
 {
     if !owns(core.table.session(slot).mask, reg) {
@@ -237,7 +237,7 @@ fn opened<V: VersionStore>(
 }
 
 /// Records that a saved register was accepted, and sets its cell with the slot's tag.
-#[tactic(auto, unfolding(xom_model::specs::Operation::restored))]
+#[tactic(auto, unfolding(xom_model::specs::Operation::after_restore))]
 fn restore<V: VersionStore>(
     core: &mut Core<V>,
     slot: u8,
@@ -250,7 +250,7 @@ fn restore<V: VersionStore>(
     requires live { IsLive core.old.core slot }
     requires message { opening.now.message ≡ register_message (reg_name (who_of core.old.core slot) (epoch_of core.old.core slot) reg) (saved_at core.old.core.ram address).ct }
     requires room { 240 ≤ core.old.spare }
-    ensures core { core.new.core ≡ restored core.old.core slot reg address opening.now.value }
+    ensures core { core.new.core ≡ after_restore core.old.core slot reg address opening.now.value }
     ensures room { core.old.spare ≤ core.new.spare + 240 }
 {
     let key = tag_key(core, slot);

@@ -1,6 +1,6 @@
 ghost use Rattle.std.specs.Prelude.{◌≡◌, ◌≤◌, ◌+◌};
-ghost use Rattle.xom_model.specs.Guest.{delivered};
-ghost use Rattle.xom_model.specs.Operation.{takes as takes_of, with_signal as with_signal_of};
+ghost use Rattle.xom_model.specs.Guest.{after_delivery};
+ghost use Rattle.xom_model.specs.Operation.{slot_takes_signal as takes_of, with_signal as with_signal_of};
 ghost use Rattle.xom_ops.specs.Signals.{at_handler};
 
 use mips_plain::signal_step;
@@ -35,7 +35,7 @@ fn deliver<V: VersionStore>(core: &mut Core<V>, slot: u8, signal: u32)
     requires some { 1 ≤ slot }
     requires known { slot ≤ 16 }
     requires room { 48 ≤ core.old.spare }
-    ensures core { core.new.core ≡ delivered core.old.core slot signal }
+    ensures core { core.new.core ≡ after_delivery core.old.core slot signal }
     ensures room { core.old.spare ≤ core.new.spare + 48 }
 {
     let session = *core.table.session(slot);

@@ -1,7 +1,7 @@
 ghost use Rattle.std.specs.Prelude.{◌≡◌, ◌≤◌, ◌<◌, ◌+◌, IsSome};
 ghost use Rattle.line_cache.specs.Lines.{HasNoLine};
 ghost use Rattle.page_map.specs.Pages.{frame_of};
-ghost use Rattle.xom_model.specs.Operation.{tested, unmap_page as unmap_page_of};
+ghost use Rattle.xom_model.specs.Operation.{first_refusal_or, unmap_page as unmap_page_of};
 ghost use Rattle.xom_ops.specs.Unmapping.{frame_taken, mapped_tests, without_frame};
 
 use crate::pages::refused;
@@ -29,8 +29,8 @@ fn unmap_known<V: VersionStore>(core: &mut Core<V>, slot: u8, page: u32) -> u32
     requires slots { (1 ≤ slot) × (slot ≤ 16) }
     requires page { page < 256 }
     requires room { 650100 ≤ core.old.spare }
-    ensures core { core.new.core ≡ (tested core.old.core (mapped_tests core.old.core slot page) (frame_taken V.versions core.old.core slot page)).0 }
-    ensures status { result ≡ (tested core.old.core (mapped_tests core.old.core slot page) (frame_taken V.versions core.old.core slot page)).1 }
+    ensures core { core.new.core ≡ (first_refusal_or core.old.core (mapped_tests core.old.core slot page) (frame_taken V.versions core.old.core slot page)).0 }
+    ensures status { result ≡ (first_refusal_or core.old.core (mapped_tests core.old.core slot page) (frame_taken V.versions core.old.core slot page)).1 }
     ensures room { core.old.spare ≤ core.new.spare + 650100 }
 {
     match core.pages.frame_of(slot, page) {

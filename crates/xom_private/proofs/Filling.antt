@@ -11,7 +11,7 @@ use Rattle.line_cache.specs.Ways.{first_place, free_if, free_in_set, free_way, i
 use Rattle.xom_versions.specs.declared.store.Torn.{Torn}
 use Rattle.xom_versions.specs.Versions.{Versions}
 use Rattle.xom_model.specs.declared.reach.Reach.TheVariants as reach
-use Rattle.xom_model.specs.Access.{cleared, cleared_at, dropped, or_stopped, placed, put, raising, sealed_by_raise, sealing, stopped, with_pointers}
+use Rattle.xom_model.specs.Access.{after_raise, after_seal, after_stop, after_victim, cleared_at, or_stopped, reach_after_placing, reach_after_victim, sealed_by_raise, with_pointers, without_guest}
 use Rattle.xom_model.specs.State.{CoreState, store_of, with_way}
 use Rattle.xom_model.proofs.Gone.{free_if-other}
 use Rattle.xom_private.specs.Cores.{FreeAreClean}
@@ -71,19 +71,19 @@ module _ (v : Versions) (core : CoreState) (slot line : ℕ) (bytes : List ℕ) 
   full = with_way moved place (new_way slot line bytes)
 
   abbrev Same : Result ℕ Torn → Type 0
-  Same answer = put v way.slot place slot line bytes (or_stopped v way.slot (sealed_by_raise v (raising v moved way.slot way.line) way.slot way.line way.bytes answer))
-      ≡ settled_by slot place way.slot (sealed_by_raise v (raising v full way.slot way.line) way.slot way.line way.bytes answer).0 (sealed_by_raise v (raising v full way.slot way.line) way.slot way.line way.bytes answer).1
+  Same answer = reach_after_victim v way.slot place slot line bytes (or_stopped v way.slot (sealed_by_raise v (after_raise v moved way.slot way.line) way.slot way.line way.bytes answer))
+      ≡ settled_by slot place way.slot (sealed_by_raise v (after_raise v full way.slot way.line) way.slot way.line way.bytes answer).0 (sealed_by_raise v (after_raise v full way.slot way.line) way.slot way.line way.bytes answer).1
 
   same_sealed : (version : ℕ) → Same (Ok version)
-  unfolding raising sealing
+  unfolding after_raise after_seal
   same_sealed version = refl
 
   same_torn : (torn : Torn) → Same (Err torn)
-  unfolding raising dropped
+  unfolding after_raise without_guest
   same_torn torn = elim (eqb_tells way.slot slot) [
-    | inl is ↦ rw is.0 (ap (λ ways. (record (stopped (raising v moved way.slot way.line) way.slot (rule.TreeNode torn.level)) { ways = ways }, reach.Stopped (rule.TreeNode torn.level)))
+    | inl is ↦ rw is.0 (ap (λ ways. (record (after_stop (after_raise v moved way.slot way.line) way.slot (rule.TreeNode torn.level)) { ways = ways }, reach.Stopped (rule.TreeNode torn.level)))
         (sym (subst (λ k. without_slot way.slot (set core.ways place (new_way k line bytes)) ≡ without_slot way.slot core.ways) is.1 (own_gone way.slot place line bytes core.ways refl))))
-    | inr differs ↦ rw differs.0 (ap (λ ways. (record (stopped (raising v moved way.slot way.line) way.slot (rule.TreeNode torn.level)) { ways = ways }, reach.Ready place))
+    | inr differs ↦ rw differs.0 (ap (λ ways. (record (after_stop (after_raise v moved way.slot way.line) way.slot (rule.TreeNode torn.level)) { ways = ways }, reach.Ready place))
         (sym (other_stays way.slot slot place line bytes core.ways differs.1)))
   ]
 
@@ -91,17 +91,17 @@ module _ (v : Versions) (core : CoreState) (slot line : ℕ) (bytes : List ℕ) 
   same_answer (Ok version) = same_sealed version
   same_answer (Err torn) = same_torn torn
 
-  same_dirty : (dirty : Bool) → put v way.slot place slot line bytes (cleared v moved way dirty) ≡ settled v full slot place (if_dirty (victim_of way) dirty)
+  same_dirty : (dirty : Bool) → reach_after_victim v way.slot place slot line bytes (after_victim v moved way dirty) ≡ settled v full slot place (if_dirty (victim_of way) dirty)
   same_dirty false = refl
   same_dirty true = same_answer (v.answer_of_raise (store_of core way.slot) way.line core.ram)
 
-  pub placed_settles : placed v core slot line bytes ≡ settled v (filled core slot line bytes) slot place (if_dirty (victim_of way) way.dirty)
-  unfolding placed cleared_at filled
+  pub placed_settles : reach_after_placing v core slot line bytes ≡ settled v (filled core slot line bytes) slot place (if_dirty (victim_of way) way.dirty)
+  unfolding reach_after_placing cleared_at filled
   placed_settles = same_dirty way.dirty
 
 -- what the code makes of a new line is what the model makes of it
 pub settles : (v : Versions) (core now : CoreState) (slot line at : ℕ) (bytes : List ℕ) (victim : Option Victim)
     → now ≡ filled core slot line bytes → at ≡ place_for core.ways core.pointers line → victim ≡ to_write (victim_for (cache_of core) line) → FreeAreClean core.ways
-    → settled v now slot at victim ≡ placed v core slot line bytes
+    → settled v now slot at victim ≡ reach_after_placing v core slot line bytes
 settles v core now slot line at bytes victim now_is at_is victim_is clean =
     rw (now_is, at_is, victim_is ∙ pushed core line clean) (sym (placed_settles v core slot line bytes))

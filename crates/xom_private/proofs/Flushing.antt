@@ -11,7 +11,7 @@ use Rattle.line_cache.specs.Lines.{HasNoLine, TakesLeast, way_found}
 use Rattle.line_cache.specs.Ways.{Cache, found, free_if, free_way, victim_of, way_at, without_slot}
 use Rattle.xom_versions.specs.declared.store.Torn.{Torn}
 use Rattle.xom_versions.specs.Versions.{Versions}
-use Rattle.xom_model.specs.Access.{and_then, cleared, cleared_at, dropped, flushed, raising, sealed_by_raise, or_stopped, sealing, stopped, taken, taken_out}
+use Rattle.xom_model.specs.Access.{after_eviction, after_flush, after_raise, after_seal, after_stop, after_victim, and_then, cleared_at, or_stopped, sealed_by_raise, taken_out, without_guest}
 use Rattle.xom_model.specs.State.{CoreState, store_of, with_way}
 use Rattle.xom_model.proofs.Gone.{less}
 use Rattle.xom_private.specs.Cores.{rule_in}
@@ -36,36 +36,36 @@ module _ (v : Versions) (core : CoreState) (place : ℕ) where
   out = with_way core place free_way
 
   abbrev Same : Result ℕ Torn → Type 0
-  Same answer = taken place (or_stopped v way.slot (sealed_by_raise v (raising v core way.slot way.line) way.slot way.line way.bytes answer))
-      ≡ or_stopped v way.slot (sealed_by_raise v (raising v out way.slot way.line) way.slot way.line way.bytes answer)
+  Same answer = after_eviction place (or_stopped v way.slot (sealed_by_raise v (after_raise v core way.slot way.line) way.slot way.line way.bytes answer))
+      ≡ or_stopped v way.slot (sealed_by_raise v (after_raise v out way.slot way.line) way.slot way.line way.bytes answer)
 
   same_torn : (torn : Torn) → Same (Err torn)
-  unfolding raising dropped
-  same_torn torn = ap (λ ways. (record (stopped (raising v core way.slot way.line) way.slot (rule.TreeNode torn.level)) { ways = ways }, Some (rule.TreeNode torn.level)))
+  unfolding after_raise without_guest
+  same_torn torn = ap (λ ways. (record (after_stop (after_raise v core way.slot way.line) way.slot (rule.TreeNode torn.level)) { ways = ways }, Some (rule.TreeNode torn.level)))
       (sym (way_gone place core.ways))
 
   same_answer : (answer : Result ℕ Torn) → Same answer
-  unfolding raising sealing
+  unfolding after_raise after_seal
   same_answer (Ok version) = refl
   same_answer (Err torn) = same_torn torn
 
-  same_dirty : (dirty : Bool) → taken place (cleared v core way dirty) ≡ cleared v out way dirty
+  same_dirty : (dirty : Bool) → after_eviction place (after_victim v core way dirty) ≡ after_victim v out way dirty
   same_dirty false = refl
   same_dirty true = same_answer (v.answer_of_raise (store_of core way.slot) way.line core.ram)
 
-  pub taken_settles : taken place (cleared_at v core place) ≡ settled_out v out (victim_of way)
+  pub taken_settles : after_eviction place (cleared_at v core place) ≡ settled_out v out (victim_of way)
   unfolding cleared_at
   taken_settles = same_dirty way.dirty
 
 -- a line that was written back leaves all ways
 module _ (v : Versions) (core : CoreState) (way : Way) where
-  ways_sealed : (answer : Result ℕ Torn) → (or_stopped v way.slot (sealed_by_raise v (raising v core way.slot way.line) way.slot way.line way.bytes answer)).1 ≡ None
-      → (or_stopped v way.slot (sealed_by_raise v (raising v core way.slot way.line) way.slot way.line way.bytes answer)).0.ways ≡ core.ways
-  unfolding raising sealing
+  ways_sealed : (answer : Result ℕ Torn) → (or_stopped v way.slot (sealed_by_raise v (after_raise v core way.slot way.line) way.slot way.line way.bytes answer)).1 ≡ None
+      → (or_stopped v way.slot (sealed_by_raise v (after_raise v core way.slot way.line) way.slot way.line way.bytes answer)).0.ways ≡ core.ways
+  unfolding after_raise after_seal
   ways_sealed (Ok version) none = refl
   ways_sealed (Err torn) none = absurd (cc)
 
-  ways_stay : (dirty : Bool) → (cleared v core way dirty).1 ≡ None → (cleared v core way dirty).0.ways ≡ core.ways
+  ways_stay : (dirty : Bool) → (after_victim v core way dirty).1 ≡ None → (after_victim v core way dirty).0.ways ≡ core.ways
   ways_stay false none = refl
   ways_stay true none = ways_sealed (v.answer_of_raise (store_of core way.slot) way.line core.ram) none
 
@@ -86,18 +86,18 @@ no_rule_first (core, Some why) rest none = absurd (cc)
 
 -- ---- Pages that stay
 
-taken_pages : (place : ℕ) (first : CoreState × Option Rule) → (taken place first).1 ≡ None → (first.1 ≡ None) × ((taken place first).0.pages ≡ first.0.pages)
+taken_pages : (place : ℕ) (first : CoreState × Option Rule) → (after_eviction place first).1 ≡ None → (first.1 ≡ None) × ((after_eviction place first).0.pages ≡ first.0.pages)
 taken_pages place (core, None) none = (refl, refl)
 taken_pages place (core, Some why) none = absurd (cc)
 
 module _ (v : Versions) where
-  pages_sealed : (core : CoreState) (way : Way) (answer : Result ℕ Torn) → (or_stopped v way.slot (sealed_by_raise v (raising v core way.slot way.line) way.slot way.line way.bytes answer)).1 ≡ None
-      → (or_stopped v way.slot (sealed_by_raise v (raising v core way.slot way.line) way.slot way.line way.bytes answer)).0.pages ≡ core.pages
-  unfolding raising sealing
+  pages_sealed : (core : CoreState) (way : Way) (answer : Result ℕ Torn) → (or_stopped v way.slot (sealed_by_raise v (after_raise v core way.slot way.line) way.slot way.line way.bytes answer)).1 ≡ None
+      → (or_stopped v way.slot (sealed_by_raise v (after_raise v core way.slot way.line) way.slot way.line way.bytes answer)).0.pages ≡ core.pages
+  unfolding after_raise after_seal
   pages_sealed core way (Ok version) none = refl
   pages_sealed core way (Err torn) none = absurd (cc)
 
-  cleared_pages : (core : CoreState) (way : Way) (dirty : Bool) → (cleared v core way dirty).1 ≡ None → (cleared v core way dirty).0.pages ≡ core.pages
+  cleared_pages : (core : CoreState) (way : Way) (dirty : Bool) → (after_victim v core way dirty).1 ≡ None → (after_victim v core way dirty).0.pages ≡ core.pages
   cleared_pages core way false none = refl
   cleared_pages core way true none = pages_sealed core way (v.answer_of_raise (store_of core way.slot) way.line core.ram) none
 
@@ -109,12 +109,12 @@ module _ (v : Versions) where
       ended.1 ∙ cleared_pages core (way_at core.ways place) (way_at core.ways place).dirty ended.0
 
   -- a flush that tells no rule leaves all pages
-  pub flushed_pages : (slot count line : ℕ) (core : CoreState) → (flushed v slot count line core).1 ≡ None → (flushed v slot count line core).0.pages ≡ core.pages
-  unfolding flushed
+  pub flushed_pages : (slot count line : ℕ) (core : CoreState) → (after_flush v slot count line core).1 ≡ None → (after_flush v slot count line core).0.pages ≡ core.pages
+  unfolding after_flush
   flushed_pages slot zero line core none = refl
   flushed_pages slot (suc count) line core none =
       let first : CoreState × Option Rule = taken_out v core (found core.ways slot line) in
-      let rest : CoreState → CoreState × Option Rule = flushed v slot count (line + 1) in
+      let rest : CoreState → CoreState × Option Rule = after_flush v slot count (line + 1) in
       let ended : first.1 ≡ None = no_rule_first first rest none in
       let whole : and_then first rest ≡ rest first.0 = then_rest first rest ended in
       ap (λ (r : CoreState × Option Rule). r.0.pages) whole
@@ -130,8 +130,8 @@ NoneFrom ways slot from to = (line : ℕ) → from ≤ line → line < to → fo
 module _ (v : Versions) (slot more : ℕ) where
   -- such lines are passed over
   pub passed_over : (count total from to : ℕ) (core : CoreState) → total ≡ count + more → to ≡ from + count → NoneFrom core.ways slot from to
-      → flushed v slot total from core ≡ flushed v slot more to core
-  unfolding flushed
+      → after_flush v slot total from core ≡ after_flush v slot more to core
+  unfolding after_flush
   passed_over zero total from to core total_is to_is none =
       let totals : total ≡ more = omega arith in
       let places : to ≡ from = omega arith in
@@ -139,15 +139,15 @@ module _ (v : Versions) (slot more : ℕ) where
   passed_over (suc count) total from to core total_is to_is none =
       let totals : total ≡ suc (count + more) = omega arith in
       rw totals
-      (ap (λ at. and_then (taken_out v core at) (flushed v slot (count + more) (from + 1))) (none from (omega arith) (omega arith))
+      (ap (λ at. and_then (taken_out v core at) (after_flush v slot (count + more) (from + 1))) (none from (omega arith) (omega arith))
       ∙ passed_over count (count + more) (from + 1) to core refl (omega arith) (λ line low high. none line (omega arith) high))
 
 -- a page without a cached line is flushed already
-pub none_left : (v : Versions) (slot page : ℕ) (core : CoreState) → NoneFrom core.ways slot (128 * page) (128 * page + 128) → flushed v slot 128 (128 * page) core ≡ (core, None)
-unfolding flushed
+pub none_left : (v : Versions) (slot page : ℕ) (core : CoreState) → NoneFrom core.ways slot (128 * page) (128 * page + 128) → after_flush v slot 128 (128 * page) core ≡ (core, None)
+unfolding after_flush
 none_left v slot page core none = passed_over v slot 0 128 128 (128 * page) (128 * page + 128) core (omega arith) refl none
 
-pub none_of_page : (v : Versions) (slot page : ℕ) (core : CoreState) → HasNoLine core.ways slot page → flushed v slot 128 (128 * page) core ≡ (core, None)
+pub none_of_page : (v : Versions) (slot page : ℕ) (core : CoreState) → HasNoLine core.ways slot page → after_flush v slot 128 (128 * page) core ≡ (core, None)
 none_of_page v slot page core none = none_left v slot page core (λ line low high. none line (omega arith))
 
 -- ---- One line of a page
@@ -158,7 +158,7 @@ not_found ways (Some place) none = absurd (cc)
 
 -- the flush of the page has come so far: no line of the page before this one is left, and the rest is flushed to the same end
 pub record Reached (v : Versions) (slot page count : ℕ) (start core : CoreState) : Type 0 where
-  pub same : flushed v slot 128 (128 * page) core ≡ flushed v slot 128 (128 * page) start
+  pub same : after_flush v slot 128 (128 * page) core ≡ after_flush v slot 128 (128 * page) start
   pub gone : NoneFrom core.ways slot (128 * page) (128 * page + count)
 
 module _ (v : Versions) (slot page : ℕ) (some : 1 ≤ slot) (old mid : CoreState) (victim : Victim) (out : TakesOut old mid slot page victim) where
@@ -174,7 +174,7 @@ module _ (v : Versions) (slot page : ℕ) (some : 1 ≤ slot) (old mid : CoreSta
   in_page : (128 * page ≤ victim.line) × (victim.line < 128 * page + 128)
   in_page = let page_is = takes.page_is in (omega arith, omega arith)
 
-  settled_is : taken takes.place (cleared_at v old takes.place) ≡ settled
+  settled_is : after_eviction takes.place (cleared_at v old takes.place) ≡ settled
   settled_is =
       taken_settles v old takes.place
       ∙ ap (λ core. settled_out v core (victim_of (way_at old.ways takes.place))) (sym (out.rest ∙ ap (λ (c : Cache). record old { ways = c.ways }) takes.cache))
@@ -192,15 +192,15 @@ module _ (v : Versions) (slot page : ℕ) (some : 1 ≤ slot) (old mid : CoreSta
         subst (λ l. found mid.ways slot l ≡ None) same (not_found mid.ways (found mid.ways slot victim.line) takes.gone)
   ]
 
-  from_here : flushed v slot 128 (128 * page) old ≡ and_then settled (flushed v slot remaining (victim.line + 1))
-  unfolding flushed
+  from_here : after_flush v slot 128 (128 * page) old ≡ and_then settled (after_flush v slot remaining (victim.line + 1))
+  unfolding after_flush
   from_here =
       let within = in_page in
       passed_over v slot (suc remaining) (victim.line - 128 * page) 128 (128 * page) victim.line old (omega arith) (omega arith) before
-      ∙ ap (λ at. and_then (taken_out v old at) (flushed v slot remaining (victim.line + 1))) takes.place_is
-      ∙ ap (λ first. and_then first (flushed v slot remaining (victim.line + 1))) settled_is
+      ∙ ap (λ at. and_then (taken_out v old at) (after_flush v slot remaining (victim.line + 1))) takes.place_is
+      ∙ ap (λ first. and_then first (after_flush v slot remaining (victim.line + 1))) settled_is
 
-  from_next : (new : CoreState) → new.ways ≡ mid.ways → flushed v slot 128 (128 * page) new ≡ flushed v slot remaining (victim.line + 1) new
+  from_next : (new : CoreState) → new.ways ≡ mid.ways → after_flush v slot 128 (128 * page) new ≡ after_flush v slot remaining (victim.line + 1) new
   from_next new ways_are =
       let within = in_page in
       passed_over v slot remaining (victim.line + 1 - 128 * page) 128 (128 * page) (victim.line + 1) new (omega arith) (omega arith)
@@ -219,7 +219,7 @@ module _ (v : Versions) (slot page : ℕ) (some : 1 ≤ slot) (old mid : CoreSta
       let none : settled.1 ≡ None = sym told in
       let ways_are : new.ways ≡ mid.ways = ap (λ (c : CoreState). c.ways) new_is ∙ ways_stay v mid (way_of victim) victim.dirty none in
       record {
-        same = from_next new ways_are ∙ ap (flushed v slot remaining (victim.line + 1)) new_is ∙ sym (then_rest settled (flushed v slot remaining (victim.line + 1)) none) ∙ sym from_here ∙ reached.same;
+        same = from_next new ways_are ∙ ap (after_flush v slot remaining (victim.line + 1)) new_is ∙ sym (then_rest settled (after_flush v slot remaining (victim.line + 1)) none) ∙ sym from_here ∙ reached.same;
         gone = λ line low high.
             let past = past_gone count reached.gone in
             ap (λ ways. found ways slot line) ways_are ∙ after line low (omega arith);
@@ -227,16 +227,16 @@ module _ (v : Versions) (slot page : ℕ) (some : 1 ≤ slot) (old mid : CoreSta
 
   -- the slot was stopped, and the flush ends with that
   pub reached_stop : (start new : CoreState) (count : ℕ) (why : Rule) → new ≡ settled.0 → Some why ≡ settled.1 → Reached v slot page count start old
-      → (new ≡ (flushed v slot 128 (128 * page) start).0) × (Some why ≡ (flushed v slot 128 (128 * page) start).1)
+      → (new ≡ (after_flush v slot 128 (128 * page) start).0) × (Some why ≡ (after_flush v slot 128 (128 * page) start).1)
   reached_stop start new count why new_is is reached =
-      let all = sym (then_ends settled (flushed v slot remaining (victim.line + 1)) why (sym is)) ∙ sym from_here ∙ reached.same in
+      let all = sym (then_ends settled (after_flush v slot remaining (victim.line + 1)) why (sym is)) ∙ sym from_here ∙ reached.same in
       (new_is ∙ ap (λ (r : CoreState × Option Rule). r.0) all, is ∙ ap (λ (r : CoreState × Option Rule). r.1) all)
 
 -- ---- The end
 
 module _ (v : Versions) (slot page count : ℕ) (start core : CoreState) (reached : Reached v slot page count start core) where
   -- where no line of the page is left
-  pub reached_none : (new : CoreState) → new ≡ core → HasNoLine core.ways slot page → (new, None) ≡ flushed v slot 128 (128 * page) start
+  pub reached_none : (new : CoreState) → new ≡ core → HasNoLine core.ways slot page → (new, None) ≡ after_flush v slot 128 (128 * page) start
   reached_none new new_is none = ap (λ c. (c, None)) new_is ∙ sym (none_of_page v slot page core none) ∙ reached.same
 
   -- no line of the page is left where all were looked for
@@ -244,7 +244,7 @@ module _ (v : Versions) (slot page count : ℕ) (start core : CoreState) (reache
   reached_gone all line of = reached.gone line (omega arith) (omega arith)
 
   -- where all lines were looked for
-  pub reached_end : count ≡ 128 → (core, None) ≡ flushed v slot 128 (128 * page) start
+  pub reached_end : count ≡ 128 → (core, None) ≡ after_flush v slot 128 (128 * page) start
   reached_end all = sym (none_left v slot page core (λ line low high. reached.gone line low (omega arith))) ∙ reached.same
 
 -- no line of the page is cached in a core that is the same
@@ -252,7 +252,7 @@ pub none_there : (slot page : ℕ) (core new : CoreState) → new ≡ core → H
 none_there slot page core new same none = subst (λ (c : CoreState). HasNoLine c.ways slot page) (sym same) none
 
 -- pages stay where the flush came to its end
-pub pages_left : (v : Versions) (slot page : ℕ) (start new : CoreState) → (new, None) ≡ flushed v slot 128 (128 * page) start → new.pages ≡ start.pages
+pub pages_left : (v : Versions) (slot page : ℕ) (start new : CoreState) → (new, None) ≡ after_flush v slot 128 (128 * page) start → new.pages ≡ start.pages
 pages_left v slot page start new is =
     ap (λ (r : CoreState × Option Rule). r.0.pages) is
     ∙ flushed_pages v slot 128 (128 * page) start (sym (ap (λ (r : CoreState × Option Rule). r.1) is))

@@ -5,7 +5,7 @@ use Rattle.line_cache.specs.declared.way.Victim.{Victim}
 use Rattle.line_cache.specs.declared.way.Way.{Way}
 use Rattle.line_cache.specs.Lines.{TakesLeast}
 use Rattle.xom_versions.specs.Versions.{Versions}
-use Rattle.xom_model.specs.Access.{cleared}
+use Rattle.xom_model.specs.Access.{after_victim}
 use Rattle.xom_model.specs.Holds.{IsLive}
 use Rattle.xom_model.specs.State.{CoreState}
 use Rattle.xom_private.specs.Settling.{cache_of}
@@ -16,7 +16,7 @@ way_of victim = record { slot = victim.slot; line = victim.line; bytes = victim.
 
 -- what a line that was taken out held is written back, where it is dirty
 abbrev pub settled_out : Versions → CoreState → Victim → CoreState × Option Rule
-settled_out v core victim = cleared v core (way_of victim) victim.dirty
+settled_out v core victim = after_victim v core (way_of victim) victim.dirty
 
 -- the least cached line of a page of a live slot is taken out of the cache, and nothing else changes
 pub record TakesOut (old new : CoreState) (slot page : ℕ) (victim : Victim) : Type 0 where

@@ -6,7 +6,7 @@ use Rattle.line_cache.specs.Ways.{Cache, new_way, place_for}
 use Rattle.xom_versions.specs.Versions.{Versions}
 use Rattle.xom_model.specs.declared.reach.Reach.{Reach}
 use Rattle.xom_model.specs.declared.reach.Reach.TheVariants as reach
-use Rattle.xom_model.specs.Access.{stopped, with_pointers, write_back}
+use Rattle.xom_model.specs.Access.{after_stop, with_pointers, write_back}
 use Rattle.xom_model.specs.State.{CoreState, with_way}
 
 abbrev pub if_dirty : Victim → Bool → Option Victim
@@ -28,7 +28,7 @@ filled core slot line bytes = with_way (with_pointers core line) (place_for core
 -- what the access comes to, where the line that was pushed out was written back, or its slot is to be stopped
 abbrev pub settled_by : ℕ → ℕ → ℕ → CoreState → Option Rule → CoreState × Reach
 settled_by slot place who core None = (core, reach.Ready place)
-settled_by slot place who core (Some why) = (stopped core who why, if who == slot then reach.Stopped why else reach.Ready place)
+settled_by slot place who core (Some why) = (after_stop core who why, if who == slot then reach.Stopped why else reach.Ready place)
 
 module _ (v : Versions) where
   abbrev pub settled : CoreState → ℕ → ℕ → Option Victim → CoreState × Reach
@@ -38,4 +38,4 @@ module _ (v : Versions) where
 
 -- an access that stops its slot
 abbrev pub stopped_for : CoreState → ℕ → Rule → CoreState × Reach
-stopped_for core slot why = (stopped core slot why, reach.Stopped why)
+stopped_for core slot why = (after_stop core slot why, reach.Stopped why)

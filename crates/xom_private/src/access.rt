@@ -3,10 +3,10 @@ ghost use Rattle.line_cache.specs.Ways.{found};
 ghost use Rattle.page_map.specs.Pages.{frame_of};
 ghost use Rattle.xom_seal.specs.Sealing.{unsealed_line};
 ghost use Rattle.xom_versions.specs.Store.{line_limit, version_room};
-ghost use Rattle.xom_model.specs.Access.{access, looked, read_from};
+ghost use Rattle.xom_model.specs.Access.{access, reach_by_cache, read_from};
 ghost use Rattle.xom_model.specs.Holds.{IsLive};
 ghost use Rattle.xom_model.specs.Lines.{accept_entry, ct_place, keys_of, message_as, name_of, sealed_at as sealed_in, who_of};
-ghost use Rattle.xom_model.specs.State.{hashed, noted, page_of, store_of};
+ghost use Rattle.xom_model.specs.State.{core_with_hashes, page_of, store_of, with_entry};
 ghost use Rattle.xom_private.specs.Settling.{stopped_for};
 
 use crate::Core;
@@ -54,7 +54,7 @@ impl<V: VersionStore> Core<V> {
         requires frame { frame_of self.old.core.pages slot (page_of line) ≡ Some frame }
         requires message { message ≡ message_as (who_of self.old.core slot) line version sealed.now.ct }
         requires room { 240 ≤ self.old.spare }
-        ensures core { self.new.core ≡ noted self.old.core (accept_entry (who_of self.old.core slot) line version sealed.now.ct (ct_place frame line)) }
+        ensures core { self.new.core ≡ with_entry self.old.core (accept_entry (who_of self.old.core slot) line version sealed.now.ct (ct_place frame line)) }
         ensures room { self.old.spare ≤ self.new.spare + 240 }
     {
         let _size = self.ram.size();
@@ -113,7 +113,7 @@ impl<V: VersionStore> Core<V> {
         requires line { line < line_limit }
         requires live { IsLive self.old.core slot }
         requires room { version_room ≤ self.old.spare }
-        ensures core { self.new.core ≡ hashed self.old.core (V.versions.texts_of_version (store_of self.old.core slot) line self.old.core.ram) }
+        ensures core { self.new.core ≡ core_with_hashes self.old.core (V.versions.texts_of_version (store_of self.old.core slot) line self.old.core.ram) }
         ensures answer { result ≡ V.versions.answer_of_version (store_of self.old.core slot) line self.old.core.ram }
         ensures room { self.old.spare ≤ self.new.spare + version_room }
     {
@@ -131,8 +131,8 @@ impl<V: VersionStore> Core<V> {
         requires frame { frame_of self.old.core.pages slot (page_of line) ≡ Some frame }
         requires absent { found self.old.core.ways slot line ≡ None }
         requires room { 10000 ≤ self.old.spare }
-        ensures core { self.new.core ≡ (looked V.versions self.old.core slot line frame None).0 }
-        ensures reach { result ≡ (looked V.versions self.old.core slot line frame None).1 }
+        ensures core { self.new.core ≡ (reach_by_cache V.versions self.old.core slot line frame None).0 }
+        ensures reach { result ≡ (reach_by_cache V.versions self.old.core slot line frame None).1 }
         ensures room { self.old.spare ≤ self.new.spare + 10000 }
     {
         match self.version(slot, line) {

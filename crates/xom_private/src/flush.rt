@@ -1,7 +1,7 @@
 ghost use Rattle.std.specs.Prelude.{◌≡◌, ◌≤◌, ◌+◌, ◌*◌, ◌↔◌, IfNone, IfSome, IsNone, OnOk};
 ghost use Rattle.line_cache.specs.Lines.{HasNoLine, IsLine};
 ghost use Rattle.line_ram.specs.Bytes.{frame_lines};
-ghost use Rattle.xom_model.specs.Access.{flushed};
+ghost use Rattle.xom_model.specs.Access.{after_flush};
 ghost use Rattle.xom_model.specs.Holds.{IsLive};
 ghost use Rattle.xom_private.specs.Cores.{rule_in};
 ghost use Rattle.xom_private.specs.Flushing.{TakesOut, settled_out};
@@ -53,8 +53,8 @@ impl<V: VersionStore> Core<V> {
     pub fn flush_page(&mut self, slot: u8, page: u32) -> Result<(), Rule>
         requires some { 1 ≤ slot }
         requires room { 650000 ≤ self.old.spare }
-        ensures core { self.new.core ≡ (flushed V.versions slot frame_lines (frame_lines * page) self.old.core).0 }
-        ensures rule { rule_in result ≡ (flushed V.versions slot frame_lines (frame_lines * page) self.old.core).1 }
+        ensures core { self.new.core ≡ (after_flush V.versions slot frame_lines (frame_lines * page) self.old.core).0 }
+        ensures rule { rule_in result ≡ (after_flush V.versions slot frame_lines (frame_lines * page) self.old.core).1 }
         ensures room { self.old.spare ≤ self.new.spare + 650000 }
         ensures pages { OnOk result (self.new.core.pages ≡ self.old.core.pages) }
         ensures gone { OnOk result (HasNoLine self.new.core.ways slot page) }

@@ -1,7 +1,7 @@
 ghost use Rattle.std.specs.Prelude.{◌≡◌, ◌≤◌, ◌+◌, ◌*◌, IfOk, false, replicate};
 ghost use Rattle.line_ram.specs.Bytes.{frame_size};
 ghost use Rattle.session_table.specs.Sessions.{is_live};
-ghost use Rattle.xom_model.specs.Access.{gone, stopped};
+ghost use Rattle.xom_model.specs.Access.{after_leaving, after_stop};
 ghost use Rattle.xom_model.specs.State.{core_at_start};
 
 use crate::StoreList;
@@ -80,12 +80,12 @@ impl<V: VersionStore> Core<V> {
 
     /// The guest of a slot, 1 to 16, leaves for good, ended or stopped: no cell, no cached line and no
     /// page is left of it.
-    #[tactic(auto, unfolding(xom_model::specs::Access::dropped))]
+    #[tactic(auto, unfolding(xom_model::specs::Access::without_guest))]
     pub fn leave(&mut self, slot: u8, last: SlotState)
         requires some { 1 ≤ slot }
         requires known { slot ≤ 16 }
         requires dead { is_live last ≡ false }
-        ensures core { self.new.core ≡ gone self.old.core slot last }
+        ensures core { self.new.core ≡ after_leaving self.old.core slot last }
         ensures room { self.new.spare ≡ self.old.spare }
     {
         let session = *self.table.session(slot);
@@ -101,7 +101,7 @@ impl<V: VersionStore> Core<V> {
         requires some { 1 ≤ slot }
         requires known { slot ≤ 16 }
         requires room { 100 ≤ self.old.spare }
-        ensures core { self.new.core ≡ stopped self.old.core slot rule }
+        ensures core { self.new.core ≡ after_stop self.old.core slot rule }
         ensures room { self.old.spare ≤ self.new.spare + 100 }
     {
         let install = self.table.session(slot).install;

@@ -2,7 +2,7 @@ ghost use Rattle.std.specs.Prelude.{◌≡◌, ◌≤◌, ◌<◌, ◌+◌, None
 ghost use Rattle.line_cache.specs.Lines.{IsLine};
 ghost use Rattle.line_cache.specs.Ways.{found, place_for, victim_for};
 ghost use Rattle.xom_versions.specs.Store.{line_limit};
-ghost use Rattle.xom_model.specs.Access.{placed};
+ghost use Rattle.xom_model.specs.Access.{reach_after_placing};
 ghost use Rattle.xom_model.specs.Holds.{IsLive};
 ghost use Rattle.xom_model.specs.State.{page_of};
 ghost use Rattle.xom_private.specs.Cores.{FreeAreClean, IsMapped};
@@ -72,8 +72,8 @@ impl<V: VersionStore> Core<V> {
         requires mapped { IsMapped self.old.core.pages slot (page_of line) }
         requires absent { found self.old.core.ways slot line ≡ None }
         requires room { 5100 ≤ self.old.spare }
-        ensures core { self.new.core ≡ (placed V.versions self.old.core slot line bytes.now).0 }
-        ensures reach { result ≡ (placed V.versions self.old.core slot line bytes.now).1 }
+        ensures core { self.new.core ≡ (reach_after_placing V.versions self.old.core slot line bytes.now).0 }
+        ensures reach { result ≡ (reach_after_placing V.versions self.old.core slot line bytes.now).1 }
         ensures room { self.old.spare ≤ self.new.spare + 5100 }
     {
         let (place, victim) = self.fill(slot, line, bytes);

@@ -1,6 +1,6 @@
 ghost use Rattle.std.specs.Prelude.{◌≡◌, ◌≤◌, ◌<◌, ◌+◌};
 ghost use Rattle.xom_versions.specs.Store.{line_limit, raise_room};
-ghost use Rattle.xom_model.specs.Access.{raising, sealing, write_back};
+ghost use Rattle.xom_model.specs.Access.{after_raise, after_seal, write_back};
 ghost use Rattle.xom_model.specs.Holds.{IsLive};
 ghost use Rattle.xom_model.specs.State.{store_of};
 ghost use Rattle.xom_private.specs.Cores.{rule_in};
@@ -11,14 +11,14 @@ use xom_versions::{Torn, VersionStore};
 
 impl<V: VersionStore> Core<V> {
     /// Raises the version of a line of a live slot, or finds it torn.
-    #[tactic(auto, unfolding(xom_model::specs::Access::raising))]
+    #[tactic(auto, unfolding(xom_model::specs::Access::after_raise))]
     fn raise(&mut self, slot: u8, line: u32) -> Result<u64, Torn>
         requires some { 1 ≤ slot }
         requires known { slot ≤ 16 }
         requires line { line < line_limit }
         requires live { IsLive self.old.core slot }
         requires room { raise_room ≤ self.old.spare }
-        ensures core { self.new.core ≡ raising V.versions self.old.core slot line }
+        ensures core { self.new.core ≡ after_raise V.versions self.old.core slot line }
         ensures answer { result ≡ V.versions.answer_of_raise (store_of self.old.core slot) line self.old.core.ram }
         ensures room { self.old.spare ≤ self.new.spare + raise_room }
     {
@@ -28,14 +28,14 @@ impl<V: VersionStore> Core<V> {
 
     /// Seals a line of a live slot under a version, records the Seal, and writes the line to the frame
     /// of its page.
-    #[tactic(auto, unfolding(xom_model::specs::Access::sealing))]
+    #[tactic(auto, unfolding(xom_model::specs::Access::after_seal))]
     fn seal(&mut self, slot: u8, line: u32, version: u64, bytes: &[u8; 32])
         requires some { 1 ≤ slot }
         requires known { slot ≤ 16 }
         requires line { line < line_limit }
         requires live { IsLive self.old.core slot }
         requires room { 240 ≤ self.old.spare }
-        ensures core { self.new.core ≡ sealing V.versions self.old.core slot line bytes.now version }
+        ensures core { self.new.core ≡ after_seal V.versions self.old.core slot line bytes.now version }
         ensures room { self.old.spare ≤ self.new.spare + 240 }
     {
         let line_sealing = self.sealed(slot, line, version, bytes);
@@ -54,7 +54,7 @@ impl<V: VersionStore> Core<V> {
     /// Seals a line of a live slot under its next version and writes it to its page's frame. A rule
     /// that is answered is still to be obeyed: the caller stops the slot. Uses at most 5,000 bytes of
     /// spare.
-    #[tactic(auto, unfolding(xom_model::specs::Access::raising))]
+    #[tactic(auto, unfolding(xom_model::specs::Access::after_raise))]
     pub fn write_back(&mut self, slot: u8, line: u32, bytes: &[u8; 32]) -> Result<(), Rule>
         requires some { 1 ≤ slot }
         requires known { slot ≤ 16 }

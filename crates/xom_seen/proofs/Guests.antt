@@ -25,8 +25,8 @@ use Rattle.xom_model.specs.declared.outcome.Outcome.TheVariants as outcome
 use Rattle.xom_model.specs.declared.reach.Reach.{Reach}
 use Rattle.xom_model.specs.declared.reach.Reach.TheVariants as reach
 use Rattle.xom_model.specs.State.{CoreState, session_of}
-use Rattle.xom_model.specs.Access.{access, dropped}
-use Rattle.xom_model.specs.Guest.{address_in, after_step, code_reached, data_of, data_reached, finished, guest, mask_after, moved, ran, received_by, retired, retires, trapped, word_in, word_loaded, word_tried}
+use Rattle.xom_model.specs.Access.{access, without_guest}
+use Rattle.xom_model.specs.Guest.{address_in, after_effect, after_exit, after_retirement, after_step, after_trap, code_reached, data_of, data_reached, guest, mask_after, received_by, retirement, session_after_step, word_in, word_loaded, word_tried}
 use Rattle.xom_model.specs.Holds.{IsLive}
 use Rattle.xom_model.specs.Seen.{shown_cell, shown_slot}
 use Rattle.xom_seen.specs.Emission.{GiveAll, Signal, is_ready}
@@ -99,10 +99,10 @@ module _ (v : Versions) (raised : Raised) (law : RaisesInTheOpen v raised) (befo
 
   -- a trap: a cause that leaves the slot paused
   paused-is : (core : CoreState) (why : Cause) → IsLive core slot
-      → sight_of (trapped core slot why).0 ≡ with_slot (sight_of core) slot (record (slot_at (sight_of core) slot) { epoch = (slot_at (sight_of core) slot).epoch + 1; state = state.Paused })
+      → sight_of (after_trap core slot why).0 ≡ with_slot (sight_of core) slot (record (slot_at (sight_of core) slot) { epoch = (slot_at (sight_of core) slot).epoch + 1; state = state.Paused })
   unfolding sight_of
   paused-is core why live =
-      let new = (trapped core slot why).0 in
+      let new = (after_trap core slot why).0 in
       let sight : List SlotView → List (Option ℕ) → Sight = λ ss areas. record { cells = map shown_cell core.cells; slots = ss; pages = core.pages; areas = areas; ram = core.ram; installs = core.installs } in
       let slots = slice_set (map shown_slot core.sessions) slot (record (slot_at (sight_of core) slot) { epoch = (slot_at (sight_of core) slot).epoch + 1; state = state.Paused }) in
       ap (λ ss. sight ss (areas_of new)) (map-set shown_slot core.sessions slot (paused (session_of core slot))
@@ -111,7 +111,7 @@ module _ (v : Versions) (raised : Raised) (law : RaisesInTheOpen v raised) (befo
 
   closes_trapped : (core : CoreState) (why : Cause) → IsLive core slot
       → ((s : Sight) → left_seen s slot (outcome.Left why) ≡ with_slot s slot (record (slot_at s slot) { epoch = (slot_at s slot).epoch + 1; state = state.Paused }))
-      → Closes core (trapped core slot why).0 (Some why)
+      → Closes core (after_trap core slot why).0 (Some why)
   closes_trapped core why live is = record {
     added = entry.Trap (session_of core slot).install why ∷ [];
     entries = refl;
@@ -119,8 +119,8 @@ module _ (v : Versions) (raised : Raised) (law : RaisesInTheOpen v raised) (befo
     sight = paused-is core why live ∙ sym (is (sight_of core));
   }
 
-  closes_finished : (core : CoreState) → IsLive core slot → Closes core (finished core slot).0 (Some cause.Exit)
-  unfolding dropped
+  closes_finished : (core : CoreState) → IsLive core slot → Closes core (after_exit core slot).0 (Some cause.Exit)
+  unfolding without_guest
   closes_finished core live = record {
     added = [];
     entries = sym (append-nil core.entries);
@@ -137,16 +137,16 @@ module _ (v : Versions) (raised : Raised) (law : RaisesInTheOpen v raised) (befo
     closes_after core (ended.Call code) live = closes_trapped core (cause.Call code) live (λ s. refl)
     closes_after core ended.Exit live = closes_finished core live
     closes_after core ended.Goes live =
-        cond_both interrupt (trapped core slot cause.Interrupt) (core, None) (λ (r : CoreState × Option Cause). Closes core r.0 r.1)
+        cond_both interrupt (after_trap core slot cause.Interrupt) (core, None) (λ (r : CoreState × Option Cause). Closes core r.0 r.1)
         (λ _. closes_trapped core cause.Interrupt live (λ s. refl)) (λ _. closes_same core)
 
     -- it leaves the slot as ready as it was
     ready_after : (core : CoreState) (end : StepEnd) → slot < length core.sessions → is_ready (session_of (after_step core slot interrupt end).0 slot) ≡ is_ready (session_of core slot)
-    unfolding dropped
+    unfolding without_guest
     ready_after core (ended.Call code) within = ap is_ready (get_or-set_same core.sessions slot (paused (session_of core slot)) free within)
     ready_after core ended.Exit within = ap is_ready (get_or-set_same core.sessions slot (left (session_of core slot) state.Ended) free within)
     ready_after core ended.Goes within =
-        cond_both interrupt (trapped core slot cause.Interrupt) (core, None) (λ (r : CoreState × Option Cause). is_ready (session_of r.0 slot) ≡ is_ready (session_of core slot))
+        cond_both interrupt (after_trap core slot cause.Interrupt) (core, None) (λ (r : CoreState × Option Cause). is_ready (session_of r.0 slot) ≡ is_ready (session_of core slot))
         (λ _. ap is_ready (get_or-set_same core.sessions slot (paused (session_of core slot)) free within)) (λ _. refl)
 
     -- the event that came out so leaves the slot so ready
@@ -162,15 +162,15 @@ module _ (v : Versions) (raised : Raised) (law : RaisesInTheOpen v raised) (befo
       made_step = step_made (session_of core slot).pc (session_of core slot).npc effect word (received_by core.cells core.ram effect.wish)
 
       abbrev new_session : Session
-      new_session = moved (session_of core slot) effect made_step
+      new_session = session_after_step (session_of core slot) effect made_step
 
       abbrev after : CoreState
-      after = retired core slot place effect made_step
+      after = after_retirement core slot place effect made_step
 
       here : session_of after slot ≡ new_session
       here = get_or-set_same core.sessions slot new_session free (live_within core slot live)
 
-      comes_retires : Comes core (retires core slot interrupt effect word place)
+      comes_retires : Comes core (retirement core slot interrupt effect word place)
       comes_retires is =
           let within : slot < length after.sessions = subst (λ n. slot < n) (sym (length-set core.sessions slot new_session)) (live_within core slot live) in
           let now : ready ≡ is_ready new_session = is ∙ ready_after after made_step.end within ∙ ap is_ready here in
@@ -189,7 +189,7 @@ module _ (v : Versions) (raised : Raised) (law : RaisesInTheOpen v raised) (befo
     comes_wish core effect None live = comes_retires core effect 0 0 live
     comes_wish core effect (Some address) live = comes_data core effect (access v core slot (address / 32)) (reaches_access v raised law before ready slot 0 core (address / 32) live)
 
-    comes_ran : (core : CoreState) (result : Result Effect OwnFault) → IsLive core slot → Comes core (ran v core slot interrupt result)
+    comes_ran : (core : CoreState) (result : Result Effect OwnFault) → IsLive core slot → Comes core (after_effect v core slot interrupt result)
     comes_ran core (Err why) live is = ends_only core _ _ (closes_trapped core (cause.Fault why) live (λ s. refl))
     comes_ran core (Ok effect) live is = comes_wish core effect (address_in effect.wish) live is
 
@@ -204,6 +204,6 @@ module _ (v : Versions) (raised : Raised) (law : RaisesInTheOpen v raised) (befo
     unfolding guest
     ends_guest core live =
         let pc = (session_of core slot).pc in
-        cond_both (is_code pc) (code_reached v slot interrupt (access v core slot (pc / 32))) (trapped core slot (cause.Fault own_fault.Address)) (λ (r : CoreState × Option Cause). Comes core r)
+        cond_both (is_code pc) (code_reached v slot interrupt (access v core slot (pc / 32))) (after_trap core slot (cause.Fault own_fault.Address)) (λ (r : CoreState × Option Cause). Comes core r)
         (λ _. comes_code core (access v core slot (pc / 32)) (reaches_access v raised law before ready slot 0 core (pc / 32) live))
         (λ _ is. ends_only core _ _ (closes_trapped core (cause.Fault own_fault.Address) live (λ s. refl)))

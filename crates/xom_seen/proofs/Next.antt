@@ -17,11 +17,11 @@ use Rattle.xom_model.specs.declared.outcome.Outcome.TheVariants as outcome
 use Rattle.xom_model.specs.State.{CoreState, Record, session_of}
 use Rattle.xom_model.specs.Guest.{guest}
 use Rattle.xom_model.specs.Operation.{operation}
-use Rattle.xom_model.specs.Null.{Answer, null_step, poked}
-use Rattle.xom_model.specs.Event.{guest_turn, null_turn, on, open_in, operated, ran_on, running, told_in, with_open, with_ram, wrote}
+use Rattle.xom_model.specs.Null.{Answer, null_step, ram_after_write}
+use Rattle.xom_model.specs.Event.{after_kernel_write, after_operation, guest_turn, null_turn, on, open_in, ran_on, running_slot, told_in, with_open, with_ram}
 use Rattle.xom_model.specs.Holds.{IsLive}
 use Rattle.xom_model.specs.Seen.{Seen, seen_of, shown_slot, view_of}
-use Rattle.xom_model.specs.Touched.{named as slot_named, named_in, slot_or_none}
+use Rattle.xom_model.specs.Touched.{named_in, slot_of_op as slot_named, slot_or_none}
 use Rattle.xom_model.proofs.Turns.{ran_on-core, running-runs}
 use Rattle.xom_seen.specs.Emission.{Emission, Emits, GiveAll, Signal, is_ready}
 use Rattle.xom_seen.specs.SeenNext.{Sight, address_of, after_signals, counted_seen, guest_seen, left_seen, null_seen, operated_seen, running_seen, seen_next, sight_in, with_sight}
@@ -67,7 +67,7 @@ position-map f test xs =
     ∙ ap (λ m. cond (nat_lt (prefix_len (λ x. not (test (f x))) xs) m) (Some (prefix_len (λ x. not (test (f x))) xs)) None) (length-map xs f)
 
 -- it is seen
-runs-seen : (r : Record) → running_seen (seen_of r) ≡ slot_or_none (running r)
+runs-seen : (r : Record) → running_seen (seen_of r) ≡ slot_or_none (running_slot r)
 unfolding seen_of view_of
 runs-seen r = ap slot_or_none (position-map shown_slot (λ (k : SlotView). is_running k.state) r.core.sessions)
 
@@ -98,11 +98,11 @@ emission_of after signals = record { status = after.0.status; outcome = after.1;
 
 module _ (v : Versions) (raised : Raised) (law : RaisesInTheOpen v raised) where
   do_next : (r : Record) (op : Op) → IsSettled r.core
-      → Looks r (slot_named op) (operated r op (operation v r.core op)).0 (operated r op (operation v r.core op)).1
+      → Looks r (slot_named op) (after_operation r op (operation v r.core op)).0 (after_operation r op (operation v r.core op)).1
       (λ m. counted_seen (with_sight (seen_of r) (operated_seen v raised (sight_in (seen_of r)) op m)) m.status)
   unfolding seen_of view_of sight_of
   do_next r op settled =
-      let after = operated r op (operation v r.core op) in
+      let after = after_operation r op (operation v r.core op) in
       let does = operated_looks v raised law r.core settled op in
       let knows = knows-settled v raised law r.core settled (is_ready (session_of after.0.core (slot_named op))) (slot_named op) (address_of op) in
       record {
@@ -118,7 +118,7 @@ module _ (v : Versions) (raised : Raised) (law : RaisesInTheOpen v raised) where
   ran_next r slot (new, None) signals is = ap (λ s. seen_from (ran_on r slot (new, None)).0 s) is
   ran_next r slot (new, Some why) signals is = ap (λ s. seen_from (ran_on r slot (new, Some why)).0 s) is
 
-  guest_next : (r : Record) (interrupt : Bool) (at : Option ℕ) → running r ≡ at → is_some at ≡ true → IsSettled r.core
+  guest_next : (r : Record) (interrupt : Bool) (at : Option ℕ) → running_slot r ≡ at → is_some at ≡ true → IsSettled r.core
       → Looks r (slot_or_none at) (guest_turn v r interrupt at).0 (guest_turn v r interrupt at).1
       (λ m. counted_seen (guest_seen v raised (seen_of r) (slot_or_none at) m) m.status)
   guest_next r interrupt None is some settled = absurd (cc)
@@ -177,7 +177,7 @@ no_way_out v raised law r (event.Do op) chunk comes settled =
     let looks = do_next v raised law r op settled in
     (looks.emission, record { emits = looks.emits; seen = looks.seen })
 no_way_out v raised law r (event.Guest interrupt) chunk comes settled =
-    let looks = guest_next v raised law r interrupt (running r) refl (guest_runs r.halted (is_some (running r)) comes) settled in (
+    let looks = guest_next v raised law r interrupt (running_slot r) refl (guest_runs r.halted (is_some (running_slot r)) comes) settled in (
       looks.emission,
       record {
         emits = looks.emits;
@@ -193,12 +193,12 @@ no_way_out v raised law r event.Null chunk comes settled =
       },
     )
 no_way_out v raised law r (event.Write address count) chunk comes settled =
-    let after = wrote r address (take count chunk) in (
+    let after = after_kernel_write r address (take count chunk) in (
       emission_of after [],
       record { emits = record { status = refl; outcome = refl; added = []; entries = sym (append-nil r.core.entries); signals = refl }; seen = refl },
     )
 no_way_out v raised law r (event.Poke address count) chunk comes settled =
-    let after : Record × Outcome = (with_ram r (poked r.core.ram address (take count chunk)), outcome.Went) in (
+    let after : Record × Outcome = (with_ram r (ram_after_write r.core.ram address (take count chunk)), outcome.Went) in (
       emission_of after [],
       record { emits = record { status = refl; outcome = refl; added = []; entries = sym (append-nil r.core.entries); signals = refl }; seen = refl },
     )

@@ -28,12 +28,12 @@ use Rattle.xom_versions.specs.Versions.{Raised, RaisesInTheOpen, Versions}
 use Rattle.xom_model.specs.State.{CoreState, no_store, session_of, store_of, with_cells, with_session}
 use Rattle.xom_model.specs.Lines.{who_of}
 use Rattle.xom_model.specs.Saves.{reg_accept_entry, reg_name, reg_seal_entry, saved_at, sealed_reg}
-use Rattle.xom_model.specs.Access.{dropped, flushed}
-use Rattle.xom_model.specs.Guest.{delivered, mask_after, signal_of as step_of_signal, signalled}
+use Rattle.xom_model.specs.Access.{after_flush, without_guest}
+use Rattle.xom_model.specs.Guest.{after_delivery, mask_after, session_after_signal, signal_of as step_of_signal}
 use Rattle.xom_model.specs.Holds.{IsLive}
-use Rattle.xom_model.specs.Operation.{done, enter, envelope_at, epoch_of, go_on, image_tests, install, install_tests, installed, is_cell, is_slot, kill, kill_tests, killed, map_page, map_tests, missing, operation, refused, reopen, reopened, restore_register, restore_tests, restored, resume, resume_paused, save_register, save_tests, saved, session_for, set_register, takes, tested, unmap_page, unmap_tests, unmapped, unwrap, with_signal}
+use Rattle.xom_model.specs.Operation.{after_install, after_kill, after_reopening, after_restore, after_save, after_unmap, enter, envelope_at, epoch_of, first_refusal_or, go_on, image_tests, install, install_tests, is_cell, is_slot, kill, kill_tests, map_page, map_tests, missing_cell, operation, refusal_of, reopening, restore_register, restore_tests, resume, resume_paused, save_register, save_tests, session_for, set_register, slot_takes_signal, success, unmap_page, unmap_tests, unwrap, with_signal}
 use Rattle.xom_model.specs.Seen.{shown_cell, shown_slot}
-use Rattle.xom_model.specs.Touched.{named as slot_named}
+use Rattle.xom_model.specs.Touched.{slot_of_op as slot_named}
 use Rattle.xom_model.proofs.WalkEvents.{good_slot, paused_live, slot_from}
 use Rattle.xom_seen.specs.Emission.{GiveAll, Made, RegisterSealed, Signal, is_ready, names_of}
 use Rattle.xom_seen.specs.SeenNext.{Sight, address_of, after_signal, after_signals, done_seen, installed_slot, slot_at, with_slot}
@@ -85,7 +85,7 @@ module _ (v : Versions) (raised : Raised) (law : RaisesInTheOpen v raised) (befo
     pub gives : Knew base → GiveAll before.sessions ready added signals
     pub sight : Knew base → sight_of after.0 ≡ (if after.1 == 0 then after_done (by_signals base signals) else by_signals base signals)
 
-  does_refused : (core : CoreState) (status : ℕ) → (status == 0) ≡ false → Does core (refused core status)
+  does_refused : (core : CoreState) (status : ℕ) → (status == 0) ≡ false → Does core (refusal_of core status)
   does_refused core status not_done = record { added = []; signals = []; entries = sym (append-nil core.entries); gives = λ _. refl; sight = λ _. rw not_done refl }
 
   -- the operation that came out so leaves its slot so ready
@@ -96,15 +96,15 @@ module _ (v : Versions) (raised : Raised) (law : RaisesInTheOpen v raised) (befo
   Comes core after = IsReady after → Does core after
 
   -- the first test that holds refuses; where none does, the deed is done
-  does_tested : (core : CoreState) (tests : List (Bool × ℕ)) (deed : CoreState × ℕ) → Refuse tests → (Passes tests → Comes core deed) → Comes core (tested core tests deed)
+  does_tested : (core : CoreState) (tests : List (Bool × ℕ)) (deed : CoreState × ℕ) → Refuse tests → (Passes tests → Comes core deed) → Comes core (first_refusal_or core tests deed)
   does_tested core [] deed refuse does = does tt
   does_tested core (test ∷ tests) deed refuse does =
-      cond_both test.0 (refused core test.1) (tested core tests deed) (λ after. Comes core after)
+      cond_both test.0 (refusal_of core test.1) (first_refusal_or core tests deed) (λ after. Comes core after)
       (λ _ _. does_refused core test.1 refuse.0)
       (λ not_this. does_tested core tests deed refuse.1 (λ passed. does (not_this, passed)))
 
   -- the operation was done, after a part that shows what it changed
-  does_then : (base mid new : CoreState) → Shown base mid → new.entries ≡ mid.entries → sight_of new ≡ after_done (sight_of mid) → Does base (done new)
+  does_then : (base mid new : CoreState) → Shown base mid → new.entries ≡ mid.entries → sight_of new ≡ after_done (sight_of mid) → Does base (success new)
   does_then base mid new shows same is = record {
     added = shows.tells.added;
     signals = shows.tells.signals;
@@ -119,7 +119,7 @@ module _ (v : Versions) (raised : Raised) (law : RaisesInTheOpen v raised) (befo
       record { added = shows.tells.added; signals = shows.tells.signals; entries = shows.tells.entries; gives = shows.tells.gives; sight = shows.tells.sight }
 
   -- with entries that show nothing
-  does_quiet : (base new : CoreState) (added : List Entry) → new.entries ≡ base.entries ++ added → GiveAll before.sessions ready added [] → sight_of new ≡ after_done (sight_of base) → Does base (done new)
+  does_quiet : (base new : CoreState) (added : List Entry) → new.entries ≡ base.entries ++ added → GiveAll before.sessions ready added [] → sight_of new ≡ after_done (sight_of base) → Does base (success new)
   does_quiet base new added entries quiet is = record { added = added; signals = []; entries = entries; gives = λ _. quiet; sight = λ _. is }
 
 -- another session in a slot, as live as the one before
@@ -137,7 +137,7 @@ module _ (v : Versions) (raised : Raised) (law : RaisesInTheOpen v raised) (befo
   abbrev Done : Op → CoreState × ℕ → Type 0
   Done op after = Comes v raised law before ready op core after
 
-  abbrev refuse : (op : Op) (status : ℕ) → (status == 0) ≡ false → Done op (refused core status)
+  abbrev refuse : (op : Op) (status : ℕ) → (status == 0) ≡ false → Done op (refusal_of core status)
   refuse op status not_done = λ _. does_refused v raised law before ready op core status not_done
 
   running-is : (slot : ℕ) (session : Session) → IsLive core slot → shown_slot session ≡ record (shown_slot (session_of core slot)) { state = state.Running } → is_live session.state ≡ true
@@ -179,7 +179,7 @@ module _ (v : Versions) (raised : Raised) (law : RaisesInTheOpen v raised) (befo
     step = step_of_signal (session_of now slot) signal
 
     abbrev new_session : Session
-    new_session = signalled (session_of now slot) signal
+    new_session = session_after_signal (session_of now slot) signal
 
     abbrev shown_step : Signal
     shown_step = Made (names_of step.writes) step.released step.end ready
@@ -191,7 +191,7 @@ module _ (v : Versions) (raised : Raised) (law : RaisesInTheOpen v raised) (befo
         (set-swap (map shown_slot core.sessions) slot (shown_slot free) (λ (s : SlotView). record s { mask = mask_after s.mask step; signal_ready = ready }) (λ (s : SlotView). record s { state = state.Running })
         (subst (λ n. slot < n) (sym (length-map core.sessions shown_slot)) (live_within core slot alive)) refl)
 
-    does_delivered : Done op (done (delivered now slot signal))
+    does_delivered : Done op (success (after_delivery now slot signal))
     does_delivered so = record {
       added = entry.Step (session_of now slot).install step ∷ [];
       signals = shown_step ∷ [];
@@ -206,9 +206,9 @@ module _ (v : Versions) (raised : Raised) (law : RaisesInTheOpen v raised) (befo
           ∙ swapped;
     }
 
-    does_signal : Done op (done (with_signal now slot signal))
+    does_signal : Done op (success (with_signal now slot signal))
     does_signal =
-        cond_both (signal == 0) now (delivered now slot signal) (λ new. Done op (done new))
+        cond_both (signal == 0) now (after_delivery now slot signal) (λ new. Done op (success new))
         (λ _ _. does_quiet v raised law before ready op core now [] (sym (append-nil core.entries)) refl now-is)
         (λ _. does_delivered)
 
@@ -218,9 +218,9 @@ module _ (v : Versions) (raised : Raised) (law : RaisesInTheOpen v raised) (befo
 
     does_paused : Done op (resume_paused core slot signal)
     does_paused =
-        cond_both (nat_le signal 63) (cond (takes (session_of core slot) signal) (go_on core slot signal (missing slot (session_of core slot).mask core.cells)) (refused core 2)) (refused core 7) (λ after. Done op after)
-        (λ _. cond_both (takes (session_of core slot) signal) (go_on core slot signal (missing slot (session_of core slot).mask core.cells)) (refused core 2) (λ after. Done op after)
-        (λ _. does_go_on (missing slot (session_of core slot).mask core.cells)) (λ _. refuse op 2 refl))
+        cond_both (nat_le signal 63) (cond (slot_takes_signal (session_of core slot) signal) (go_on core slot signal (missing_cell slot (session_of core slot).mask core.cells)) (refusal_of core 2)) (refusal_of core 7) (λ after. Done op after)
+        (λ _. cond_both (slot_takes_signal (session_of core slot) signal) (go_on core slot signal (missing_cell slot (session_of core slot).mask core.cells)) (refusal_of core 2) (λ after. Done op after)
+        (λ _. does_go_on (missing_cell slot (session_of core slot).mask core.cells)) (λ _. refuse op 2 refl))
         (λ _. refuse op 7 refl)
 
   does_resume : (slot signal : ℕ) → (slot == 0) ≡ false → (at : SlotState) → (session_of core slot).state ≡ at → Done (Resume slot signal) (resume core slot signal at)
@@ -244,8 +244,8 @@ module _ (v : Versions) (raised : Raised) (law : RaisesInTheOpen v raised) (befo
     abbrev shown_seal : Signal
     shown_seal = RegisterSealed slot reg sealed.ct sealed.tag
 
-    does_saved : Done (Save slot reg address) (done (saved core slot reg address))
-    unfolding saved register_tag sight_of
+    does_saved : Done (Save slot reg address) (success (after_save core slot reg address))
+    unfolding after_save register_tag sight_of
     does_saved _ = record {
       added = seal ∷ [];
       signals = shown_seal ∷ [];
@@ -265,11 +265,11 @@ module _ (v : Versions) (raised : Raised) (law : RaisesInTheOpen v raised) (befo
     }
 
   does_save : (slot reg address : ℕ) → Done (Save slot reg address) (save_register core slot reg address)
-  does_save slot reg address = does_tested v raised law before ready (Save slot reg address) core (save_tests core slot reg address) (done (saved core slot reg address)) (refl, (refl, (refl, (refl, (refl, tt)))))
+  does_save slot reg address = does_tested v raised law before ready (Save slot reg address) core (save_tests core slot reg address) (success (after_save core slot reg address)) (refl, (refl, (refl, (refl, (refl, tt)))))
       (λ (passed : Passes (save_tests core slot reg address)). does_saved slot reg address (paused_live (session_of core slot).state passed.1.0))
 
-  does_reopened : (slot reg address : ℕ) → (slot == 0) ≡ false → IsLive core slot → (value : Option ℕ) → Done (Restore slot reg address) (reopened core slot reg address value)
-  unfolding restored sight_of
+  does_reopened : (slot reg address : ℕ) → (slot == 0) ≡ false → IsLive core slot → (value : Option ℕ) → Done (Restore slot reg address) (after_reopening core slot reg address value)
+  unfolding after_restore sight_of
   does_reopened slot reg address some live None = λ _.
       does_stop v raised law before ready (Restore slot reg address) core _ (shows_stop v raised law before ready slot 0 core slot (rule.RegisterTag reg) (λ _. live))
   does_reopened slot reg address some live (Some value) = λ _.
@@ -279,7 +279,7 @@ module _ (v : Versions) (raised : Raised) (law : RaisesInTheOpen v raised) (befo
       (ap cells (map-set shown_cell core.cells reg _ ∙ ap (λ c. slice_set (map shown_cell core.cells) reg c) (shown_hidden slot value some)))
 
   does_restore : (slot reg address : ℕ) → Done (Restore slot reg address) (restore_register core slot reg address)
-  does_restore slot reg address = does_tested v raised law before ready (Restore slot reg address) core (restore_tests core slot reg address) (reopen core slot reg address) (refl, (refl, (refl, (refl, (refl, tt)))))
+  does_restore slot reg address = does_tested v raised law before ready (Restore slot reg address) core (restore_tests core slot reg address) (reopening core slot reg address) (refl, (refl, (refl, (refl, (refl, tt)))))
       (λ passed. does_reopened slot reg address (some_of slot (good_slot core slot passed.0).0.0) (paused_live (session_of core slot).state passed.1.0) _)
 
   -- ---- Install
@@ -297,13 +297,13 @@ module _ (v : Versions) (raised : Raised) (law : RaisesInTheOpen v raised) (befo
     plain = contents_of core.machine text
 
     abbrev new_core : CoreState
-    new_core = installed v core slot place area plain
+    new_core = after_install v core slot place area plain
 
     abbrev store : Store
     store = v.store_after_build area (lines_in text) core.ram
 
     installed-areas : areas_of new_core ≡ slice_set (areas_of core) slot store.area
-    unfolding installed contents_of
+    unfolding after_install contents_of
     installed-areas =
         let session = session_for core plain in
         areas-set core new_core slot store.area low
@@ -311,14 +311,14 @@ module _ (v : Versions) (raised : Raised) (law : RaisesInTheOpen v raised) (befo
         (λ other differs. ap (λ s. area_if s (store_of new_core other)) (get_or-set_other core.sessions slot other session free differs) ∙ ap (λ t. area_if (session_of core other) t) (get_or-set_other core.stores slot other store no_store differs))
 
     installed-is : sight_of new_core ≡ done_seen v raised (sight_of core) (Install slot place area)
-    unfolding installed contents_of sight_of
+    unfolding after_install contents_of sight_of
     installed-is =
         let sight : List SlotView → List (Option ℕ) → Sight = λ ss areas. record { cells = map shown_cell core.cells; slots = ss; pages = core.pages; areas = areas; ram = v.ram_after_build area (lines_in text) core.ram; installs = core.installs + 1 } in
         ap (λ ss. sight ss (areas_of new_core)) (map-set shown_slot core.sessions slot (session_for core plain))
         ∙ ap (λ areas. sight (slice_set (map shown_slot core.sessions) slot (installed_slot (core.installs + 1) text)) areas) installed-areas
 
-    does_installed : Done (Install slot place area) (done new_core)
-    unfolding installed
+    does_installed : Done (Install slot place area) (success new_core)
+    unfolding after_install
     does_installed _ =
         let texts = v.texts_of_build area plain.lines core.ram in
         does_quiet v raised law before ready (Install slot place area) core new_core (_ ∷ _ ∷ map hash_entry texts) (append_assoc core.entries (_ ∷ _ ∷ []) (map hash_entry texts))
@@ -327,8 +327,8 @@ module _ (v : Versions) (raised : Raised) (law : RaisesInTheOpen v raised) (befo
   does_unwrap : (slot place area : ℕ) → slot < 17 → (opens : Option Unwrapped) → unwrapped core.machine (envelope_at core place) ≡ opens → Done (Install slot place area) (unwrap v core slot place area opens)
   does_unwrap slot place area low None is = refuse (Install slot place area) 3 refl
   does_unwrap slot place area low (Some plain) is =
-      does_tested v raised law before ready (Install slot place area) core (image_tests core plain) (done (installed v core slot place area plain)) (refl, tt)
-      (λ _. subst (λ p. Done (Install slot place area) (done (installed v core slot place area p))) (contents-is (envelope_at core place) plain is) (does_installed slot place area low))
+      does_tested v raised law before ready (Install slot place area) core (image_tests core plain) (success (after_install v core slot place area plain)) (refl, tt)
+      (λ _. subst (λ p. Done (Install slot place area) (success (after_install v core slot place area p))) (contents-is (envelope_at core place) plain is) (does_installed slot place area low))
 
   does_install : (slot place area : ℕ) → Done (Install slot place area) (install v core slot place area)
   does_install slot place area = does_tested v raised law before ready (Install slot place area) core (install_tests core slot place area)
@@ -339,28 +339,28 @@ module _ (v : Versions) (raised : Raised) (law : RaisesInTheOpen v raised) (befo
 
   does_map : (slot page frame : ℕ) → Done (Map slot page frame) (map_page v core slot page frame)
   unfolding sight_of
-  does_map slot page frame = does_tested v raised law before ready (Map slot page frame) core (map_tests core slot page frame) (done (record core { pages = with_page core.pages slot page (Some frame) })) (refl, (refl, (refl, (refl, (refl, tt)))))
+  does_map slot page frame = does_tested v raised law before ready (Map slot page frame) core (map_tests core slot page frame) (success (record core { pages = with_page core.pages slot page (Some frame) })) (refl, (refl, (refl, (refl, (refl, tt)))))
       (λ _ _. does_quiet v raised law before ready (Map slot page frame) core _ [] (sym (append-nil core.entries)) refl refl)
 
-  does_unmapped : (slot page : ℕ) (result : CoreState × Option Rule) → Shows v raised law before ready slot 0 core result.0 → Done (Unmap slot page) (unmapped v slot page result)
+  does_unmapped : (slot page : ℕ) (result : CoreState × Option Rule) → Shows v raised law before ready slot 0 core result.0 → Done (Unmap slot page) (after_unmap v slot page result)
   unfolding sight_of
   does_unmapped slot page (mid, None) shows = λ _. does_then v raised law before ready (Unmap slot page) core mid _ shows refl refl
   does_unmapped slot page (mid, Some why) shows = λ _. does_stop v raised law before ready (Unmap slot page) core mid shows
 
   does_unmap : (slot page : ℕ) → Done (Unmap slot page) (unmap_page v core slot page)
-  does_unmap slot page = does_tested v raised law before ready (Unmap slot page) core (unmap_tests core slot page) (unmapped v slot page (flushed v slot 128 (128 * page) core)) (refl, (refl, (refl, (refl, tt))))
-      (λ _. does_unmapped slot page (flushed v slot 128 (128 * page) core) (shows_flushed v raised law before ready slot 0 128 (128 * page) core))
+  does_unmap slot page = does_tested v raised law before ready (Unmap slot page) core (unmap_tests core slot page) (after_unmap v slot page (after_flush v slot 128 (128 * page) core)) (refl, (refl, (refl, (refl, tt))))
+      (λ _. does_unmapped slot page (after_flush v slot 128 (128 * page) core) (shows_flushed v raised law before ready slot 0 128 (128 * page) core))
 
-  killed-is : (slot : ℕ) → slot < 17 → sight_of (killed v core slot) ≡ done_seen v raised (sight_of core) (Kill slot)
+  killed-is : (slot : ℕ) → slot < 17 → sight_of (after_kill v core slot) ≡ done_seen v raised (sight_of core) (Kill slot)
   unfolding sight_of
   killed-is slot low = removed-is v raised law before ready slot 0 core slot free (omega arith) low refl
 
   does_kill : (slot : ℕ) → Done (Kill slot) (kill v core slot)
-  unfolding dropped
-  does_kill slot = does_tested v raised law before ready (Kill slot) core (kill_tests core slot) (done (killed v core slot)) (refl, tt)
+  unfolding without_guest
+  does_kill slot = does_tested v raised law before ready (Kill slot) core (kill_tests core slot) (success (after_kill v core slot)) (refl, tt)
       (λ passed _.
       let most : slot ≤ 16 = (good_slot core slot passed.0).0.1 in
-      does_quiet v raised law before ready (Kill slot) core (killed v core slot) (entry.Kill (session_of core slot).install ∷ []) refl
+      does_quiet v raised law before ready (Kill slot) core (after_kill v core slot) (entry.Kill (session_of core slot).install ∷ []) refl
       (give-one before.sessions ready (entry.Kill (session_of core slot).install) [] refl) (killed-is slot (omega arith)))
 
   -- ---- The others
@@ -369,13 +369,13 @@ module _ (v : Versions) (raised : Raised) (law : RaisesInTheOpen v raised) (befo
   unfolding sight_of
   does_set reg value =
       let cells : List Cell → Sight = λ cs. record { cells = cs; slots = map shown_slot core.sessions; pages = core.pages; areas = areas_of core; ram = core.ram; installs = core.installs } in
-      cond_both (is_cell reg) (done (with_cells core (with_cell core.cells reg value 0))) (refused core 7) (λ after. Done (SetReg reg value) after)
+      cond_both (is_cell reg) (success (with_cells core (with_cell core.cells reg value 0))) (refusal_of core 7) (λ after. Done (SetReg reg value) after)
       (λ _ _. does_quiet v raised law before ready (SetReg reg value) core _ [] (sym (append-nil core.entries)) refl (ap cells (map-set shown_cell core.cells reg _)))
       (λ _. refuse (SetReg reg value) 7 refl)
 
-  by_slot : (op : Op) (slot : ℕ) (deed : CoreState × ℕ) → ((slot == 0) ≡ false → Done op deed) → Done op (if is_slot slot then deed else refused core 1)
+  by_slot : (op : Op) (slot : ℕ) (deed : CoreState × ℕ) → ((slot == 0) ≡ false → Done op deed) → Done op (if is_slot slot then deed else refusal_of core 1)
   by_slot op slot deed does =
-      cond_both (is_slot slot) deed (refused core 1) (λ after. Done op after) (λ is. does (some_of slot (slot_from slot (ap not is)).0)) (λ _. refuse op 1 refl)
+      cond_both (is_slot slot) deed (refusal_of core 1) (λ after. Done op after) (λ is. does (some_of slot (slot_from slot (ap not is)).0)) (λ _. refuse op 1 refl)
 
   pub does_operation : (op : Op) → Done op (operation v core op)
   unfolding operation sight_of

@@ -17,7 +17,7 @@ use Rattle.tag_regs.specs.declared.cell.Cell.{Cell}
 use Rattle.tag_regs.specs.TaggedCells.{cell_at, empty}
 use Rattle.xom_model.specs.declared.outcome.NullFault.TheVariants as null
 use Rattle.xom_model.specs.State.{holds}
-use Rattle.xom_model.specs.Null.{Told, Open, Answer, open_cell, seen_open, fetched_open, tried_open, opened, passed, stored_open, loaded_open, answer_of, went, stopped_by, granted, ran_open, null_step}
+use Rattle.xom_model.specs.Null.{Answer, Open, Told, answer_of, done_answer, fetched_open, loaded_open, null_step, open_after, open_cell, ran_open, seen_open, stopped_by, stored_open, tried_open, wish_answer, with_null_writes}
 use Rattle.xom_model.specs.Seen.{shown_cell}
 use Rattle.xom_seen.proofs.Sights.{at_map}
 
@@ -47,32 +47,32 @@ tried_same cells (Ok ins) pc npc =
     ∙ ap (λ c. effect_of ins Null (seen_open cells (sources_of ins).0) (seen_open cells (sources_of ins).1) c pc npc) (sees_same cells (sources_of ins).2)
 
 -- what it writes is open
-opened_same : (cells : List Cell) (written : Writes) → opened (map shown_cell cells) written ≡ map shown_cell (opened cells written)
+opened_same : (cells : List Cell) (written : Writes) → with_null_writes (map shown_cell cells) written ≡ map shown_cell (with_null_writes cells written)
 opened_same cells writes.Nothing = refl
 opened_same cells (writes.One reg value) = sym (map-set shown_cell cells reg _)
 opened_same cells (writes.Pair hi lo) =
     ap (λ (cs : List Cell). slice_set cs 33 (record { value = lo; tag = 0 })) (sym (map-set shown_cell cells 32 _))
     ∙ sym (map-set shown_cell (slice_set cells 32 (record { value = hi; tag = 0 })) 33 _)
 
-passed_same : (s : Open) (effect : Effect) (written : Writes) → passed (shown_open s) effect written ≡ shown_open (passed s effect written)
+passed_same : (s : Open) (effect : Effect) (written : Writes) → open_after (shown_open s) effect written ≡ shown_open (open_after s effect written)
 passed_same s effect written = ap (λ cs. let o : Open = record { cells = cs; ram = s.ram; pc = effect.pc; npc = effect.npc } in o) (opened_same s.cells written)
 
-granted_same : (told : Told) (s : Open) (effect : Effect) (wished : Wish) → granted told (shown_open s) effect wished ≡ shown_answer (granted told s effect wished)
-granted_same told s effect wish.Nothing = ap went (passed_same s effect effect.writes)
+granted_same : (told : Told) (s : Open) (effect : Effect) (wished : Wish) → wish_answer told (shown_open s) effect wished ≡ shown_answer (wish_answer told s effect wished)
+granted_same told s effect wish.Nothing = ap done_answer (passed_same s effect effect.writes)
 granted_same told s effect (wish.Load reg address how old) =
     let written = set reg (loaded_open s.ram how old address) in
-    cond_both (holds s.ram (address - address % 4) 4) (went (passed s effect written)) (stopped_by s null.Address)
-    (λ a. cond (holds s.ram (address - address % 4) 4) (went (passed (shown_open s) effect written)) (stopped_by (shown_open s) null.Address) ≡ shown_answer a)
-    (λ is. rw is (ap went (passed_same s effect written)))
+    cond_both (holds s.ram (address - address % 4) 4) (done_answer (open_after s effect written)) (stopped_by s null.Address)
+    (λ a. cond (holds s.ram (address - address % 4) 4) (done_answer (open_after (shown_open s) effect written)) (stopped_by (shown_open s) null.Address) ≡ shown_answer a)
+    (λ is. rw is (ap done_answer (passed_same s effect written)))
     (λ is. rw is refl)
 granted_same told s effect (wish.Store address count value) =
-    cond_both (holds s.ram address count) (went (stored_open (passed s effect effect.writes) address (low_bytes count value))) (stopped_by s null.Address)
-    (λ a. cond (holds s.ram address count) (went (stored_open (passed (shown_open s) effect effect.writes) address (low_bytes count value))) (stopped_by (shown_open s) null.Address) ≡ shown_answer a)
-    (λ is. rw is (ap (λ o. went (stored_open o address (low_bytes count value))) (passed_same s effect effect.writes)))
+    cond_both (holds s.ram address count) (done_answer (stored_open (open_after s effect effect.writes) address (low_bytes count value))) (stopped_by s null.Address)
+    (λ a. cond (holds s.ram address count) (done_answer (stored_open (open_after (shown_open s) effect effect.writes) address (low_bytes count value))) (stopped_by (shown_open s) null.Address) ≡ shown_answer a)
+    (λ is. rw is (ap (λ o. done_answer (stored_open o address (low_bytes count value))) (passed_same s effect effect.writes)))
     (λ is. rw is refl)
 granted_same told s effect (wish.Call code) = refl
 granted_same told s effect (wish.Do operation) = ap (λ o. let a : Answer = (o, Ok (Some operation)) in a) (passed_same s effect effect.writes)
-granted_same told s effect (wish.Ask reg what) = ap went (passed_same s effect (set reg (answer_of told what)))
+granted_same told s effect (wish.Ask reg what) = ap done_answer (passed_same s effect (set reg (answer_of told what)))
 granted_same told s effect (wish.Release reg value) = refl
 granted_same told s effect (wish.Receive reg from) = refl
 granted_same told s effect (wish.NullLoad reg address) = refl

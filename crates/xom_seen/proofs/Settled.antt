@@ -7,10 +7,10 @@ use Rattle.line_cache.specs.Ways.{way_at}
 use Rattle.xom_versions.specs.declared.store.Torn.{Torn}
 use Rattle.xom_versions.specs.Versions.{Versions}
 use Rattle.xom_model.specs.State.{CoreState}
-use Rattle.xom_model.specs.Access.{dropped, raising, sealing, stopped}
-use Rattle.xom_model.specs.Guest.{finished}
-use Rattle.xom_model.specs.Operation.{installed, killed}
-use Rattle.xom_model.specs.Touched.{touched}
+use Rattle.xom_model.specs.Access.{after_raise, after_seal, after_stop, without_guest}
+use Rattle.xom_model.specs.Guest.{after_exit}
+use Rattle.xom_model.specs.Operation.{after_install, after_kill}
+use Rattle.xom_model.specs.Touched.{slot_of_event}
 use Rattle.xom_model.proofs.Walk.{Ends, Parts, torn_off, written_back}
 use Rattle.xom_model.proofs.WalkEvents.{Deeds, walk_event}
 use Rattle.xom_seen.specs.NoWayOut.{StopsSettle, StoresStay}
@@ -29,27 +29,27 @@ abbrev SameStores : CoreState → CoreState → Type 0
 SameStores core new = length new.stores ≡ length core.stores
 
 written-stores : (v : Versions) (core : CoreState) (way : Way) (version : ℕ) → SameStores core (written_back v core way version)
-unfolding sealing raising
+unfolding after_seal after_raise
 written-stores v core way version = length-set core.stores way.slot _
 
 torn-stores : (v : Versions) (core : CoreState) (way : Way) (torn : Torn) → SameStores core (torn_off v core way torn)
-unfolding dropped raising
+unfolding without_guest after_raise
 torn-stores v core way torn = length-set core.stores way.slot _
 
-stopped-stores : (core : CoreState) (slot : ℕ) (why : Rule) → SameStores core (stopped core slot why)
-unfolding dropped
+stopped-stores : (core : CoreState) (slot : ℕ) (why : Rule) → SameStores core (after_stop core slot why)
+unfolding without_guest
 stopped-stores core slot why = refl
 
-finished-stores : (core : CoreState) (slot : ℕ) → SameStores core (finished core slot).0
-unfolding dropped
+finished-stores : (core : CoreState) (slot : ℕ) → SameStores core (after_exit core slot).0
+unfolding without_guest
 finished-stores core slot = refl
 
-killed-stores : (v : Versions) (core : CoreState) (slot : ℕ) → SameStores core (killed v core slot)
-unfolding dropped
+killed-stores : (v : Versions) (core : CoreState) (slot : ℕ) → SameStores core (after_kill v core slot)
+unfolding without_guest
 killed-stores v core slot = refl
 
-installed-stores : (v : Versions) (core : CoreState) (slot place area : ℕ) (plain : Unwrapped) → SameStores core (installed v core slot place area plain)
-unfolding installed
+installed-stores : (v : Versions) (core : CoreState) (slot place area : ℕ) (plain : Unwrapped) → SameStores core (after_install v core slot place area plain)
+unfolding after_install
 installed-stores v core slot place area plain = length-set core.stores slot _
 
 stores_parts : (v : Versions) (slot : ℕ) → Parts v slot SameStores
@@ -90,4 +90,4 @@ stores_deeds v slot = record {
 }
 
 pub stores_stay : StoresStay
-stores_stay v r e chunk = walk_event v SameStores SameStores r e chunk (stores_parts v (touched r e)) (stores_ends (touched r e)) (stores_deeds v (touched r e))
+stores_stay v r e chunk = walk_event v SameStores SameStores r e chunk (stores_parts v (slot_of_event r e)) (stores_ends (slot_of_event r e)) (stores_deeds v (slot_of_event r e))

@@ -15,7 +15,7 @@ use Rattle.session_table.specs.Sessions.{free, is_live}
 use Rattle.xom_versions.specs.Store.{Store}
 use Rattle.xom_versions.specs.Versions.{Raised, Versions}
 use Rattle.xom_model.specs.State.{CoreState, no_store, session_of, store_of}
-use Rattle.xom_model.specs.Guest.{mask_written, tagged, untagged}
+use Rattle.xom_model.specs.Guest.{mask_written, with_release, with_writes}
 use Rattle.xom_model.specs.Holds.{IsLive}
 use Rattle.xom_model.specs.Seen.{area_of, shown_cell, shown_slot}
 use Rattle.xom_model.proofs.Gone.{less}
@@ -82,7 +82,7 @@ shown_scrubbed slot (cell ∷ cells) =
     scrubbed_here slot cell = chosen slot cell (cell.tag == slot) ∙ ap (λ t. cond (t == slot) empty (shown_cell cell)) (sym (shown_tag cell))
 
 -- what a step wrote is hidden
-pub shown_tagged : (slot : ℕ) (cells : List Cell) (written : Writes) → (slot == 0) ≡ false → map shown_cell (tagged slot cells written) ≡ named slot (map shown_cell cells) (names_of written)
+pub shown_tagged : (slot : ℕ) (cells : List Cell) (written : Writes) → (slot == 0) ≡ false → map shown_cell (with_writes slot cells written) ≡ named slot (map shown_cell cells) (names_of written)
 shown_tagged slot cells writes.Nothing some = refl
 shown_tagged slot cells (writes.One reg value) some = map-set shown_cell cells reg _ ∙ ap (λ c. slice_set (map shown_cell cells) reg c) (shown_hidden slot value some)
 shown_tagged slot cells (writes.Pair hi lo) some =
@@ -91,7 +91,7 @@ shown_tagged slot cells (writes.Pair hi lo) some =
     ∙ ap (λ (cs : List Cell). slice_set cs 33 (hidden slot)) (map-set shown_cell cells 32 _ ∙ ap (λ c. slice_set (map shown_cell cells) 32 c) (shown_hidden slot hi some))
 
 -- what it released is open
-pub shown_untagged : (cells : List Cell) (given : Released) → map shown_cell (untagged cells given) ≡ untagged (map shown_cell cells) given
+pub shown_untagged : (cells : List Cell) (given : Released) → map shown_cell (with_release cells given) ≡ with_release (map shown_cell cells) given
 shown_untagged cells released.Nothing = refl
 shown_untagged cells (released.Cell reg value) = map-set shown_cell cells reg _
 shown_untagged cells (released.Null address value) = refl

@@ -10,13 +10,13 @@ use Rattle.xom_model.specs.Event.{fits, on}
 use Rattle.xom_model.specs.Holds.{IsLive}
 use Rattle.xom_model.specs.Seen.{seen_of}
 use Rattle.xom_model.specs.Stops.{StopsHold}
-use Rattle.xom_model.specs.Touched.{touched}
+use Rattle.xom_model.specs.Touched.{slot_of_event}
 use Rattle.xom_seen.specs.Emission.{Emission, Emits}
 use Rattle.xom_seen.specs.SeenNext.{seen_next}
 
 -- An event emits this, and gives no more away: what is seen afterwards is told by what was seen before, the event, its bytes and the emission.
 pub record GivesAway (v : Versions) (raised : Raised) (r : Record) (e : Event) (chunk : List ℕ) (new : Record) (what : Outcome) (m : Emission) : Type 0 where
-  pub emits : Emits r.core (touched r e) new what m
+  pub emits : Emits r.core (slot_of_event r e) new what m
   pub seen : seen_of new ≡ seen_next v raised (seen_of r) e chunk m
 
 -- an event gives away what it emits, and no more

@@ -21,10 +21,10 @@ use Rattle.xom_model.specs.declared.outcome.Outcome.TheVariants as outcome
 use Rattle.xom_model.specs.State.{page_of}
 use Rattle.xom_model.specs.Lines.{with_sealed}
 use Rattle.xom_model.specs.Saves.{with_saved}
-use Rattle.xom_model.specs.Guest.{given_out, mask_released, untagged}
-use Rattle.xom_model.specs.Null.{Answer, Open, Told, null_step, poked}
+use Rattle.xom_model.specs.Guest.{given_out, mask_released, with_release}
+use Rattle.xom_model.specs.Null.{Answer, Open, Told, null_step, ram_after_write}
 use Rattle.xom_model.specs.Operation.{envelope_size}
-use Rattle.xom_model.specs.Touched.{named as slot_named, slot_or_none}
+use Rattle.xom_model.specs.Touched.{slot_of_op as slot_named, slot_or_none}
 use Rattle.xom_model.specs.Seen.{Seen, shown_slot}
 use Rattle.xom_seen.specs.Emission.{Emission, Names, NoCell, OneCell, Halves, Signal, Made, LineSealed, RegisterSealed, Broke}
 
@@ -120,7 +120,7 @@ with_open_seen s new = record s { view = record s.view { cells = new.cells; ram 
 -- ---- Writes and counts
 
 abbrev pub poked_seen : Seen → ℕ → List ℕ → Seen
-poked_seen s address bytes = record s { view = record s.view { ram = poked s.view.ram address bytes } }
+poked_seen s address bytes = record s { view = record s.view { ram = ram_after_write s.view.ram address bytes } }
 
 abbrev pub counted_seen : Seen → ℕ → Seen
 counted_seen s status = record s { view = record s.view { status = status; events = s.view.events + 1 } }
@@ -139,7 +139,7 @@ module _ (v : Versions) (raised : Raised) where
   abbrev pub after_signal : ℕ → ℕ → Sight → Signal → Sight
   after_signal slot address s (Made names given end ready) =
       record s {
-        cells = untagged (named slot s.cells names) given;
+        cells = with_release (named slot s.cells names) given;
         slots = slice_set s.slots slot (record (slot_at s slot) { mask = mask_released (mask_named (slot_at s slot).mask names) given; signal_ready = ready });
         ram = given_out s.ram given;
       }
