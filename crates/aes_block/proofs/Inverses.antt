@@ -9,13 +9,15 @@ use Rattle.aes_block.specs.Field.{polynomial_product, remainder, times, inverse_
 use Rattle.aes_block.specs.Laws.{InversesAreAlone, InversesAreInverse}
 
 -- the products of the bytes from 1 on with their inverses are as many ones
-products : map (λ b. times b (inverse b)) (range_with_len 1 255) ≡ map (λ b. 1) (range_with_len 1 255)
+products : map (λ b. times b (inverse b)) (range_with_len 1 255) ≡ map (λ b. 1)
+    (range_with_len 1 255)
 unfolding polynomial_product remainder times inverse_below inverse
 products = refl
 
 pub inverses_are_inverse : InversesAreInverse
 inverses_are_inverse b positive byte =
-    sym (get_or-map-range_with_len (λ b. times b (inverse b)) 1 255 (b - 1) b 0 (omega arith) (omega arith))
+    sym (get_or-map-range_with_len (λ b. times b (inverse b)) 1 255 (b - 1) b 0 (omega arith)
+    (omega arith))
     ∙ ap (λ ones. get_or ones (b - 1) 0) products
     ∙ get_or-map-range_with_len (λ b. 1) 1 255 (b - 1) b 0 (omega arith) (omega arith)
 
@@ -42,7 +44,8 @@ alone_below (suc k) b i c none within one =
     ]
 
 -- no byte has a second one
-counts : map (λ b. others 256 b (inverse b)) (range_with_len 0 256) ≡ map (λ b. 0) (range_with_len 0 256)
+counts : map (λ b. others 256 b (inverse b)) (range_with_len 0 256) ≡ map (λ b. 0)
+    (range_with_len 0 256)
 unfolding polynomial_product remainder times inverse_below inverse others strays
 counts = refl
 

@@ -15,7 +15,9 @@ use Rattle.aes_block.proofs.Words.{bytes_of_sum, word_of_schedule}
 -- ---- Sums
 
 -- the first of five goes to the end
-last_to_end : (k v w x y : ℕ) → bit_xor (bit_xor (bit_xor (bit_xor k v) w) x) y ≡ bit_xor (bit_xor (bit_xor (bit_xor v w) x) y) k
+last_to_end : (k v w x y : ℕ)
+    → bit_xor (bit_xor (bit_xor (bit_xor k v) w) x) y ≡ bit_xor (bit_xor (bit_xor (bit_xor v w) x)
+    y) k
 last_to_end k v w x y =
     ap (λ n. bit_xor (bit_xor n x) y) (xor_assoc k v w)
     ∙ ap (λ n. bit_xor n y) (xor_assoc k (bit_xor v w) x)
@@ -33,7 +35,8 @@ turned v w x y =
 
 -- a word and the columns of four bytes
 summed : (key : List ℕ) (a b c d : ℕ)
-    → add_words (add_words (add_words (add_words key (column_from_row_0 a)) (column_from_row_1 b)) (column_from_row_2 c)) (column_from_row_3 d)
+    → add_words (add_words (add_words (add_words key (column_from_row_0 a)) (column_from_row_1 b))
+    (column_from_row_2 c)) (column_from_row_3 d)
     ≡ add_words (mixed a b c d ∷ mixed b c d a ∷ mixed c d a b ∷ mixed d a b c ∷ []) key
 unfolding add_words mixed column_from_row_0 column_from_row_1 column_from_row_2 column_from_row_3
 summed key a b c d =
@@ -54,18 +57,32 @@ pub column_made : (key t0 t1 t2 t3 a b c d : ℕ)
     → to_be_bytes w32 t1 ≡ column_from_row_1 (s_box (row 1 b))
     → to_be_bytes w32 t2 ≡ column_from_row_2 (s_box (row 2 c))
     → to_be_bytes w32 t3 ≡ column_from_row_3 (s_box (row 3 d))
-    → to_be_bytes w32 (bit_xor (bit_xor (bit_xor (bit_xor key t0) t1) t2) t3) ≡ add_words (mixed_column a b c d) (to_be_bytes w32 key)
-unfolding add_words mixed_column mixed column_from_row_0 column_from_row_1 column_from_row_2 column_from_row_3
+    → to_be_bytes w32 (bit_xor (bit_xor (bit_xor (bit_xor key t0) t1) t2) t3) ≡ add_words
+    (mixed_column a b c d) (to_be_bytes w32 key)
+unfolding add_words mixed_column mixed column_from_row_0 column_from_row_1 column_from_row_2
+    column_from_row_3
 column_made key t0 t1 t2 t3 a b c d e0 e1 e2 e3 =
     bytes_of_sum (bit_xor (bit_xor (bit_xor key t0) t1) t2) t3
-    ∙ ap (λ left. add_words left (to_be_bytes w32 t3)) (bytes_of_sum (bit_xor (bit_xor key t0) t1) t2)
-    ∙ ap (λ left. add_words (add_words left (to_be_bytes w32 t2)) (to_be_bytes w32 t3)) (bytes_of_sum (bit_xor key t0) t1)
-    ∙ ap (λ left. add_words (add_words (add_words left (to_be_bytes w32 t1)) (to_be_bytes w32 t2)) (to_be_bytes w32 t3)) (bytes_of_sum key t0)
-    ∙ ap (λ left. add_words (add_words (add_words (add_words (to_be_bytes w32 key) left) (to_be_bytes w32 t1)) (to_be_bytes w32 t2)) (to_be_bytes w32 t3)) e0
-    ∙ ap (λ left. add_words (add_words (add_words (add_words (to_be_bytes w32 key) (column_from_row_0 (s_box (row 0 a)))) left) (to_be_bytes w32 t2)) (to_be_bytes w32 t3)) e1
-    ∙ ap (λ left. add_words (add_words (add_words (add_words (to_be_bytes w32 key) (column_from_row_0 (s_box (row 0 a)))) (column_from_row_1 (s_box (row 1 b)))) left) (to_be_bytes w32 t3)) e2
-    ∙ ap (λ left. add_words (add_words (add_words (add_words (to_be_bytes w32 key) (column_from_row_0 (s_box (row 0 a)))) (column_from_row_1 (s_box (row 1 b)))) (column_from_row_2 (s_box (row 2 c)))) left) e3
-    ∙ summed (to_be_bytes w32 key) (s_box (row 0 a)) (s_box (row 1 b)) (s_box (row 2 c)) (s_box (row 3 d))
+    ∙ ap (λ left. add_words left (to_be_bytes w32 t3)) (bytes_of_sum (bit_xor (bit_xor key t0) t1)
+    t2)
+    ∙ ap (λ left. add_words (add_words left (to_be_bytes w32 t2)) (to_be_bytes w32 t3))
+    (bytes_of_sum (bit_xor key t0) t1)
+    ∙ ap (λ left. add_words (add_words (add_words left (to_be_bytes w32 t1)) (to_be_bytes w32 t2))
+    (to_be_bytes w32 t3)) (bytes_of_sum key t0)
+    ∙ ap (λ left. add_words
+    (add_words (add_words (add_words (to_be_bytes w32 key) left) (to_be_bytes w32 t1))
+    (to_be_bytes w32 t2)) (to_be_bytes w32 t3)) e0
+    ∙ ap (λ left. add_words
+    (add_words (add_words (add_words (to_be_bytes w32 key) (column_from_row_0 (s_box (row 0 a))))
+    left) (to_be_bytes w32 t2)) (to_be_bytes w32 t3)) e1
+    ∙ ap (λ left. add_words
+    (add_words (add_words (add_words (to_be_bytes w32 key) (column_from_row_0 (s_box (row 0 a))))
+    (column_from_row_1 (s_box (row 1 b)))) left) (to_be_bytes w32 t3)) e2
+    ∙ ap (λ left. add_words
+    (add_words (add_words (add_words (to_be_bytes w32 key) (column_from_row_0 (s_box (row 0 a))))
+    (column_from_row_1 (s_box (row 1 b)))) (column_from_row_2 (s_box (row 2 c)))) left) e3
+    ∙ summed (to_be_bytes w32 key) (s_box (row 0 a)) (s_box (row 1 b)) (s_box (row 2 c))
+    (s_box (row 3 d))
 
 -- the S-box's values and a round key, summed
 pub shifted_made : (key w a b c d k l m n : ℕ) → to_be_bytes w32 w ≡ k ∷ l ∷ m ∷ n ∷ []
@@ -97,31 +114,42 @@ in_four p q r s =
 abbrev joined : List ℕ → List ℕ → List ℕ → List ℕ → List ℕ
 joined p q r s = p ++ (q ++ (r ++ s))
 
-joined_same : (p q r s p' q' r' s' : List ℕ) → p ≡ p' → q ≡ q' → r ≡ r' → s ≡ s' → joined p q r s ≡ joined p' q' r' s'
+joined_same : (p q r s p' q' r' s' : List ℕ) → p ≡ p' → q ≡ q' → r ≡ r' → s ≡ s'
+    → joined p q r s ≡ joined p' q' r' s'
 joined_same p q r s p' q' r' s' e f g h =
-    ap (λ t. joined t q r s) e ∙ ap (λ t. joined p' t r s) f ∙ ap (λ t. joined p' q' t s) g ∙ ap (λ t. joined p' q' r' t) h
+    ap (λ t. joined t q r s) e ∙ ap (λ t. joined p' t r s) f ∙ ap (λ t. joined p' q' t s) g
+    ∙ ap (λ t. joined p' q' r' t) h
 
 -- the word that is added to a column
 abbrev key_word_in : List ℕ → ℕ → List ℕ
 key_word_in words i = get_or (words_in words) i []
 
 -- the sum of a column and its key word, in which the key word stands among those of the schedule
-keyed : (words column : List ℕ) (i w : ℕ) → i < length words → to_be_bytes w32 w ≡ add_words column (key_word_at words i) → to_be_bytes w32 w ≡ add_words column (key_word_in words i)
-keyed words column i w within made = made ∙ ap (add_words column) (sym (word_of_schedule words i within))
+keyed : (words column : List ℕ) (i w : ℕ) → i < length words
+    → to_be_bytes w32 w ≡ add_words column (key_word_at words i)
+    → to_be_bytes w32 w ≡ add_words column (key_word_in words i)
+keyed words column i w within made =
+    made ∙ ap (add_words column) (sym (word_of_schedule words i within))
 
 -- a round key added to all columns
 round_key_joined : (words : List ℕ) (round : ℕ) (p q r s : List ℕ)
-    → joined (add_words p (key_word_in words (4 * round))) (add_words q (key_word_in words (4 * round + 1)))
-    (add_words r (key_word_in words (4 * round + 2))) (add_words s (key_word_in words (4 * round + 3)))
+    → joined (add_words p (key_word_in words (4 * round)))
+    (add_words q (key_word_in words (4 * round + 1)))
+    (add_words r (key_word_in words (4 * round + 2)))
+    (add_words s (key_word_in words (4 * round + 3)))
     ≡ add_round_key (words_in words) round (in_four p q r s)
 unfolding add_words add_round_key
 round_key_joined words round p q r s =
     let first : 4 * round ≡ 4 * round + 0 = omega arith in
-    ap (λ i. joined (add_words p (key_word_in words i)) (add_words q (key_word_in words (4 * round + 1)))
-    (add_words r (key_word_in words (4 * round + 2))) (add_words s (key_word_in words (4 * round + 3)))) first
+    ap (λ i. joined (add_words p (key_word_in words i))
+    (add_words q (key_word_in words (4 * round + 1)))
+    (add_words r (key_word_in words (4 * round + 2)))
+    (add_words s (key_word_in words (4 * round + 3)))) first
 
--- so words that are sums of columns and of key words have the bytes of the state with the round key added
-pub keys_summed : (words : List ℕ) (round w x y z : ℕ) (p q r s : List ℕ) → 4 * round + 3 < length words
+-- so words that are sums of columns and of key words have the bytes of the state with the round key
+-- added
+pub keys_summed : (words : List ℕ) (round w x y z : ℕ) (p q r s : List ℕ)
+    → 4 * round + 3 < length words
     → to_be_bytes w32 w ≡ add_words p (key_word_at words (4 * round))
     → to_be_bytes w32 x ≡ add_words q (key_word_at words (4 * round + 1))
     → to_be_bytes w32 y ≡ add_words r (key_word_at words (4 * round + 2))
@@ -130,33 +158,49 @@ pub keys_summed : (words : List ℕ) (round w x y z : ℕ) (p q r s : List ℕ) 
 keys_summed words round w x y z p q r s within e f g h =
     joined_same _ _ _ _ _ _ _ _
     (keyed words p (4 * round) w (omega arith) e) (keyed words q (4 * round + 1) x (omega arith) f)
-    (keyed words r (4 * round + 2) y (omega arith) g) (keyed words s (4 * round + 3) z (omega arith) h)
+    (keyed words r (4 * round + 2) y (omega arith) g) (keyed words s (4 * round + 3) z (omega arith)
+    h)
     ∙ round_key_joined words round p q r s
 
 pub round_made : (words state : List ℕ) (round w x y z : ℕ) → 4 * round + 3 < length words
-    → to_be_bytes w32 w ≡ add_words (mixed_column (slice_index state 0) (slice_index state 1) (slice_index state 2) (slice_index state 3)) (key_word_at words (4 * round))
-    → to_be_bytes w32 x ≡ add_words (mixed_column (slice_index state 1) (slice_index state 2) (slice_index state 3) (slice_index state 0)) (key_word_at words (4 * round + 1))
-    → to_be_bytes w32 y ≡ add_words (mixed_column (slice_index state 2) (slice_index state 3) (slice_index state 0) (slice_index state 1)) (key_word_at words (4 * round + 2))
-    → to_be_bytes w32 z ≡ add_words (mixed_column (slice_index state 3) (slice_index state 0) (slice_index state 1) (slice_index state 2)) (key_word_at words (4 * round + 3))
+    → to_be_bytes w32 w ≡ add_words (mixed_column (slice_index state 0) (slice_index state 1)
+    (slice_index state 2) (slice_index state 3)) (key_word_at words (4 * round))
+    → to_be_bytes w32 x ≡ add_words (mixed_column (slice_index state 1) (slice_index state 2)
+    (slice_index state 3) (slice_index state 0)) (key_word_at words (4 * round + 1))
+    → to_be_bytes w32 y ≡ add_words (mixed_column (slice_index state 2) (slice_index state 3)
+    (slice_index state 0) (slice_index state 1)) (key_word_at words (4 * round + 2))
+    → to_be_bytes w32 z ≡ add_words (mixed_column (slice_index state 3) (slice_index state 0)
+    (slice_index state 1) (slice_index state 2)) (key_word_at words (4 * round + 3))
     → bytes_of (w ∷ x ∷ y ∷ z ∷ []) ≡ round_of (words_in words) round (bytes_of state)
 unfolding mixed_column round_of mix_columns shift_rows sub_bytes
-round_made words state round w x y z within e f g h = keys_summed words round w x y z _ _ _ _ within e f g h
+round_made words state round w x y z within e f g h =
+    keys_summed words round w x y z _ _ _ _ within e f g h
 
 pub last_round_made : (words state : List ℕ) (w x y z : ℕ) → 44 ≤ length words
-    → to_be_bytes w32 w ≡ add_words (shifted_column (slice_index state 0) (slice_index state 1) (slice_index state 2) (slice_index state 3)) (key_word_at words 40)
-    → to_be_bytes w32 x ≡ add_words (shifted_column (slice_index state 1) (slice_index state 2) (slice_index state 3) (slice_index state 0)) (key_word_at words 41)
-    → to_be_bytes w32 y ≡ add_words (shifted_column (slice_index state 2) (slice_index state 3) (slice_index state 0) (slice_index state 1)) (key_word_at words 42)
-    → to_be_bytes w32 z ≡ add_words (shifted_column (slice_index state 3) (slice_index state 0) (slice_index state 1) (slice_index state 2)) (key_word_at words 43)
-    → bytes_of (w ∷ x ∷ y ∷ z ∷ []) ≡ add_round_key (words_in words) 10 (shift_rows (sub_bytes (bytes_of state)))
+    → to_be_bytes w32 w ≡ add_words (shifted_column (slice_index state 0) (slice_index state 1)
+    (slice_index state 2) (slice_index state 3)) (key_word_at words 40)
+    → to_be_bytes w32 x ≡ add_words (shifted_column (slice_index state 1) (slice_index state 2)
+    (slice_index state 3) (slice_index state 0)) (key_word_at words 41)
+    → to_be_bytes w32 y ≡ add_words (shifted_column (slice_index state 2) (slice_index state 3)
+    (slice_index state 0) (slice_index state 1)) (key_word_at words 42)
+    → to_be_bytes w32 z ≡ add_words (shifted_column (slice_index state 3) (slice_index state 0)
+    (slice_index state 1) (slice_index state 2)) (key_word_at words 43)
+    → bytes_of (w ∷ x ∷ y ∷ z ∷ []) ≡ add_round_key (words_in words) 10
+    (shift_rows (sub_bytes (bytes_of state)))
 unfolding shifted_column shift_rows sub_bytes
-last_round_made words state w x y z within e f g h = keys_summed words 10 w x y z _ _ _ _ (omega arith) e f g h
+last_round_made words state w x y z within e f g h =
+    keys_summed words 10 w x y z _ _ _ _ (omega arith) e f g h
 
 -- the first key, whose columns are summed word by word
 pub first_made : (words state : List ℕ) → 4 ≤ length words
-    → bytes_of (bit_xor (slice_index state 0) (get_or words 0 0) ∷ bit_xor (slice_index state 1) (get_or words 1 0)
-    ∷ bit_xor (slice_index state 2) (get_or words 2 0) ∷ bit_xor (slice_index state 3) (get_or words 3 0) ∷ [])
+    → bytes_of (bit_xor (slice_index state 0) (get_or words 0 0) ∷ bit_xor (slice_index state 1)
+    (get_or words 1 0)
+    ∷ bit_xor (slice_index state 2) (get_or words 2 0) ∷ bit_xor (slice_index state 3)
+    (get_or words 3 0) ∷ [])
     ≡ add_round_key (words_in words) 0 (bytes_of state)
 first_made words state within =
     keys_summed words 0 _ _ _ _ _ _ _ _ (omega arith)
-    (bytes_of_sum (slice_index state 0) (get_or words 0 0)) (bytes_of_sum (slice_index state 1) (get_or words 1 0))
-    (bytes_of_sum (slice_index state 2) (get_or words 2 0)) (bytes_of_sum (slice_index state 3) (get_or words 3 0))
+    (bytes_of_sum (slice_index state 0) (get_or words 0 0)) (bytes_of_sum (slice_index state 1)
+    (get_or words 1 0))
+    (bytes_of_sum (slice_index state 2) (get_or words 2 0)) (bytes_of_sum (slice_index state 3)
+    (get_or words 3 0))

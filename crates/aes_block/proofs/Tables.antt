@@ -11,7 +11,8 @@ use Rattle.aes_block.specs.declared.table.TheConstants.{S_BOX}
 use Rattle.aes_block.proofs.Entries.{entry_of}
 
 -- a table whose words are columns of the S-box's values has at each byte the column of its value
-entry : (column : ℕ → List ℕ) (table : List ℕ) → length table ≡ 256 → map (to_be_bytes w32) table ≡ map column S_BOX
+entry : (column : ℕ → List ℕ) (table : List ℕ) → length table ≡ 256
+    → map (to_be_bytes w32) table ≡ map column S_BOX
     → (b : ℕ) → b < 256 → to_be_bytes w32 (get_or table b 0) ≡ column (s_box b)
 entry column table sized columns b byte =
     sym (get_or-map (to_be_bytes w32) table b 0 [] (subst (λ n. b < n) (sym sized) byte))
@@ -35,14 +36,18 @@ row_3 : map (to_be_bytes w32) FROM_ROW_3 ≡ map column_from_row_3 S_BOX
 unfolding polynomial_product remainder times column_from_row_3
 row_3 = refl
 
-pub row_0_entry : (b : ℕ) → b < 256 → to_be_bytes w32 (get_or FROM_ROW_0 b 0) ≡ column_from_row_0 (s_box b)
+pub row_0_entry : (b : ℕ) → b < 256
+    → to_be_bytes w32 (get_or FROM_ROW_0 b 0) ≡ column_from_row_0 (s_box b)
 row_0_entry b byte = entry column_from_row_0 FROM_ROW_0 refl row_0 b byte
 
-pub row_1_entry : (b : ℕ) → b < 256 → to_be_bytes w32 (get_or FROM_ROW_1 b 0) ≡ column_from_row_1 (s_box b)
+pub row_1_entry : (b : ℕ) → b < 256
+    → to_be_bytes w32 (get_or FROM_ROW_1 b 0) ≡ column_from_row_1 (s_box b)
 row_1_entry b byte = entry column_from_row_1 FROM_ROW_1 refl row_1 b byte
 
-pub row_2_entry : (b : ℕ) → b < 256 → to_be_bytes w32 (get_or FROM_ROW_2 b 0) ≡ column_from_row_2 (s_box b)
+pub row_2_entry : (b : ℕ) → b < 256
+    → to_be_bytes w32 (get_or FROM_ROW_2 b 0) ≡ column_from_row_2 (s_box b)
 row_2_entry b byte = entry column_from_row_2 FROM_ROW_2 refl row_2 b byte
 
-pub row_3_entry : (b : ℕ) → b < 256 → to_be_bytes w32 (get_or FROM_ROW_3 b 0) ≡ column_from_row_3 (s_box b)
+pub row_3_entry : (b : ℕ) → b < 256
+    → to_be_bytes w32 (get_or FROM_ROW_3 b 0) ≡ column_from_row_3 (s_box b)
 row_3_entry b byte = entry column_from_row_3 FROM_ROW_3 refl row_3 b byte

@@ -1,4 +1,5 @@
--- A state, or a key schedule, as words of 32 bits: a column is one word, its first byte the highest.
+-- A state, or a key schedule, as words of 32 bits: a column is one word, its first byte the
+-- highest.
 use Rattle.std.specs.Prelude.{ℕ, List, [], ◌∷◌, ◌++◌, map, slice_index}
 use Rattle.std.specs.Int.{w32, to_be_bytes}
 use Rattle.aes_block.specs.Field.{times}
@@ -21,7 +22,8 @@ row r column = slice_index (to_be_bytes w32 column) r
 
 -- ---- Rounds, a column at a time
 
--- the bytes that SUBBYTES and SHIFTROWS put into one column: that of row r comes from the r-th of the four
+-- the bytes that SUBBYTES and SHIFTROWS put into one column: that of row r comes from the r-th of
+-- the four
 unfoldable pub shifted_column : ℕ → ℕ → ℕ → ℕ → List ℕ
 shifted_column a b c d = s_box (row 0 a) ∷ s_box (row 1 b) ∷ s_box (row 2 c) ∷ s_box (row 3 d) ∷ []
 
@@ -33,7 +35,8 @@ mixed_column a b c d =
     ∷ mixed (s_box (row 2 c)) (s_box (row 3 d)) (s_box (row 0 a)) (s_box (row 1 b))
     ∷ mixed (s_box (row 3 d)) (s_box (row 0 a)) (s_box (row 1 b)) (s_box (row 2 c)) ∷ []
 
--- ---- The four tables: what MIXCOLUMNS makes of a column that has this byte in one row and zeros in the others
+-- ---- The four tables: what MIXCOLUMNS makes of a column that has this byte in one row and zeros
+-- in the others
 
 unfoldable pub column_from_row_0 : ℕ → List ℕ
 column_from_row_0 byte = times 2 byte ∷ byte ∷ byte ∷ times 3 byte ∷ []

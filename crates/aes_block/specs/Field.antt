@@ -1,6 +1,8 @@
 -- The field of 256 elements of FIPS 197, section 4, in whose update 1 the sections have the numbers
--- given here. A polynomial whose coefficients are 0 and 1 is a number whose bits are the coefficients,
--- as the standard writes bytes (3.2): {63} is x ^ 6 + x ^ 5 + x + 1. A byte is a polynomial of a degree
+-- given here. A polynomial whose coefficients are 0 and 1 is a number whose bits are the
+-- coefficients,
+-- as the standard writes bytes (3.2): {63} is x ^ 6 + x ^ 5 + x + 1. A byte is a polynomial of a
+-- degree
 -- below 8. The sum of two polynomials is their exclusive or (4.1).
 use Rattle.std.specs.Prelude.{ℕ, zero, suc, ◌+◌, ◌*◌, ◌^◌, ◌==◌, bit_xor, if◌then◌else◌}
 use Rattle.std.specs.Int.{bit_at}

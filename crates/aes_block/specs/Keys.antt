@@ -31,7 +31,8 @@ round_constant j = power_of_x (j - 1) ∷ 0 ∷ 0 ∷ 0 ∷ []
 -- what is added to word i - 4 to make word i: the word before it, which at each multiple of 4 is
 -- rotated, substituted and has a round constant added
 unfoldable pub addend : ℕ → List ℕ → List ℕ
-addend i before = if i % 4 == 0 then add_words (sub_word (rot_word before)) (round_constant (i / 4)) else before
+addend i before =
+    if i % 4 == 0 then add_words (sub_word (rot_word before)) (round_constant (i / 4)) else before
 
 -- word i of the key itself, i from 0 to 3
 unfoldable pub key_word : List ℕ → ℕ → List ℕ
@@ -41,7 +42,8 @@ key_word key i =
 
 -- word i, i at least 4, from a list of all words before it
 unfoldable pub next_word : List (List ℕ) → ℕ → List ℕ
-next_word words i = add_words (slice_index_or words (i - 4) []) (addend i (slice_index_or words (i - 1) []))
+next_word words i =
+    add_words (slice_index_or words (i - 4) []) (addend i (slice_index_or words (i - 1) []))
 
 -- the first 4 + n words
 unfoldable pub words_of : List ℕ → ℕ → List (List ℕ)
@@ -55,4 +57,5 @@ key_expansion key = words_of key 40
 -- the key whose words begin a key schedule: what a `Schedule` is seen as
 abbrev pub key_of : List (List ℕ) → List ℕ
 key_of words =
-    slice_index_or words 0 [] ++ (slice_index_or words 1 [] ++ (slice_index_or words 2 [] ++ slice_index_or words 3 []))
+    slice_index_or words 0 []
+    ++ (slice_index_or words 1 [] ++ (slice_index_or words 2 [] ++ slice_index_or words 3 []))

@@ -24,7 +24,8 @@ sub_bytes s = state_of (λ r c. s_box (at s r c))
 unfoldable pub shift_rows : List ℕ → List ℕ
 shift_rows s = state_of (λ r c. at s r ((c + r) % 4))
 
--- a byte of a mixed column, from the bytes of the column before, from its own row on and around (5.1.3)
+-- a byte of a mixed column, from the bytes of the column before, from its own row on and around
+-- (5.1.3)
 unfoldable pub mixed : ℕ → ℕ → ℕ → ℕ → ℕ
 mixed a b d e = bit_xor (bit_xor (bit_xor (times 2 a) (times 3 b)) d) e
 

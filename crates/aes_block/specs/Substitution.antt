@@ -3,7 +3,8 @@ use Rattle.std.specs.Prelude.{ℕ, zero, suc, ◌+◌, ◌*◌, ◌^◌, ◌%◌
 use Rattle.std.specs.Int.{bit_at}
 use Rattle.aes_block.specs.Field.{inverse}
 
--- bit i of the affine map's value: the sum of the bits i, i + 4, i + 5, i + 6 and i + 7 of b, counted
+-- bit i of the affine map's value: the sum of the bits i, i + 4, i + 5, i + 6 and i + 7 of b,
+-- counted
 -- modulo 8, and of bit i of {63}
 abbrev pub affine_bit : ℕ → ℕ → ℕ
 affine_bit b i =

@@ -11,11 +11,14 @@ use Rattle.asm_laws.specs.Runs.{Cells, effect_on, state}
 use Rattle.asm_laws.specs.Guests.{GuestsDoSo}
 
 -- an instruction, or Reserved
-by_reading : (cells : Cells) (kept : Option (ℕ × ℕ)) (pc npc : ℕ) (found : Option Ins) → effect_at cells kept (instruction_or_fault found) pc npc ≡ with_kept_pair kept (effect_on Guest (state cells pc npc) found)
+by_reading : (cells : Cells) (kept : Option (ℕ × ℕ)) (pc npc : ℕ) (found : Option Ins)
+    → effect_at cells kept (instruction_or_fault found) pc npc ≡ with_kept_pair kept
+    (effect_on Guest (state cells pc npc) found)
 by_reading cells kept pc npc None = refl
 by_reading cells kept pc npc (Some i) = refl
 
 pub guests_do_so : GuestsDoSo
 unfolding instruction_in
 guests_do_so memory cells kept pc npc code =
-    ap (λ (found : Result Ins OwnFault). effect_at cells kept found pc npc) (cond-true (is_code pc) _ _ code) ∙ by_reading cells kept pc npc (read (word_at memory pc))
+    ap (λ (found : Result Ins OwnFault). effect_at cells kept found pc npc)
+    (cond-true (is_code pc) _ _ code) ∙ by_reading cells kept pc npc (read (word_at memory pc))

@@ -20,14 +20,17 @@ use Rattle.asm_laws.specs.ShortForms.{ImagesHaveTheirStatements}
 layout-sized : (place : ℕ) (parts : List Part) → All IsSized (layout place parts)
 unfolding layout
 layout-sized place [] = All-nil IsSized
-layout-sized place (part ∷ parts) = All-cons IsSized (placed_at place part) (layout (after place part.content) parts) refl (layout-sized (after place part.content) parts)
+layout-sized place (part ∷ parts) =
+    All-cons IsSized (placed_at place part) (layout (after place part.content) parts) refl
+    (layout-sized (after place part.content) parts)
 
 abbrev IsShort : Placed → Type 0
 IsShort p = is_too_long p ≡ false
 
 -- where no line is too long, no statement is
 first_short : (p : Placed) (placed : List Placed) → too_long_line (p ∷ placed) ≡ None → IsShort p
-first_short p placed none = false_from_ne_true (is_too_long p) (λ long. none-some (line_of p) (sym (rw long at none)))
+first_short p placed none =
+    false_from_ne_true (is_too_long p) (λ long. none-some (line_of p) (sym (rw long at none)))
 
 all_short : (placed : List Placed) → too_long_line placed ≡ None → All IsShort placed
 all_short [] none = All-nil IsShort
@@ -44,14 +47,17 @@ images_have_statements text parts image read is i d within name operands stateme
     let p : Placed = get_or placed i d in
     let stands = (bytes_of_statements text parts image read is).written i d within in
     let short : All IsShort placed =
-    all_short placed (subst (λ (ps : List Part). too_long_line (layout 0 ps) ≡ None) (same_Ok (source_of text) is.parts parts is.read read) is.not_too_long) in
-    let size : length stands.0 ≡ p.size = Gives-size _ p.place p.part.content stands.0 stands.1 ∙ sym (layout-sized 0 parts i d within) in (
+    all_short placed (subst (λ (ps : List Part). too_long_line (layout 0 ps) ≡ None)
+    (same_Ok (source_of text) is.parts parts is.read read) is.not_too_long) in
+    let size : length stands.0 ≡ p.size = Gives-size _ p.place p.part.content stands.0 stands.1
+    ∙ sym (layout-sized 0 parts i d within) in (
       stands.0,
       record {
         content = p.part.content;
         statement = statement;
         gives = stands.1;
         there = stands.2;
-        inside = subst (λ (n : ℕ). p.place + n ≤ limit) (sym size) (within_limit p (short i d within) some);
+        inside = subst (λ (n : ℕ). p.place + n ≤ limit) (sym size)
+            (within_limit p (short i d within) some);
       },
     )

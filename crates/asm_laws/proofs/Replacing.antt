@@ -24,7 +24,8 @@ module _ (labels others : Labels) (same : (name : List ℕ) → labels name ≡ 
   -- ---- values
 
   -- what a name stands for
-  named : (name : List ℕ) (place : Option ℕ) → labels name ≡ place → option_map unsigned_number (labels name) ≡ number_of others (place_or place name)
+  named : (name : List ℕ) (place : Option ℕ) → labels name ≡ place
+      → option_map unsigned_number (labels name) ≡ number_of others (place_or place name)
   named name None known = ap (option_map unsigned_number) (same name)
   named name (Some place) known = ap (option_map unsigned_number) known
 
@@ -32,74 +33,100 @@ module _ (labels others : Labels) (same : (name : List ℕ) → labels name ≡ 
   number-numbered (Number n) = refl
   number-numbered (Label name) = named name (labels name) refl
 
-  unknown_named : (name : List ℕ) (place : Option ℕ) → labels name ≡ place → value_unknown others (place_or place name) ≡ is_none (labels name)
+  unknown_named : (name : List ℕ) (place : Option ℕ) → labels name ≡ place
+      → value_unknown others (place_or place name) ≡ is_none (labels name)
   unknown_named name None known = ap is_none (sym (same name))
   unknown_named name (Some place) known = sym (ap is_none known)
 
-  unknown-numbered : (v : ValueType) → value_unknown others (numbered labels v) ≡ value_unknown labels v
+  unknown-numbered : (v : ValueType)
+      → value_unknown others (numbered labels v) ≡ value_unknown labels v
   unknown-numbered (Number n) = refl
   unknown-numbered (Label name) = unknown_named name (labels name) refl
 
   -- ---- .word
 
-  word_value-numbered : (v : ValueType) → word_value labels v ≡ word_value others (numbered labels v)
+  word_value-numbered : (v : ValueType)
+      → word_value labels v ≡ word_value others (numbered labels v)
   unfolding word_value
   word_value-numbered v = ap (λ (n : Option Integer). n >>= word_bytes) (number-numbered v)
 
-  words-numbered : (vs : List ValueType) → join_some (word_value labels) vs ≡ join_some (word_value others) (map (numbered labels) vs)
+  words-numbered : (vs : List ValueType)
+      → join_some (word_value labels) vs ≡ join_some (word_value others) (map (numbered labels) vs)
   words-numbered [] = refl
   words-numbered (v ∷ vs) = rw (word_value-numbered v, words-numbered vs) refl
 
-  words_unknown-numbered : (vs : List ValueType) → list_any (value_unknown others) (map (numbered labels) vs) ≡ list_any (value_unknown labels) vs
+  words_unknown-numbered : (vs : List ValueType)
+      → list_any (value_unknown others) (map (numbered labels) vs) ≡ list_any (value_unknown labels)
+      vs
   words_unknown-numbered [] = refl
   words_unknown-numbered (v ∷ vs) = rw (unknown-numbered v, words_unknown-numbered vs) refl
 
   -- ---- instructions
 
-  operand-numbered : (pc : ℕ) (kind : OperandKind) (a : Argument) → operand_of labels pc kind a ≡ operand_of others pc kind (numbered_operand labels a)
+  operand-numbered : (pc : ℕ) (kind : OperandKind) (a : Argument)
+      → operand_of labels pc kind a ≡ operand_of others pc kind (numbered_operand labels a)
   unfolding operand_of
   operand-numbered pc kind (Register r) = refl
-  operand-numbered pc kind (Value v) = ap (λ (n : Option Integer). n >>= field_of pc kind) (number-numbered v)
-  operand-numbered pc kind (Offset v r) = ap (λ (n : Option Integer). n >>= offset_field r) (number-numbered v)
+  operand-numbered pc kind (Value v) =
+      ap (λ (n : Option Integer). n >>= field_of pc kind) (number-numbered v)
+  operand-numbered pc kind (Offset v r) =
+      ap (λ (n : Option Integer). n >>= offset_field r) (number-numbered v)
   operand-numbered pc kind (Text bytes) = refl
 
-  operands-numbered : (pc : ℕ) (shape : List OperandKind) (list : List Argument) → operands_of labels pc shape list ≡ operands_of others pc shape (map (numbered_operand labels) list)
+  operands-numbered : (pc : ℕ) (shape : List OperandKind) (list : List Argument)
+      → operands_of labels pc shape list ≡ operands_of others pc shape
+      (map (numbered_operand labels) list)
   unfolding operands_of
   operands-numbered pc [] [] = refl
   operands-numbered pc [] (a ∷ list) = refl
   operands-numbered pc (kind ∷ shape) [] = refl
-  operands-numbered pc (kind ∷ shape) (a ∷ list) = rw (operand-numbered pc kind a, operands-numbered pc shape list) refl
+  operands-numbered pc (kind ∷ shape) (a ∷ list) =
+      rw (operand-numbered pc kind a, operands-numbered pc shape list) refl
 
-  instruction-numbered : (pc : ℕ) (name : List ℕ) (list : List Argument) → instruction_at labels pc name list ≡ instruction_at others pc name (map (numbered_operand labels) list)
+  instruction-numbered : (pc : ℕ) (name : List ℕ) (list : List Argument)
+      → instruction_at labels pc name list ≡ instruction_at others pc name
+      (map (numbered_operand labels) list)
   unfolding instruction_at
   instruction-numbered pc name list = by_shape (kinds_of name)
     where
-      by_shape : (shape : Option (List OperandKind)) → (shape >>= (λ s. operands_of labels pc s list >>= build_of name)) ≡ (shape >>= (λ s. operands_of others pc s (map (numbered_operand labels) list) >>= build_of name))
+      by_shape : (shape : Option (List OperandKind))
+          → (shape >>= (λ s. operands_of labels pc s list >>= build_of name)) ≡ (shape >>=
+          (λ s. operands_of others pc s (map (numbered_operand labels) list) >>= build_of name))
       by_shape None = refl
-      by_shape (Some s) = ap (λ (o : Option (List Operand)). o >>= build_of name) (operands-numbered pc s list)
+      by_shape (Some s) =
+          ap (λ (o : Option (List Operand)). o >>= build_of name) (operands-numbered pc s list)
 
-  operand_unknown-numbered : (a : Argument) → argument_unknown others (numbered_operand labels a) ≡ argument_unknown labels a
+  operand_unknown-numbered : (a : Argument)
+      → argument_unknown others (numbered_operand labels a) ≡ argument_unknown labels a
   operand_unknown-numbered (Register r) = refl
   operand_unknown-numbered (Value v) = unknown-numbered v
   operand_unknown-numbered (Offset v r) = unknown-numbered v
   operand_unknown-numbered (Text bytes) = refl
 
-  operands_unknown-numbered : (list : List Argument) → list_any (argument_unknown others) (map (numbered_operand labels) list) ≡ list_any (argument_unknown labels) list
+  operands_unknown-numbered : (list : List Argument)
+      → list_any (argument_unknown others) (map (numbered_operand labels) list) ≡ list_any
+      (argument_unknown labels) list
   operands_unknown-numbered [] = refl
-  operands_unknown-numbered (a ∷ list) = rw (operand_unknown-numbered a, operands_unknown-numbered list) refl
+  operands_unknown-numbered (a ∷ list) =
+      rw (operand_unknown-numbered a, operands_unknown-numbered list) refl
 
   -- ---- .entry and la
 
-  entry-numbered : (v : ValueType) → entry_in labels (content.Entry v) ≡ entry_in others (content.Entry (numbered labels v))
-  entry-numbered v = ap (λ (n : Option Integer). n >>= (λ m. unsigned_below 1048575 m >>= aligned_address)) (number-numbered v)
+  entry-numbered : (v : ValueType)
+      → entry_in labels (content.Entry v) ≡ entry_in others (content.Entry (numbered labels v))
+  entry-numbered v =
+      ap (λ (n : Option Integer). n >>= (λ m. unsigned_below 1048575 m >>= aligned_address))
+      (number-numbered v)
 
-  load_address-same : (r : ℕ) (name : List ℕ) → load_address labels r name ≡ load_address others r name
+  load_address-same : (r : ℕ) (name : List ℕ)
+      → load_address labels r name ≡ load_address others r name
   unfolding load_address
   load_address-same r name = rw (same name) refl
 
   -- ---- contents
 
-  pub Gives-numbered : (place : ℕ) (c : Content) (own : List ℕ) → Gives labels place c own → Gives others place (numbered_content labels c) own
+  pub Gives-numbered : (place : ℕ) (c : Content) (own : List ℕ) → Gives labels place c own
+      → Gives others place (numbered_content labels c) own
   Gives-numbered place (content.Label name) own gives = gives
   Gives-numbered place (content.Words vs) own gives = (gives.0, sym (words-numbered vs) ∙ gives.1)
   Gives-numbered place (content.Bytes ns) own gives = gives
@@ -109,10 +136,14 @@ module _ (labels others : Labels) (same : (name : List ℕ) → labels name ≡ 
   Gives-numbered place (content.Org n) own gives = gives
   Gives-numbered place (content.Entry v) own gives = gives
   Gives-numbered place (content.LoadNumber r n) own gives = gives
-  Gives-numbered place (content.LoadAddress r name) own gives = subst (λ (made : Option (List Ins)). IsCode place made own) (load_address-same r name) gives
-  Gives-numbered place (content.Instruction name list) own gives = subst (λ (made : Option Ins). IsCode place (option_map one_instruction made) own) (instruction-numbered place name list) gives
+  Gives-numbered place (content.LoadAddress r name) own gives =
+      subst (λ (made : Option (List Ins)). IsCode place made own) (load_address-same r name) gives
+  Gives-numbered place (content.Instruction name list) own gives =
+      subst (λ (made : Option Ins). IsCode place (option_map one_instruction made) own)
+      (instruction-numbered place name list) gives
 
-  pub content_unknown-numbered : (c : Content) → content_unknown others (numbered_content labels c) ≡ content_unknown labels c
+  pub content_unknown-numbered : (c : Content)
+      → content_unknown others (numbered_content labels c) ≡ content_unknown labels c
   content_unknown-numbered (content.Label name) = refl
   content_unknown-numbered (content.Words vs) = words_unknown-numbered vs
   content_unknown-numbered (content.Bytes ns) = refl
@@ -125,7 +156,8 @@ module _ (labels others : Labels) (same : (name : List ℕ) → labels name ≡ 
   content_unknown-numbered (content.LoadAddress r name) = ap is_none (sym (same name))
   content_unknown-numbered (content.Instruction name list) = operands_unknown-numbered list
 
-  pub entry_in-numbered : (c : Content) → entry_in others (numbered_content labels c) ≡ entry_in labels c
+  pub entry_in-numbered : (c : Content)
+      → entry_in others (numbered_content labels c) ≡ entry_in labels c
   entry_in-numbered (content.Label name) = refl
   entry_in-numbered (content.Words vs) = refl
   entry_in-numbered (content.Bytes ns) = refl
@@ -143,8 +175,10 @@ numbers_stand labels place name operands vs v own =
     let instructions = instruction-numbered labels labels (λ name. refl) place name operands in
     let words = words-numbered labels labels (λ name. refl) vs in (
       (
-        subst (λ (made : Option Ins). IsCode place (option_map one_instruction made) own) instructions,
-        subst (λ (made : Option Ins). IsCode place (option_map one_instruction made) own) (sym instructions),
+        subst (λ (made : Option Ins). IsCode place (option_map one_instruction made) own)
+            instructions,
+        subst (λ (made : Option Ins). IsCode place (option_map one_instruction made) own)
+            (sym instructions),
       ),
       (λ gives. (gives.0, sym words ∙ gives.1), λ gives. (gives.0, words ∙ gives.1)),
       entry-numbered labels labels (λ name. refl) v,

@@ -16,10 +16,12 @@ use Rattle.asm_laws.specs.ShortForms.{Sets}
 
 -- ---- The cells after a register was set
 
-pub set-register : (cells : Cells) (reg value : ℕ) → reg ≢ 0 → cells_after cells (set reg value) reg ≡ Value value
+pub set-register : (cells : Cells) (reg value : ℕ) → reg ≢ 0
+    → cells_after cells (set reg value) reg ≡ Value value
 set-register cells reg value named = rw (ne_eqb reg 0 named, eq-eqb reg reg refl) refl
 
-pub set-others : (cells : Cells) (reg value cell : ℕ) → cell ≢ reg → cells_after cells (set reg value) cell ≡ cells cell
+pub set-others : (cells : Cells) (reg value cell : ℕ) → cell ≢ reg
+    → cells_after cells (set reg value) cell ≡ cells cell
 set-others cells reg value cell other = elim (cases_eq reg 0) [
   | inl none ↦ rw (eq-eqb reg 0 none) refl
   | inr named ↦ rw (ne_eqb reg 0 named, ne_eqb cell reg other) refl
@@ -28,14 +30,16 @@ set-others cells reg value cell other = elim (cases_eq reg 0) [
 pub set-zero : (cells : Cells) (reg value : ℕ) → cells_after cells (set reg value) 0 ≡ cells 0
 set-zero cells reg value = elim (cases_eq reg 0) [
   | inl none ↦ rw (eq-eqb reg 0 none) refl
-  | inr named ↦ rw (ne_eqb reg 0 named) (ap (λ (b : Bool). cond b (Value value) (cells 0)) (ne_eqb 0 reg (λ same. named (sym same))))
+  | inr named ↦ rw (ne_eqb reg 0 named) (ap (λ (b : Bool). cond b (Value value) (cells 0))
+      (ne_eqb 0 reg (λ same. named (sym same))))
 ]
 
 -- what is seen of it then: $0 is zero
 abbrev pub kept_in : (reg value : ℕ) → ℕ
 kept_in reg value = cond (reg == 0) 0 value
 
-pub set-seen : (cells : Cells) (reg value : ℕ) → seen_at reg (cells_after cells (set reg value) reg) ≡ Value (kept_in reg value)
+pub set-seen : (cells : Cells) (reg value : ℕ)
+    → seen_at reg (cells_after cells (set reg value) reg) ≡ Value (kept_in reg value)
 set-seen cells reg value = elim (cases_eq reg 0) [
   | inl none ↦ rw (eq-eqb reg 0 none) refl
   | inr named ↦ rw (ne_eqb reg 0 named, eq-eqb reg reg refl) refl
@@ -47,19 +51,31 @@ kept_in-named reg value named = rw (ne_eqb reg 0 named) refl
 -- ---- One instruction
 
 -- the instruction at a place, by what it comes to
-pub after_one : (memory : List ℕ) (mode : Mode) (cells : Cells) (pc npc : ℕ) (i : Ins) (effect : Result Effect OwnFault) → read (word_at memory pc) ≡ Some i
-    → effect_on mode (state cells pc npc) (Some i) ≡ effect → state_after_one memory mode (state cells pc npc) ≡ state_of cells effect
+pub after_one : (memory : List ℕ) (mode : Mode) (cells : Cells) (pc npc : ℕ) (i : Ins)
+    (effect : Result Effect OwnFault)
+    → read (word_at memory pc) ≡ Some i
+    → effect_on mode (state cells pc npc) (Some i) ≡ effect
+    → state_after_one memory mode (state cells pc npc) ≡ state_of cells effect
 after_one memory mode cells pc npc i effect there comes =
-    ap (λ (o : Option Ins). state_of cells (effect_on mode (state cells pc npc) o)) there ∙ ap (state_of cells) comes
+    ap (λ (o : Option Ins). state_of cells (effect_on mode (state cells pc npc) o)) there
+    ∙ ap (state_of cells) comes
 
 -- the state after it
-pub runs_one : (memory : List ℕ) (mode : Mode) (cells : Cells) (pc npc : ℕ) (i : Ins) (effect : Result Effect OwnFault) → read (word_at memory pc) ≡ Some i
-    → effect_on mode (state cells pc npc) (Some i) ≡ effect → state_after 1 memory mode (state cells pc npc) ≡ (state_of cells effect >>= state_after 0 memory mode)
-runs_one memory mode cells pc npc i effect there comes = ap (λ (o : Option State). o >>= state_after 0 memory mode) (after_one memory mode cells pc npc i effect there comes)
+pub runs_one : (memory : List ℕ) (mode : Mode) (cells : Cells) (pc npc : ℕ) (i : Ins)
+    (effect : Result Effect OwnFault)
+    → read (word_at memory pc) ≡ Some i
+    → effect_on mode (state cells pc npc) (Some i) ≡ effect
+    → state_after 1 memory mode (state cells pc npc) ≡ (state_of cells effect >>= state_after 0
+    memory mode)
+runs_one memory mode cells pc npc i effect there comes =
+    ap (λ (o : Option State). o >>= state_after 0 memory mode)
+    (after_one memory mode cells pc npc i effect there comes)
 
 -- it sets a register
-pub sets_one : (memory : List ℕ) (mode : Mode) (cells : Cells) (pc npc reg value : ℕ) (i : Ins) → read (word_at memory pc) ≡ Some i
-    → effect_on mode (state cells pc npc) (Some i) ≡ sets reg value npc → Sets memory mode (state cells pc npc) 1 npc (after npc) reg value
+pub sets_one : (memory : List ℕ) (mode : Mode) (cells : Cells) (pc npc reg value : ℕ) (i : Ins)
+    → read (word_at memory pc) ≡ Some i
+    → effect_on mode (state cells pc npc) (Some i) ≡ sets reg value npc
+    → Sets memory mode (state cells pc npc) 1 npc (after npc) reg value
 sets_one memory mode cells pc npc reg value i there comes = record {
   cells = cells_after cells (set reg value);
   runs = runs_one memory mode cells pc npc i (sets reg value npc) there comes;
@@ -70,17 +86,25 @@ sets_one memory mode cells pc npc reg value i there comes = record {
 
 -- ---- Two instructions, of which the second sets the register again
 
-pub sets_two : (memory : List ℕ) (mode : Mode) (cells : Cells) (pc npc reg first second value : ℕ) (i j : Ins) → read (word_at memory pc) ≡ Some i → read (word_at memory npc) ≡ Some j
+pub sets_two : (memory : List ℕ) (mode : Mode) (cells : Cells) (pc npc reg first second value : ℕ)
+    (i j : Ins)
+    → read (word_at memory pc) ≡ Some i → read (word_at memory npc) ≡ Some j
     → effect_on mode (state cells pc npc) (Some i) ≡ sets reg first npc
-    → effect_on mode (state (cells_after cells (set reg first)) npc (after npc)) (Some j) ≡ sets reg second (after npc)
-    → (reg ≢ 0 → second ≡ value) → Sets memory mode (state cells pc npc) 2 (after npc) (after (after npc)) reg value
+    → effect_on mode (state (cells_after cells (set reg first)) npc (after npc)) (Some j) ≡ sets reg
+    second (after npc)
+    → (reg ≢ 0 → second ≡ value)
+    → Sets memory mode (state cells pc npc) 2 (after npc) (after (after npc)) reg value
 sets_two memory mode cells pc npc reg first second value i j i_there j_there i_comes j_comes same =
     let between : Cells = cells_after cells (set reg first) in record {
       cells = cells_after between (set reg second);
       runs =
-          ap (λ (o : Option State). o >>= state_after 1 memory mode) (after_one memory mode cells pc npc i (sets reg first npc) i_there i_comes)
-          ∙ runs_one memory mode between npc (after npc) j (sets reg second (after npc)) j_there j_comes;
-      register = λ named. set-register between reg second named ∙ ap (λ (n : ℕ). Value n) (same named);
-      others = λ cell other. set-others between reg second cell other ∙ set-others cells reg first cell other;
+          ap (λ (o : Option State). o >>= state_after 1 memory mode)
+          (after_one memory mode cells pc npc i (sets reg first npc) i_there i_comes)
+          ∙ runs_one memory mode between npc (after npc) j (sets reg second (after npc)) j_there
+          j_comes;
+      register = λ named. set-register between reg second named ∙ ap (λ (n : ℕ). Value n)
+          (same named);
+      others = λ cell other. set-others between reg second cell other ∙ set-others cells reg first
+          cell other;
       zero_register = set-zero between reg second ∙ set-zero cells reg first;
     }

@@ -1,4 +1,5 @@
--- A label may be replaced by the number of its place: in an operand, in a value of `.word` and in `.entry`. This project's own.
+-- A label may be replaced by the number of its place: in an operand, in a value of `.word` and in
+-- `.entry`. This project's own.
 use Rattle.std.specs.Prelude.{◌≡◌, ◌↔◌, ℕ, List, map, Option, Some, None, Ok}
 use Rattle.xom_base.specs.declared.image.PlainImage.{PlainImage}
 use Rattle.asm_source.specs.declared.argument.Argument.{Argument}
@@ -31,23 +32,32 @@ numbered_operand labels (Value v) = Value (numbered labels v)
 numbered_operand labels (Offset v r) = Offset (numbered labels v) r
 numbered_operand labels (Text bytes) = Text bytes
 
--- an instruction with numbers for its labels writes the same bytes, and so do the values of `.word`;
+-- an instruction with numbers for its labels writes the same bytes, and so do the values of
+-- `.word`;
 -- `.entry` says the same entry
 abbrev pub NumbersStandForLabels : Type 0
-NumbersStandForLabels = (labels : Labels) (place : ℕ) (name : List ℕ) (operands : List Argument) (vs : List ValueType) (v : ValueType) (own : List ℕ)
-    → (Gives labels place (Instruction name operands) own ↔ Gives labels place (Instruction name (map (numbered_operand labels) operands)) own)
-    × (Gives labels place (Words vs) own ↔ Gives labels place (Words (map (numbered labels) vs)) own)
+NumbersStandForLabels = (labels : Labels) (place : ℕ) (name : List ℕ) (operands : List Argument)
+    (vs : List ValueType) (v : ValueType) (own : List ℕ)
+    → (Gives labels place (Instruction name operands) own ↔ Gives labels place
+    (Instruction name (map (numbered_operand labels) operands)) own)
+    × (Gives labels place (Words vs) own ↔ Gives labels place (Words (map (numbered labels) vs))
+    own)
     × (entry_in labels (Entry v) ≡ entry_in labels (Entry (numbered labels v)))
 
 -- a label or a statement, with numbers for the labels that its operands name
 abbrev pub numbered_content : Labels → Content → Content
 numbered_content labels (Words vs) = Words (map (numbered labels) vs)
 numbered_content labels (Entry v) = Entry (numbered labels v)
-numbered_content labels (Instruction name operands) = Instruction name (map (numbered_operand labels) operands)
+numbered_content labels (Instruction name operands) =
+    Instruction name (map (numbered_operand labels) operands)
 numbered_content labels content = content
 
 abbrev pub numbered_part : Labels → Part → Part
-numbered_part labels part = record { line = part.line; content = numbered_content labels part.content }
+numbered_part labels part = record {
+  line = part.line;
+  content = numbered_content labels
+      part.content;
+}
 
 -- what the labels of a source stand for
 abbrev pub labels_in : List Part → Labels
@@ -55,5 +65,6 @@ labels_in parts = labels_of (layout 0 parts)
 
 -- a source with numbers for the labels that its operands name has the same image
 abbrev pub ImagesByNumbers : Type 0
-ImagesByNumbers = (text other : List ℕ) (parts : List Part) (image : PlainImage) → source_of text ≡ Ok parts → source_of other ≡ Ok (map (numbered_part (labels_in parts)) parts)
+ImagesByNumbers = (text other : List ℕ) (parts : List Part) (image : PlainImage)
+    → source_of text ≡ Ok parts → source_of other ≡ Ok (map (numbered_part (labels_in parts)) parts)
     → IsImageOf text image → IsImageOf other image

@@ -1,5 +1,7 @@
--- Instructions that only compute, done one after another: what they make of the cells and of the pair.
--- Source: Kane and Heinrich, MIPS RISC Architecture, appendix A (MIPS I); a write makes a cell the writer's own, which is this project's own.
+-- Instructions that only compute, done one after another: what they make of the cells and of the
+-- pair.
+-- Source: Kane and Heinrich, MIPS RISC Architecture, appendix A (MIPS I); a write makes a cell the
+-- writer's own, which is this project's own.
 use Rattle.std.specs.Prelude.{ℕ, zero, suc, ◌==◌, List, Option, Some, None, Result, Ok, Err, if◌then◌else◌}
 use Rattle.mips_instruction.specs.declared.instruction.Ins.{Ins}
 use Rattle.mips_instruction.specs.Words.{read}
@@ -27,7 +29,8 @@ Cells = ℕ → Seen
 abbrev pub cells_after : Cells → Writes → Cells
 cells_after cells writes.Nothing = cells
 cells_after cells (writes.One reg value) = λ cell. if cell == reg then Value value else cells cell
-cells_after cells (writes.Pair hi lo) = λ cell. if cell == 32 then Value hi else (if cell == 33 then Value lo else cells cell)
+cells_after cells (writes.Pair hi lo) =
+    λ cell. if cell == 32 then Value hi else (if cell == 33 then Value lo else cells cell)
 
 -- the cells, and the addresses of the next instruction and of the one after it
 pub record State : Type 0 where
@@ -43,7 +46,9 @@ state cells pc npc = record { cells = cells; pc = pc; npc = npc }
 -- what an instruction comes to; what is none is Reserved
 abbrev pub effect_on : Mode → State → Option Ins → Result Effect OwnFault
 effect_on mode before None = Err fault.Reserved
-effect_on mode before (Some i) = effect_of i mode (before.cells (sources_of i).0) (before.cells (sources_of i).1) (before.cells (sources_of i).2) before.pc before.npc
+effect_on mode before (Some i) =
+    effect_of i mode (before.cells (sources_of i).0) (before.cells (sources_of i).1)
+    (before.cells (sources_of i).2) before.pc before.npc
 
 -- the state, where nothing is wished: no load, no store, no call and no operation
 abbrev pub without_wish : Wish → State → Option State
@@ -53,13 +58,16 @@ without_wish other next = None
 -- the state after an effect that only computes; none where it is a fault or wishes anything
 abbrev pub state_of : Cells → Result Effect OwnFault → Option State
 state_of cells (Err fault) = None
-state_of cells (Ok effect) = without_wish effect.wish (state (cells_after cells effect.writes) effect.pc effect.npc)
+state_of cells (Ok effect) =
+    without_wish effect.wish (state (cells_after cells effect.writes) effect.pc effect.npc)
 
 -- the state after the instruction whose word stands in memory at pc
 abbrev pub state_after_one : List ℕ → Mode → State → Option State
-state_after_one memory mode before = state_of before.cells (effect_on mode before (read (word_at memory before.pc)))
+state_after_one memory mode before =
+    state_of before.cells (effect_on mode before (read (word_at memory before.pc)))
 
 -- the state after so many instructions, each fetched from memory, where all of them only compute
 abbrev pub state_after : ℕ → List ℕ → Mode → State → Option State
 state_after zero memory mode before = Some before
-state_after (suc n) memory mode before = state_after_one memory mode before >>= state_after n memory mode
+state_after (suc n) memory mode before =
+    state_after_one memory mode before >>= state_after n memory mode

@@ -1,5 +1,7 @@
--- What the short forms of the assembler mean: what their words do, where memory has them at their place.
--- Source: the short forms are this project's own; what words do is that of Kane and Heinrich, MIPS RISC Architecture, appendix A (MIPS I).
+-- What the short forms of the assembler mean: what their words do, where memory has them at their
+-- place.
+-- Source: the short forms are this project's own; what words do is that of Kane and Heinrich, MIPS
+-- RISC Architecture, appendix A (MIPS I).
 use Rattle.std.specs.Prelude.{◌≡◌, ◌≢◌, ℕ, ◌+◌, ◌*◌, ◌^◌, ◌<◌, ◌≤◌, All, List, [], ◌∷◌, length, codes, slice_index, Some, Ok}
 use Rattle.xom_base.specs.declared.image.PlainImage.{PlainImage}
 use Rattle.mips_instruction.specs.Numbers.{reduced, after}
@@ -24,9 +26,11 @@ use Rattle.asm_laws.specs.Runs.{Cells, State, state, state_after}
 
 -- ---- Statements in memory
 
--- A statement of this name with these operands writes these bytes at this place, and memory has them
+-- A statement of this name with these operands writes these bytes at this place, and memory has
+-- them
 -- there, within the bytes that an image may have.
-pub record StandsIn (memory : List ℕ) (labels : Labels) (place : ℕ) (name : List ℕ) (operands : List Argument) (own : List ℕ) : Type 0 where
+pub record StandsIn (memory : List ℕ) (labels : Labels) (place : ℕ) (name : List ℕ)
+    (operands : List Argument) (own : List ℕ) : Type 0 where
   pub content : Content
   pub statement : statement_of name operands ≡ Some content
   pub gives : Gives labels place content own
@@ -36,32 +40,39 @@ pub record StandsIn (memory : List ℕ) (labels : Labels) (place : ℕ) (name : 
 -- a statement that is this one by name and operands, and writes a byte, stands so in memory
 abbrev pub StandsWhereItIs : (memory : List ℕ) → Labels → Placed → Type 0
 StandsWhereItIs memory labels p =
-    (name : List ℕ) (operands : List Argument) → statement_of name operands ≡ Some p.part.content → 0 < p.size
+    (name : List ℕ) (operands : List Argument) → statement_of name operands ≡ Some p.part.content
+    → 0 < p.size
     → (own : List ℕ) × StandsIn memory labels p.place name operands own
 
 -- the image of a source has each of its statements so
 abbrev pub ImagesHaveTheirStatements : Type 0
 ImagesHaveTheirStatements =
-    (text : List ℕ) (parts : List Part) (image : PlainImage) → source_of text ≡ Ok parts → IsImageOf text image
+    (text : List ℕ) (parts : List Part) (image : PlainImage) → source_of text ≡ Ok parts
+    → IsImageOf text image
     → All (StandsWhereItIs image.bytes (labels_of (layout 0 parts))) (layout 0 parts)
 
 -- ---- What words do
 
--- So many instructions set the register to the value and come to this pair. They don't fault, and write
+-- So many instructions set the register to the value and come to this pair. They don't fault, and
+-- write
 -- no other cell; a write to $0 is dropped.
-pub record Sets (memory : List ℕ) (mode : Mode) (before : State) (count pc npc reg value : ℕ) : Type 0 where
+pub record Sets (memory : List ℕ) (mode : Mode) (before : State) (count pc npc reg value : ℕ) : Type
+    0 where
   pub cells : Cells
   pub runs : state_after count memory mode before ≡ Some (state cells pc npc)
   pub register : reg ≢ 0 → cells reg ≡ seen.Value value
   pub others : (cell : ℕ) → cell ≢ reg → cells cell ≡ before.cells cell
   pub zero_register : cells 0 ≡ before.cells 0
 
--- The code from this place on, of so many bytes, does so with all its words, from the first to the last,
+-- The code from this place on, of so many bytes, does so with all its words, from the first to the
+-- last,
 -- whatever the cells hold, in a guest and in null code. The instruction behind it is then next.
 pub record Loads (memory : List ℕ) (place size reg value : ℕ) : Type 0 where
   pub count : ℕ
   pub all_words : size ≡ 4 * count
-  pub sets : (mode : Mode) (cells : Cells) → Sets memory mode (state cells place (place + 4)) count (place + size) (place + size + 4) reg value
+  pub sets : (mode : Mode) (cells : Cells)
+      → Sets memory mode (state cells place (place + 4)) count (place + size) (place + size + 4) reg
+      value
 
 -- ---- The short forms
 
@@ -75,11 +86,13 @@ LiLoadsTheNumber =
 -- `la r, label`: the register is the label's place
 abbrev pub LaLoadsThePlace : Type 0
 LaLoadsThePlace =
-    (memory own : List ℕ) (labels : Labels) (place reg : ℕ) (name : List ℕ) (address : ℕ) → labels name ≡ Some address
+    (memory own : List ℕ) (labels : Labels) (place reg : ℕ) (name : List ℕ) (address : ℕ)
+    → labels name ≡ Some address
     → StandsIn memory labels place (codes "la") (Register reg ∷ Value (Label name) ∷ []) own
     → Loads memory place (length own) reg address
 
--- `move a, b`: a is what b is, for every value of 32 bits that b may have, with no fault. The pair goes
+-- `move a, b`: a is what b is, for every value of 32 bits that b may have, with no fault. The pair
+-- goes
 -- on, wherever it goes: a `move` may stand behind a branch.
 abbrev pub MoveCopies : Type 0
 MoveCopies =
@@ -95,10 +108,13 @@ NopGoesOn =
     → StandsIn memory labels place (codes "nop") [] own
     → state_after 1 memory mode (state cells place npc) ≡ Some (state cells npc (after npc))
 
--- `b target`: whatever the cells hold, the instruction behind it is next, and then the target: a number, or
+-- `b target`: whatever the cells hold, the instruction behind it is next, and then the target: a
+-- number, or
 -- the place of a label
 abbrev pub BGoesToItsTarget : Type 0
 BGoesToItsTarget =
-    (memory own : List ℕ) (labels : Labels) (place : ℕ) (target : ValueType) (n : Integer) (mode : Mode) (cells : Cells) → number_of labels target ≡ Some n
+    (memory own : List ℕ) (labels : Labels) (place : ℕ) (target : ValueType) (n : Integer)
+    (mode : Mode) (cells : Cells) → number_of labels target ≡ Some n
     → StandsIn memory labels place (codes "b") (Value target ∷ []) own
-    → state_after 1 memory mode (state cells place (place + 4)) ≡ Some (state cells (place + 4) n.magnitude)
+    → state_after 1 memory mode (state cells place (place + 4)) ≡ Some (state cells (place + 4)
+    n.magnitude)

@@ -1,4 +1,5 @@
--- What in a source says nothing: blanks and comments, and a line end behind the last line. This project's own.
+-- What in a source says nothing: blanks and comments, and a line end behind the last line. This
+-- project's own.
 use Rattle.std.specs.Prelude.{◌≡◌, ℕ, List, [], ◌∷◌, ◌++◌, map, slice_range}
 use Rattle.std.specs.List.{AllZip}
 use Rattle.xom_base.specs.Lines.{lines_of}
@@ -11,7 +12,8 @@ use Rattle.asm_syntax.specs.Lines.{source_of}
 abbrev pub said_by : (line : List ℕ) → Token → TokenKind × List ℕ
 said_by line token = (token.kind, slice_range line token.start token.end)
 
--- two lines have tokens of the same kinds and texts, in the same order; blanks and comments are all else that stands in a line
+-- two lines have tokens of the same kinds and texts, in the same order; blanks and comments are all
+-- else that stands in a line
 pub record HaveSameTokens (a b : List ℕ) : Type 0 where
   pub of_a : List Token
   pub of_b : List Token
@@ -19,13 +21,17 @@ pub record HaveSameTokens (a b : List ℕ) : Type 0 where
   pub b_has : AreTokens b of_b
   pub same : map (said_by a) of_a ≡ map (said_by b) of_b
 
--- two texts whose lines have the same tokens, line by line, have the same labels and statements, or the same first bad line
+-- two texts whose lines have the same tokens, line by line, have the same labels and statements, or
+-- the same first bad line
 abbrev pub TokensSayAll : Type 0
-TokensSayAll = (a b : List ℕ) → AllZip HaveSameTokens (lines_of a) (lines_of b) → source_of a ≡ source_of b
+TokensSayAll =
+    (a b : List ℕ) → AllZip HaveSameTokens (lines_of a) (lines_of b) → source_of a ≡ source_of b
 
 -- a comment at the end of a line with tokens, or with none, leaves it the same tokens
 abbrev pub CommentsSayNothing : Type 0
-CommentsSayNothing = (line comment : List ℕ) (tokens : List Token) → AreTokens line tokens → HaveSameTokens line (line ++ (35 ∷ comment))
+CommentsSayNothing =
+    (line comment : List ℕ) (tokens : List Token) → AreTokens line tokens
+    → HaveSameTokens line (line ++ (35 ∷ comment))
 
 -- a text with a line end behind it has the same labels and statements, or the same first bad line
 abbrev pub LastLineEndSaysNothing : Type 0

@@ -15,20 +15,27 @@ use Rattle.asm_round_trip.proofs.LineEnds.{OneLine, one_line-each}
 -- ---- lists
 
 -- no element is found, and the next isn't it either
-pub find-more : {X : Type 0} (p : X → Bool) (xs : List X) (x : X) → find p xs ≡ None → p x ≡ false → find p (xs ++ x ∷ []) ≡ None
+pub find-more : {X : Type 0} (p : X → Bool) (xs : List X) (x : X) → find p xs ≡ None → p x ≡ false
+    → find p (xs ++ x ∷ []) ≡ None
 find-more p xs x none other = find-append p xs (x ∷ []) ∙ rw (none, other) refl
 
 -- nor is it found from the end
-pub find_last-more : {X : Type 0} (p : X → Bool) (xs : List X) (x : X) → find p (reverse xs) ≡ None → p x ≡ false → find p (reverse (xs ++ x ∷ [])) ≡ None
+pub find_last-more : {X : Type 0} (p : X → Bool) (xs : List X) (x : X) → find p (reverse xs) ≡ None
+    → p x ≡ false → find p (reverse (xs ++ x ∷ [])) ≡ None
 find_last-more p xs x none other = ap (find p) (reverse-append xs (x ∷ [])) ∙ rw other none
 
 -- no element passes, and the next doesn't either
-pub any-more : {X : Type 0} (p : X → Bool) (xs : List X) (x : X) → list_any p xs ≡ false → p x ≡ false → list_any p (xs ++ x ∷ []) ≡ false
-any-more p xs x none other = list_any-append p xs (x ∷ []) ∙ or_from (list_any p xs) (list_any p (x ∷ [])) none (or_from (p x) false other refl)
+pub any-more : {X : Type 0} (p : X → Bool) (xs : List X) (x : X) → list_any p xs ≡ false
+    → p x ≡ false → list_any p (xs ++ x ∷ []) ≡ false
+any-more p xs x none other =
+    list_any-append p xs (x ∷ [])
+    ∙ or_from (list_any p xs) (list_any p (x ∷ [])) none (or_from (p x) false other refl)
 
 module _ {X : Type 0} (line : X → ℕ) (bad : List X → X → Bool) where
   -- the first is good, and so is what is behind it
-  good-cons : (before : List X) (x : X) (xs : List X) → bad before x ≡ false → first_fault line bad (before ++ x ∷ []) xs ≡ None → first_fault line bad before (x ∷ xs) ≡ None
+  good-cons : (before : List X) (x : X) (xs : List X) → bad before x ≡ false
+      → first_fault line bad (before ++ x ∷ []) xs ≡ None
+      → first_fault line bad before (x ∷ xs) ≡ None
   unfolding first_fault
   good-cons before x xs good rest = rw good rest
 
@@ -38,17 +45,22 @@ module _ {X : Type 0} (line : X → ℕ) (bad : List X → X → Bool) where
   good-nil before = refl
 
   -- none has a fault, and the next doesn't either
-  pub fault-more : (before xs : List X) (x : X) → first_fault line bad before xs ≡ None → bad (before ++ xs) x ≡ false → first_fault line bad before (xs ++ x ∷ []) ≡ None
-  fault-more before [] x none good = good-cons before x [] (rw append-nil at good) (good-nil (before ++ x ∷ []))
+  pub fault-more : (before xs : List X) (x : X) → first_fault line bad before xs ≡ None
+      → bad (before ++ xs) x ≡ false → first_fault line bad before (xs ++ x ∷ []) ≡ None
+  fault-more before [] x none good =
+      good-cons before x [] (rw append-nil at good) (good-nil (before ++ x ∷ []))
   fault-more before (y ∷ ys) x none good =
       good-cons before y (ys ++ x ∷ []) (first_good line bad before y ys none)
-      (fault-more (before ++ y ∷ []) ys x (rest_good line bad before y ys none) (ap (λ (front : List X). bad front x) (append_assoc before (y ∷ []) ys) ∙ good))
+      (fault-more (before ++ y ∷ []) ys x (rest_good line bad before y ys none)
+      (ap (λ (front : List X). bad front x) (append_assoc before (y ∷ []) ys) ∙ good))
 
 -- ---- lines
 
 -- one line, and what is behind its end
-pub lines-front : (line rest : List ℕ) → OneLine line → lines_of (line ++ (10 ∷ rest)) ≡ line ∷ lines_of rest
-lines-front line rest one = lines_of-cut (line ++ (10 ∷ rest)) line rest (cut_of-at 10 line rest (one_line-each line one))
+pub lines-front : (line rest : List ℕ) → OneLine line
+    → lines_of (line ++ (10 ∷ rest)) ≡ line ∷ lines_of rest
+lines-front line rest one =
+    lines_of-cut (line ++ (10 ∷ rest)) line rest (cut_of-at 10 line rest (one_line-each line one))
 
 -- no values in front
 nothing_in_front : {S X : Type 0} (answer : Result (List X × S) ℕ) → with_front [] answer ≡ answer
@@ -56,7 +68,9 @@ nothing_in_front (Ok more) = refl
 nothing_in_front (Err bad) = refl
 
 -- the next line gives no value of its own
-pub read-next : {S X : Type 0} (step : LineStep S X) (s next : S) (n : ℕ) (line : List ℕ) (lines : List (List ℕ)) → step s n line ≡ Some (None, next)
+pub read-next : {S X : Type 0} (step : LineStep S X) (s next : S) (n : ℕ) (line : List ℕ)
+    (lines : List (List ℕ))
+    → step s n line ≡ Some (None, next)
     → read_from step s n (line ∷ lines) ≡ read_from step next (n + 1) lines
 read-next step s next n line lines is =
     sym (nothing_in_front (read_from step s n (line ∷ lines)))

@@ -31,7 +31,9 @@ use Rattle.mips_asm.specs.Images.{PlacedBytes}
 
 -- the bytes of the word at an address; what is behind the end counts as zero
 abbrev four : List ℕ → ℕ → List ℕ
-four bytes p = slice_index bytes p ∷ slice_index bytes (p + 1) ∷ slice_index bytes (p + 2) ∷ slice_index bytes (p + 3) ∷ []
+four bytes p =
+    slice_index bytes p ∷ slice_index bytes (p + 1) ∷ slice_index bytes (p + 2) ∷ slice_index bytes
+    (p + 3) ∷ []
 
 -- each element is a byte, and so is what counts behind the end
 byte-below : (bytes : List ℕ) → All (λ byte. byte < 2 ^ 8) bytes → (i : ℕ) → get_or bytes i 0 < 256
@@ -41,7 +43,8 @@ byte-below bytes small i = elim (cases_lt i (length bytes)) [
 ]
 
 -- so the four are bytes
-four-below : (bytes : List ℕ) (p : ℕ) → ((i : ℕ) → get_or bytes i 0 < 256) → (i : ℕ) → get_or (four bytes p) i 0 < 256
+four-below : (bytes : List ℕ) (p : ℕ) → ((i : ℕ) → get_or bytes i 0 < 256) → (i : ℕ)
+    → get_or (four bytes p) i 0 < 256
 four-below bytes p small zero = small p
 four-below bytes p small (suc zero) = small (p + 1)
 four-below bytes p small (suc (suc zero)) = small (p + 2)
@@ -57,7 +60,8 @@ four-at bytes p (suc (suc (suc zero))) below = refl
 four-at bytes p (suc (suc (suc (suc k)))) below = absurd (omega arith)
 
 -- the word is below 2^32
-word-below : (bytes : List ℕ) (p : ℕ) → ((i : ℕ) → get_or bytes i 0 < 256) → word_at bytes p < 2 ^ 32
+word-below : (bytes : List ℕ) (p : ℕ) → ((i : ℕ) → get_or bytes i 0 < 256)
+    → word_at bytes p < 2 ^ 32
 word-below bytes p small =
     let a = small p in
     let b = small (p + 1) in
@@ -66,20 +70,26 @@ word-below bytes p small =
     omega arith
 
 -- its bytes are those of the list
-word-bytes : (bytes : List ℕ) (p : ℕ) → ((i : ℕ) → get_or bytes i 0 < 256) → (k : ℕ) → k < 4 → get_or (to_be_bytes w32 (word_at bytes p)) k 0 ≡ get_or bytes (p + k) 0
+word-bytes : (bytes : List ℕ) (p : ℕ) → ((i : ℕ) → get_or bytes i 0 < 256) → (k : ℕ) → k < 4
+    → get_or (to_be_bytes w32 (word_at bytes p)) k 0 ≡ get_or bytes (p + k) 0
 word-bytes bytes p small k below =
-    ap (λ (word : List ℕ). get_or word k 0) (be_bytes_4 (four bytes p) (word_at bytes p) refl (four-below bytes p small) refl) ∙ four-at bytes p k below
+    ap (λ (word : List ℕ). get_or word k 0) (be_bytes_4 (four bytes p) (word_at bytes p) refl
+    (four-below bytes p small) refl) ∙ four-at bytes p k below
 
 -- ---- lines
 
 -- one more line, with one statement
 read-line : (text line : List ℕ) (parts : List Part) (n : ℕ) (content : Content) → OneLine line
-    → ((rest : List ℕ) → read_from source_step [] 1 (lines_of (text ++ rest)) ≡ read_from source_step parts n (lines_of rest))
+    → ((rest : List ℕ) → read_from source_step [] 1 (lines_of (text ++ rest)) ≡ read_from
+    source_step parts n (lines_of rest))
     → line_parts n line ≡ Some (part n content ∷ [])
-    → (rest : List ℕ) → read_from source_step [] 1 (lines_of ((text ++ (line ++ 10 ∷ [])) ++ rest)) ≡ read_from source_step (parts ++ part n content ∷ []) (n + 1) (lines_of rest)
+    → (rest : List ℕ)
+    → read_from source_step [] 1 (lines_of ((text ++ (line ++ 10 ∷ [])) ++ rest)) ≡ read_from
+    source_step (parts ++ part n content ∷ []) (n + 1) (lines_of rest)
 read-line text line parts n content one read is rest =
     let whole : (text ++ (line ++ 10 ∷ [])) ++ rest ≡ text ++ (line ++ (10 ∷ rest)) =
-    append_assoc text (line ++ 10 ∷ []) rest ∙ ap (λ (more : List ℕ). text ++ more) (append_assoc line (10 ∷ []) rest) in
+    append_assoc text (line ++ 10 ∷ []) rest ∙ ap (λ (more : List ℕ). text ++ more)
+    (append_assoc line (10 ∷ []) rest) in
     ap (λ (t : List ℕ). read_from source_step [] 1 (lines_of t)) whole
     ∙ read (line ++ (10 ∷ rest))
     ∙ ap (read_from source_step parts n) (lines-front line rest one)
@@ -91,7 +101,9 @@ read-line text line parts n content one read is rest =
 record Grown (bytes : List ℕ) (n : ℕ) : Type 0 where
   parts : List Part
   chunks : List PlacedBytes
-  read : (rest : List ℕ) → read_from source_step [] 1 (lines_of (texts_of bytes n ++ rest)) ≡ read_from source_step parts (suc n) (lines_of rest)
+  read : (rest : List ℕ)
+      → read_from source_step [] 1 (lines_of (texts_of bytes n ++ rest)) ≡ read_from source_step
+      parts (suc n) (lines_of rest)
   unique : duplicate_line parts ≡ None
   next : place_behind 0 parts ≡ 4 * n
   stand : Stand bytes (4 * n) (layout 0 parts) chunks
@@ -109,46 +121,64 @@ grown-none bytes = record {
   read = λ rest. refl;
   unique = nothing-unique;
   next = refl;
-  stand = subst (λ (placed : List Placed). Stand bytes 0 placed []) (sym (layout-none 0)) (stand-none bytes);
+  stand = subst (λ (placed : List Placed). Stand bytes 0 placed []) (sym (layout-none 0))
+      (stand-none bytes);
 }
 
 -- one more part stands behind the others
-layout-more : (place : ℕ) (parts : List Part) (x : Part) → place_behind 0 parts ≡ place → layout 0 parts ++ placed_at place x ∷ [] ≡ layout 0 (parts ++ x ∷ [])
-layout-more place parts x is = ap (λ (p : ℕ). layout 0 parts ++ placed_at p x ∷ []) (sym is) ∙ sym (layout-push 0 parts x)
+layout-more : (place : ℕ) (parts : List Part) (x : Part) → place_behind 0 parts ≡ place
+    → layout 0 parts ++ placed_at place x ∷ [] ≡ layout 0 (parts ++ x ∷ [])
+layout-more place parts x is =
+    ap (λ (p : ℕ). layout 0 parts ++ placed_at p x ∷ []) (sym is) ∙ sym (layout-push 0 parts x)
 
 -- and the next place is behind it
-next-more : (place end : ℕ) (parts : List Part) (x : Part) → place_behind 0 parts ≡ place → after place x.content ≡ end → place_behind 0 (parts ++ x ∷ []) ≡ end
-next-more place end parts x is behind = place_behind-push 0 parts x ∙ ap (λ (p : ℕ). after p x.content) is ∙ behind
+next-more : (place end : ℕ) (parts : List Part) (x : Part) → place_behind 0 parts ≡ place
+    → after place x.content ≡ end → place_behind 0 (parts ++ x ∷ []) ≡ end
+next-more place end parts x is behind =
+    place_behind-push 0 parts x ∙ ap (λ (p : ℕ). after p x.content) is ∙ behind
 
 -- one more word, whose text is a line with this statement
-grown-more : (bytes : List ℕ) (n : ℕ) (content : Content) → ((i : ℕ) → get_or bytes i 0 < 256) → 4 * n + 4 ≤ 2 ^ 20
-    → line_parts (suc n) (word_text (word_at bytes (4 * n)) (4 * n)) ≡ Some (part (suc n) content ∷ [])
-    → IsFixed (4 * n) content (to_be_bytes w32 (word_at bytes (4 * n))) → Grown bytes n → Grown bytes (suc n)
+grown-more : (bytes : List ℕ) (n : ℕ) (content : Content) → ((i : ℕ) → get_or bytes i 0 < 256)
+    → 4 * n + 4 ≤ 2 ^ 20
+    → line_parts (suc n) (word_text (word_at bytes (4 * n)) (4 * n)) ≡ Some (part (suc n) content
+    ∷ [])
+    → IsFixed (4 * n) content (to_be_bytes w32 (word_at bytes (4 * n))) → Grown bytes n
+    → Grown bytes (suc n)
 grown-more bytes n content small below is fixed g =
     let x : Part = part (suc n) content in
     let own : List ℕ = to_be_bytes w32 (word_at bytes (4 * n)) in
     let line : List ℕ = word_text (word_at bytes (4 * n)) (4 * n) in
     let end : 4 * n + 4 ≡ 4 * suc n = omega arith in
-    let stand = stand-more bytes (4 * n) (layout 0 g.parts) g.chunks (placed_at (4 * n) x) own g.stand refl fixed.size refl below fixed (word-bytes bytes (4 * n) small) in
+    let stand = stand-more bytes (4 * n) (layout 0 g.parts) g.chunks (placed_at (4 * n) x) own
+    g.stand refl fixed.size refl below fixed (word-bytes bytes (4 * n) small) in
     record {
       parts = g.parts ++ x ∷ [];
       chunks = g.chunks ++ chunk_at (4 * n) own ∷ [];
       read = λ rest.
-          read-line (texts_of bytes n) line g.parts (suc n) content (no_line_end (word_at bytes (4 * n)) (4 * n)) g.read is rest
-          ∙ ap (λ (m : ℕ). read_from source_step (g.parts ++ x ∷ []) m (lines_of rest)) (add-one (suc n));
-      unique = fault-more (λ (p : Part). p.line) repeats [] g.parts x g.unique (repeats_none g.parts x fixed.no_label);
+          read-line (texts_of bytes n) line g.parts (suc n) content
+          (no_line_end (word_at bytes (4 * n)) (4 * n)) g.read is rest
+          ∙ ap (λ (m : ℕ). read_from source_step (g.parts ++ x ∷ []) m (lines_of rest))
+          (add-one (suc n));
+      unique = fault-more (λ (p : Part). p.line) repeats [] g.parts x g.unique
+          (repeats_none g.parts x fixed.no_label);
       next = next-more (4 * n) (4 * suc n) g.parts x g.next (fixed.behind ∙ end);
       stand =
-          subst (λ (placed : List Placed). Stand bytes (4 * suc n) placed (g.chunks ++ chunk_at (4 * n) own ∷ [])) (layout-more (4 * n) g.parts x g.next)
-          (subst (λ (m : ℕ). Stand bytes m (layout 0 g.parts ++ placed_at (4 * n) x ∷ []) (g.chunks ++ chunk_at (4 * n) own ∷ [])) end stand);
+          subst (λ (placed : List Placed). Stand bytes (4 * suc n) placed
+          (g.chunks ++ chunk_at (4 * n) own ∷ [])) (layout-more (4 * n) g.parts x g.next)
+          (subst (λ (m : ℕ). Stand bytes m (layout 0 g.parts ++ placed_at (4 * n) x ∷ [])
+          (g.chunks ++ chunk_at (4 * n) own ∷ [])) end stand);
     }
 
 -- so many words, within the limit
-grown : WordsAreReadAgain → (bytes : List ℕ) → ((i : ℕ) → get_or bytes i 0 < 256) → (n : ℕ) → 4 * n ≤ 2 ^ 20 → Grown bytes n
+grown : WordsAreReadAgain → (bytes : List ℕ) → ((i : ℕ) → get_or bytes i 0 < 256) → (n : ℕ)
+    → 4 * n ≤ 2 ^ 20 → Grown bytes n
 grown words bytes small zero below = grown-none bytes
 grown words bytes small (suc n) below =
-    let w = words no_labels (suc n) (4 * n) (word_at bytes (4 * n)) (omega arith) (omega arith) (word-below bytes (4 * n) small) in
-    grown-more bytes n w.0 small (omega arith) w.1 (gives_no_names (4 * n) w.0 (to_be_bytes w32 (word_at bytes (4 * n))) (omega arith) w.2) (grown words bytes small n (omega arith))
+    let w = words no_labels (suc n) (4 * n) (word_at bytes (4 * n)) (omega arith) (omega arith)
+    (word-below bytes (4 * n) small) in
+    grown-more bytes n w.0 small (omega arith) w.1
+    (gives_no_names (4 * n) w.0 (to_be_bytes w32 (word_at bytes (4 * n))) (omega arith) w.2)
+    (grown words bytes small n (omega arith))
 
 -- ---- the whole
 
@@ -186,21 +216,35 @@ whole-at bytes k =
 image_of : (bytes : List ℕ) → length bytes ≤ 2 ^ 20 → PlainImage
 image_of bytes short =
     let fits : length (whole_words bytes) ≤ 2 ^ 20 = rw (whole-length bytes) (omega arith) in
-    record { entry = 0; bytes = whole_words bytes; fits = fits; aligned = refl; private = omega arith }
+    record {
+      entry = 0;
+      bytes = whole_words bytes;
+      fits = fits;
+      aligned = refl;
+      private =
+          omega arith;
+    }
 
 -- what is read of the whole
 source-read : (text : List ℕ) (parts : List Part) (n : ℕ)
-    → ((rest : List ℕ) → read_from source_step [] 1 (lines_of (text ++ rest)) ≡ read_from source_step parts n (lines_of rest)) → source_of text ≡ Ok parts
+    → ((rest : List ℕ) → read_from source_step [] 1 (lines_of (text ++ rest)) ≡ read_from
+    source_step parts n (lines_of rest))
+    → source_of text ≡ Ok parts
 unfolding source_of read_from
 source-read text parts n read =
-    ap (λ (t : List ℕ). state_of (read_from source_step [] 1 (lines_of t))) (sym (append-nil text)) ∙ ap state_of (read [])
+    ap (λ (t : List ℕ). state_of (read_from source_step [] 1 (lines_of t))) (sym (append-nil text))
+    ∙ ap state_of (read [])
 
 -- statements that stand have the image with their bytes
-placed_image : (bytes : List ℕ) (end : ℕ) (placed : List Placed) (chunks : List PlacedBytes) (image : PlainImage) → Stand bytes end placed chunks → image.entry ≡ 0
-    → length image.bytes ≡ end → ((k : ℕ) → get_or image.bytes k 0 ≡ get_or bytes k 0) → IsPlacedImage placed image
+placed_image : (bytes : List ℕ) (end : ℕ) (placed : List Placed) (chunks : List PlacedBytes)
+    (image : PlainImage)
+    → Stand bytes end placed chunks → image.entry ≡ 0
+    → length image.bytes ≡ end → ((k : ℕ) → get_or image.bytes k 0 ≡ get_or bytes k 0)
+    → IsPlacedImage placed image
 placed_image bytes end placed chunks image so entry long same = record {
   no_overlap = so.apart;
-  no_unknown = ap (λ (found : Option Placed). option_map line_of found) (so.known (labels_of placed));
+  no_unknown = ap (λ (found : Option Placed). option_map line_of found)
+      (so.known (labels_of placed));
   entry = ap (entry_by (labels_of placed)) so.no_entry ∙ ap (λ (n : ℕ). Some n) (sym entry);
   chunks = chunks;
   writes = so.writes (labels_of placed);
@@ -224,6 +268,7 @@ listings_assembled_again words bytes small short =
         read = source-read (texts_of bytes n) g.parts (suc n) g.read;
         no_duplicate = g.unique;
         not_too_long = ap (λ (found : Option Placed). option_map line_of found) g.stand.short;
-        placed = placed_image bytes (4 * n) (layout 0 g.parts) g.chunks (image_of bytes short) g.stand refl (whole-length bytes) (whole-at bytes);
+        placed = placed_image bytes (4 * n) (layout 0 g.parts) g.chunks (image_of bytes short)
+            g.stand refl (whole-length bytes) (whole-at bytes);
       },
     )

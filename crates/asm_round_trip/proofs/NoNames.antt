@@ -1,4 +1,5 @@
--- What a statement writes where no label is known, it writes whatever the labels are: it uses no name.
+-- What a statement writes where no label is known, it writes whatever the labels are: it uses no
+-- name.
 use Rattle.std.proofs.Common.{◌≡◌, ℕ, ◌+◌, ◌<◌, false, List, [], ◌∷◌, length, Some, None, refl, sym, ap, ◌∙◌, option_map, arith}
 use Rattle.std.specs.List.{list_any}
 use Rattle.std.proofs.lemmas.Bool.{or_from}
@@ -27,38 +28,48 @@ no_labels = λ name. None
 -- ---- values
 
 -- a value of `.word`
-word-known : (labels : Labels) (v : Value) (bytes : List ℕ) → word_value no_labels v ≡ Some bytes → (value_unknown labels v ≡ false) × (word_value labels v ≡ Some bytes)
+word-known : (labels : Labels) (v : Value) (bytes : List ℕ) → word_value no_labels v ≡ Some bytes
+    → (value_unknown labels v ≡ false) × (word_value labels v ≡ Some bytes)
 unfolding word_value
 word-known labels (values.Number n) bytes read = (refl, read)
 word-known labels (values.Label name) bytes read = absurd (none-some bytes read)
 
 -- all values of a `.word`
-words-known : (labels : Labels) (vs : List Value) (bytes : List ℕ) → join_some (word_value no_labels) vs ≡ Some bytes
+words-known : (labels : Labels) (vs : List Value) (bytes : List ℕ)
+    → join_some (word_value no_labels) vs ≡ Some bytes
     → (list_any (value_unknown labels) vs ≡ false) × (join_some (word_value labels) vs ≡ Some bytes)
 words-known labels [] bytes read = (refl, read)
 words-known labels (v ∷ vs) bytes read =
     steps _ (word_value no_labels v) bytes read (λ first one read.
     steps _ (join_some (word_value no_labels) vs) bytes read (λ rest more same.
     let h = word-known labels v first one in
-    let t = words-known labels vs rest more in
-    (or_from (value_unknown labels v) (list_any (value_unknown labels) vs) h.0 t.0, rw (h.1, t.1) same)))
+    let t = words-known labels vs rest more in (
+      or_from (value_unknown labels v) (list_any (value_unknown labels) vs) h.0 t.0,
+      rw (h.1, t.1)
+          same,
+    )))
 
 -- ---- instructions
 
 -- an operand
-operand-known : (labels : Labels) (pc : ℕ) (kind : OperandKind) (a : Argument) (o : Operand) → operand_of no_labels pc kind a ≡ Some o
+operand-known : (labels : Labels) (pc : ℕ) (kind : OperandKind) (a : Argument) (o : Operand)
+    → operand_of no_labels pc kind a ≡ Some o
     → (argument_unknown labels a ≡ false) × (operand_of labels pc kind a ≡ Some o)
 unfolding operand_of
 operand-known labels pc kind (argument.Register r) o read = (refl, read)
 operand-known labels pc kind (argument.Value (values.Number n)) o read = (refl, read)
 operand-known labels pc kind (argument.Value (values.Label name)) o read = absurd (none-some o read)
 operand-known labels pc kind (argument.Offset (values.Number n) r) o read = (refl, read)
-operand-known labels pc kind (argument.Offset (values.Label name) r) o read = absurd (none-some o read)
+operand-known labels pc kind (argument.Offset (values.Label name) r) o read =
+    absurd (none-some o read)
 operand-known labels pc kind (argument.Text text) o read = absurd (none-some o read)
 
 -- all operands
-operands-known : (labels : Labels) (pc : ℕ) (shape : List OperandKind) (arguments : List Argument) (os : List Operand) → operands_of no_labels pc shape arguments ≡ Some os
-    → (list_any (argument_unknown labels) arguments ≡ false) × (operands_of labels pc shape arguments ≡ Some os)
+operands-known : (labels : Labels) (pc : ℕ) (shape : List OperandKind) (arguments : List Argument)
+    (os : List Operand)
+    → operands_of no_labels pc shape arguments ≡ Some os
+    → (list_any (argument_unknown labels) arguments ≡ false)
+    × (operands_of labels pc shape arguments ≡ Some os)
 unfolding operands_of
 operands-known labels pc [] [] os read = (refl, read)
 operands-known labels pc [] (a ∷ arguments) os read = absurd (none-some os read)
@@ -67,12 +78,16 @@ operands-known labels pc (kind ∷ shape) (a ∷ arguments) os read =
     steps _ (operand_of no_labels pc kind a) os read (λ first one read.
     steps _ (operands_of no_labels pc shape arguments) os read (λ rest more same.
     let h = operand-known labels pc kind a first one in
-    let t = operands-known labels pc shape arguments rest more in
-    (or_from (argument_unknown labels a) (list_any (argument_unknown labels) arguments) h.0 t.0, rw (h.1, t.1) same)))
+    let t = operands-known labels pc shape arguments rest more in (
+      or_from (argument_unknown labels a) (list_any (argument_unknown labels) arguments) h.0 t.0,
+      rw (h.1, t.1) same,
+    )))
 
 -- the instruction
-instruction-known : (labels : Labels) (pc : ℕ) (name : List ℕ) (arguments : List Argument) (i : Ins) → instruction_at no_labels pc name arguments ≡ Some i
-    → (list_any (argument_unknown labels) arguments ≡ false) × (instruction_at labels pc name arguments ≡ Some i)
+instruction-known : (labels : Labels) (pc : ℕ) (name : List ℕ) (arguments : List Argument) (i : Ins)
+    → instruction_at no_labels pc name arguments ≡ Some i
+    → (list_any (argument_unknown labels) arguments ≡ false)
+    × (instruction_at labels pc name arguments ≡ Some i)
 unfolding instruction_at
 instruction-known labels pc name arguments i read =
     steps _ (kinds_of name) i read (λ shape kinds read.
@@ -81,8 +96,10 @@ instruction-known labels pc name arguments i read =
     (h.0, rw (kinds, h.1) made)))
 
 -- and it alone
-alone-known : (labels : Labels) (pc : ℕ) (name : List ℕ) (arguments : List Argument) (is : List Ins) → option_map one_instruction (instruction_at no_labels pc name arguments) ≡ Some is
-    → (list_any (argument_unknown labels) arguments ≡ false) × (option_map one_instruction (instruction_at labels pc name arguments) ≡ Some is)
+alone-known : (labels : Labels) (pc : ℕ) (name : List ℕ) (arguments : List Argument) (is : List Ins)
+    → option_map one_instruction (instruction_at no_labels pc name arguments) ≡ Some is
+    → (list_any (argument_unknown labels) arguments ≡ false)
+    × (option_map one_instruction (instruction_at labels pc name arguments) ≡ Some is)
 alone-known labels pc name arguments is read =
     let m = option_map_some one_instruction (instruction_at no_labels pc name arguments) is read in
     let h = instruction-known labels pc name arguments m.0 m.1 in
@@ -101,38 +118,46 @@ not_empty [] some is = omega arith
 not_empty (byte ∷ bytes) some is = absurd (let e : byte ∷ bytes ≡ [] = is in cc)
 
 -- a statement that writes some bytes is no label
-no_label-by : (place : ℕ) (content : Content) (bytes : List ℕ) → 0 < length bytes → Gives no_labels place content bytes → label_in content ≡ None
+no_label-by : (place : ℕ) (content : Content) (bytes : List ℕ) → 0 < length bytes
+    → Gives no_labels place content bytes → label_in content ≡ None
 no_label-by place (Label name) bytes some given = absurd (not_empty bytes some given)
 no_label-by place _ bytes some given = refl
 
 -- and no `.entry`
-no_entry-by : (place : ℕ) (content : Content) (bytes : List ℕ) → 0 < length bytes → Gives no_labels place content bytes → entry_content content ≡ false
+no_entry-by : (place : ℕ) (content : Content) (bytes : List ℕ) → 0 < length bytes
+    → Gives no_labels place content bytes → entry_content content ≡ false
 no_entry-by place (Entry v) bytes some given = absurd (not_empty bytes some given)
 no_entry-by place _ bytes some given = refl
 
 -- and the next place is behind its bytes
-behind-by : (place : ℕ) (content : Content) (bytes : List ℕ) → 0 < length bytes → Gives no_labels place content bytes → after place content ≡ place + size_of place content
+behind-by : (place : ℕ) (content : Content) (bytes : List ℕ) → 0 < length bytes
+    → Gives no_labels place content bytes → after place content ≡ place + size_of place content
 unfolding after size_of
 behind-by place (Org n) bytes some given = absurd (not_empty bytes some given)
 behind-by place _ bytes some given = refl
 
 -- it uses no name
-known-by : (labels : Labels) (place : ℕ) (content : Content) (bytes : List ℕ) → 0 < length bytes → Gives no_labels place content bytes → content_unknown labels content ≡ false
+known-by : (labels : Labels) (place : ℕ) (content : Content) (bytes : List ℕ) → 0 < length bytes
+    → Gives no_labels place content bytes → content_unknown labels content ≡ false
 known-by labels place (Words vs) bytes some given = (words-known labels vs bytes given.1).0
 known-by labels place (Entry v) bytes some given = absurd (not_empty bytes some given)
-known-by labels place (LoadAddress r name) bytes some given = absurd (no_address r name given.0 given.2)
-known-by labels place (Instruction name arguments) bytes some given = (alone-known labels place name arguments given.0 given.2).0
+known-by labels place (LoadAddress r name) bytes some given =
+    absurd (no_address r name given.0 given.2)
+known-by labels place (Instruction name arguments) bytes some given =
+    (alone-known labels place name arguments given.0 given.2).0
 known-by labels place _ bytes some given = refl
 
 -- so it writes the same whatever the labels are
-gives-by : (labels : Labels) (place : ℕ) (content : Content) (bytes : List ℕ) → Gives no_labels place content bytes → Gives labels place content bytes
+gives-by : (labels : Labels) (place : ℕ) (content : Content) (bytes : List ℕ)
+    → Gives no_labels place content bytes → Gives labels place content bytes
 gives-by labels place (Words vs) bytes given = (given.0, (words-known labels vs bytes given.1).1)
 gives-by labels place (LoadAddress r name) bytes given = absurd (no_address r name given.0 given.2)
 gives-by labels place (Instruction name arguments) bytes given =
     (given.0, given.1, (alone-known labels place name arguments given.0 given.2).1, given.3)
 gives-by labels place _ bytes given = given
 
--- a statement that writes these bytes at this place, uses no name, and is no label, no `.org` and no `.entry`
+-- a statement that writes these bytes at this place, uses no name, and is no label, no `.org` and
+-- no `.entry`
 pub record IsFixed (place : ℕ) (content : Content) (bytes : List ℕ) : Type 0 where
   pub no_label : label_in content ≡ None
   pub no_entry : entry_content content ≡ false
@@ -142,7 +167,8 @@ pub record IsFixed (place : ℕ) (content : Content) (bytes : List ℕ) : Type 0
   pub gives : (labels : Labels) → Gives labels place content bytes
 
 -- one that writes some bytes where no label is known is such a statement
-pub gives_no_names : (place : ℕ) (content : Content) (bytes : List ℕ) → 0 < length bytes → Gives no_labels place content bytes → IsFixed place content bytes
+pub gives_no_names : (place : ℕ) (content : Content) (bytes : List ℕ) → 0 < length bytes
+    → Gives no_labels place content bytes → IsFixed place content bytes
 gives_no_names place content bytes some given =
     let sized = sym (Gives-size no_labels place content bytes given) in
     record {

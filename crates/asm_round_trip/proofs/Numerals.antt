@@ -1,4 +1,5 @@
--- The numbers of printed texts, read again: in decimal, with a sign, and in hexadecimal behind `0x`.
+-- The numbers of printed texts, read again: in decimal, with a sign, and in hexadecimal behind
+-- `0x`.
 use Rattle.std.proofs.Common.{◌≡◌, ℕ, zero, suc, ◌+◌, ◌-◌, ◌*◌, ◌/◌, ◌%◌, ◌^◌, ◌<◌, ◌≤◌, Bool, true, false, ◌==◌, ◌&&◌, ltb, ℤ, pos, negsuc, ◌-ℤ◌, List, [], ◌∷◌, ◌++◌, get_or, inl, inr, refl, sym, ap, subst, ◌∙◌, arith}
 use Rattle.std.specs.Prelude.{codes, slice_index}
 use Rattle.std.specs.Char.{digit_value}
@@ -23,7 +24,12 @@ use Rattle.mips_text.specs.Texts.{address_text}
 pub decimal-number : (n : ℕ) → n < 2 ^ 64 → IsNumber (decimal n) n
 decimal-number n fits =
     let d = decimal_is_IsNumeral n fits in
-    inl (record { some = d.0.0; digits = digits_from 10 (decimal n) d.0.1 }, sym d.1 ∙ value_is 10 (decimal n), fits)
+    inl (
+      record { some = d.0.0; digits = digits_from 10 (decimal n) d.0.1 },
+      sym d.1
+          ∙ value_is 10 (decimal n),
+      fits,
+    )
 
 -- the sign and the magnitude of a whole number
 abbrev pub printed : ℤ → Integer
@@ -43,7 +49,8 @@ IsSmall (negsuc n) = n < 2 ^ 32
 -- a whole number in decimal is read as itself
 pub signed-integer : (z : ℤ) → IsSmall z → IsInteger (signed_decimal z) (printed z)
 signed-integer (pos n) small = inl (refl, decimal-number n (omega arith))
-signed-integer (negsuc n) small = inr (decimal (suc n), refl, refl, decimal-number (suc n) (omega arith))
+signed-integer (negsuc n) small =
+    inr (decimal (suc n), refl, refl, decimal-number (suc n) (omega arith))
 
 -- an immediate with its sign is small
 pub signed_16-small : (n : ℕ) → n < 2 ^ 16 → IsSmall (signed_16 n)
@@ -92,7 +99,8 @@ low_digit : (b : ℕ) → digit_value (slice_index lower_digits (b % 16)) ≡ b 
 low_digit b = digit-counts (b % 16) (omega arith)
 
 -- bytes in hexadecimal are digits
-encode-digits : (bytes : List ℕ) → AllByRecursion (λ b. b < 256) bytes → AllByRecursion (λ d. digit_value d < 16) (encode_lower bytes)
+encode-digits : (bytes : List ℕ) → AllByRecursion (λ b. b < 256) bytes
+    → AllByRecursion (λ d. digit_value d < 16) (encode_lower bytes)
 unfolding encode_with
 encode-digits [] small = tt
 encode-digits (b ∷ bytes) small =
@@ -105,7 +113,16 @@ encode-value : (a b c d : ℕ) → a < 256 → b < 256 → c < 256 → d < 256
     → value 16 (encode_lower (a ∷ b ∷ c ∷ d ∷ [])) ≡ a * 2 ^ 24 + b * 2 ^ 16 + c * 2 ^ 8 + d
 unfolding encode_with
 encode-value a b c d a_byte b_byte c_byte d_byte =
-    rw (high_digit a a_byte, low_digit a, high_digit b b_byte, low_digit b, high_digit c c_byte, low_digit c, high_digit d d_byte, low_digit d) (omega arith)
+    rw (
+      high_digit a a_byte,
+      low_digit a,
+      high_digit b b_byte,
+      low_digit b,
+      high_digit c c_byte,
+      low_digit c,
+      high_digit d d_byte,
+      low_digit d,
+    ) (omega arith)
 
 -- the bytes of a number of 32 bits, the highest first
 abbrev four_bytes : ℕ → List ℕ
@@ -132,7 +149,8 @@ four_bytes-number n fits =
     let c : n / 2 ^ 8 % 256 < 256 = omega arith in
     let d : n % 256 < 256 = omega arith in
     let said = encode-value (n / 2 ^ 24) (n / 2 ^ 16 % 256) (n / 2 ^ 8 % 256) (n % 256) a b c d in
-    let sum : n ≡ n / 2 ^ 24 * 2 ^ 24 + n / 2 ^ 16 % 256 * 2 ^ 16 + n / 2 ^ 8 % 256 * 2 ^ 8 + n % 256 = omega arith in
+    let sum : n ≡ n / 2 ^ 24 * 2 ^ 24 + n / 2 ^ 16 % 256 * 2 ^ 16 + n / 2 ^ 8 % 256 * 2 ^
+    8 + n % 256 = omega arith in
     inr (
       encode_lower (four_bytes n),
       refl,
@@ -143,4 +161,9 @@ four_bytes-number n fits =
 
 -- an address is read as itself
 pub address-integer : (n : ℕ) → n < 2 ^ 32 → IsInteger (address_text n) (printed (pos n))
-address-integer n fits = inl (refl, subst (λ (digits : List ℕ). IsNumber (codes "0x" ++ digits) n) (sym (hex8-is n fits)) (four_bytes-number n fits))
+address-integer n fits =
+    inl (
+      refl,
+      subst (λ (digits : List ℕ). IsNumber (codes "0x" ++ digits) n) (sym (hex8-is n fits))
+          (four_bytes-number n fits),
+    )

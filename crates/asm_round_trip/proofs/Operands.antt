@@ -43,7 +43,8 @@ short-decimal n small =
     elim (cases_lt n 10) [
       | inl low ↦ decimal_digit n low ∙ sym (rw (lt-ltb n 10 low) refl)
       | inr high ↦
-          decimal_step n high (omega arith) ∙ ap (λ (front : List ℕ). front ++ ((48 + n % 10) ∷ [])) (decimal_digit (n / 10) (omega arith))
+          decimal_step n high (omega arith) ∙ ap (λ (front : List ℕ). front ++ ((48 + n % 10) ∷ []))
+          (decimal_digit (n / 10) (omega arith))
           ∙ sym (rw (le-ltb n 10 high) refl)
     ]
 
@@ -64,7 +65,8 @@ numbered zero = true
 numbered (suc n) = is_text (slice_get register_numbers n) (36 ∷ short n) && numbered n
 
 -- so each of them stands at its place
-numbered-at : (n r : ℕ) → numbered n ≡ true → r < n → slice_get register_numbers r ≡ Some (36 ∷ short r)
+numbered-at : (n r : ℕ) → numbered n ≡ true → r < n
+    → slice_get register_numbers r ≡ Some (36 ∷ short r)
 unfolding numbered
 numbered-at zero r h below = absurd (omega arith)
 numbered-at (suc n) r h below =
@@ -83,28 +85,35 @@ numbered-all = refl
 
 -- a register is written by its number
 register-written : (r : ℕ) → r < 32 → IsRegister (register_text r) r
-register-written r fits = inl (numbered-at 32 r numbered-all fits ∙ ap (λ (digits : List ℕ). Some (36 ∷ digits)) (sym (short-decimal r (omega arith))))
+register-written r fits =
+    inl
+    (numbered-at 32 r numbered-all fits ∙ ap (λ (digits : List ℕ). Some (36 ∷ digits))
+    (sym (short-decimal r (omega arith))))
 
 -- ---- pieces
 
 -- a number in front
-pub lexes_number : (text behind : List ℕ) (n : Integer) (lexemes : List Lexeme) → IsInteger text n → NoNameByte behind → Lexes behind lexemes → Lexes (text ++ behind) (Number n ∷ lexemes)
+pub lexes_number : (text behind : List ℕ) (n : Integer) (lexemes : List Lexeme) → IsInteger text n
+    → NoNameByte behind → Lexes behind lexemes → Lexes (text ++ behind) (Number n ∷ lexemes)
 lexes_number text behind n lexemes is ends more =
     let read = (integer_of-exact text n).1 is in
     lexes_token kinds.Number text behind (Number n) lexemes (n, is) ends (rw read refl) more
 
 -- a register in front
-lexes_register : (r : ℕ) (behind : List ℕ) (lexemes : List Lexeme) → r < 32 → NoNameByte behind → Lexes behind lexemes → Lexes (register_text r ++ behind) (Register r ∷ lexemes)
+lexes_register : (r : ℕ) (behind : List ℕ) (lexemes : List Lexeme) → r < 32 → NoNameByte behind
+    → Lexes behind lexemes → Lexes (register_text r ++ behind) (Register r ∷ lexemes)
 lexes_register r behind lexemes fits ends more =
     let is = register-written r fits in
     let read = (register_of-exact (register_text r) r).1 is in
-    lexes_token kinds.Register (register_text r) behind (Register r) lexemes (r, is) ends (rw read refl) more
+    lexes_token kinds.Register (register_text r) behind (Register r) lexemes (r, is) ends
+    (rw read refl) more
 
 -- parentheses round a register
 lexes_base : (r : ℕ) (behind : List ℕ) (lexemes : List Lexeme) → r < 32 → Lexes behind lexemes
     → Lexes (40 ∷ (register_text r ++ 41 ∷ behind)) (Left ∷ Register r ∷ Right ∷ lexemes)
 lexes_base r behind lexemes fits more =
-    lexes_token kinds.Left (40 ∷ []) (register_text r ++ 41 ∷ behind) Left (Register r ∷ Right ∷ lexemes) refl tt refl
+    lexes_token kinds.Left (40 ∷ []) (register_text r ++ 41 ∷ behind) Left (Register r ∷ Right
+    ∷ lexemes) refl tt refl
     (lexes_register r (41 ∷ behind) (Right ∷ lexemes) fits refl
     (lexes_token kinds.Right (41 ∷ []) behind Right lexemes refl tt refl more))
 
@@ -113,7 +122,8 @@ lexes_base r behind lexemes fits more =
 -- the lexemes of an operand of the instruction at pc
 abbrev pub lexed : (pc : ℕ) → Operand → List Lexeme
 lexed pc (operand.Register r) = Register r ∷ []
-lexed pc (operand.Offset imm base) = Number (printed (signed_16 imm)) ∷ Left ∷ Register base ∷ Right ∷ []
+lexed pc (operand.Offset imm base) =
+    Number (printed (signed_16 imm)) ∷ Left ∷ Register base ∷ Right ∷ []
 lexed pc v = Number (printed (value_of pc v)) ∷ []
 
 -- and the argument that they are
@@ -135,31 +145,45 @@ jump_target-below : (pc index : ℕ) → index < 2 ^ 26 → jump_target (after p
 jump_target-below pc index fits = omega arith
 
 -- a number without a sign
-lexes_decimal : (n : ℕ) (behind : List ℕ) (lexemes : List Lexeme) → n < 2 ^ 32 → NoNameByte behind → Lexes behind lexemes → Lexes (decimal n ++ behind) (Number (printed (pos n)) ∷ lexemes)
-lexes_decimal n behind lexemes small = lexes_number (decimal n) behind (printed (pos n)) lexemes (signed-integer (pos n) small)
+lexes_decimal : (n : ℕ) (behind : List ℕ) (lexemes : List Lexeme) → n < 2 ^ 32 → NoNameByte behind
+    → Lexes behind lexemes → Lexes (decimal n ++ behind) (Number (printed (pos n)) ∷ lexemes)
+lexes_decimal n behind lexemes small =
+    lexes_number (decimal n) behind (printed (pos n)) lexemes (signed-integer (pos n) small)
 
 -- an offset with what stands behind it
-offset_parts : (front base behind : List ℕ) → (front ++ (40 ∷ (base ++ 41 ∷ []))) ++ behind ≡ front ++ (40 ∷ (base ++ 41 ∷ behind))
+offset_parts : (front base behind : List ℕ)
+    → (front ++ (40 ∷ (base ++ 41 ∷ []))) ++ behind ≡ front ++ (40 ∷ (base ++ 41 ∷ behind))
 offset_parts front base behind = simp append_assoc
 
 -- an operand is read as its lexemes
-lexes_operand : (pc : ℕ) (v : Operand) (behind : List ℕ) (lexemes : List Lexeme) → InRange v → NoNameByte behind → Lexes behind lexemes → Lexes (operand_text pc v ++ behind) (lexed pc v ++ lexemes)
-lexes_operand pc (operand.Register r) behind lexemes fits ends more = lexes_register r behind lexemes fits ends more
-lexes_operand pc (operand.Shift n) behind lexemes fits ends more = lexes_decimal n behind lexemes (omega arith) ends more
+lexes_operand : (pc : ℕ) (v : Operand) (behind : List ℕ) (lexemes : List Lexeme) → InRange v
+    → NoNameByte behind → Lexes behind lexemes
+    → Lexes (operand_text pc v ++ behind) (lexed pc v ++ lexemes)
+lexes_operand pc (operand.Register r) behind lexemes fits ends more =
+    lexes_register r behind lexemes fits ends more
+lexes_operand pc (operand.Shift n) behind lexemes fits ends more =
+    lexes_decimal n behind lexemes (omega arith) ends more
 lexes_operand pc (operand.Signed imm) behind lexemes fits ends more =
-    lexes_number (signed_decimal (signed_16 imm)) behind (printed (signed_16 imm)) lexemes (signed-integer (signed_16 imm) (signed_16-small imm fits)) ends more
-lexes_operand pc (operand.Unsigned n) behind lexemes fits ends more = lexes_decimal n behind lexemes (omega arith) ends more
-lexes_operand pc (operand.Code n) behind lexemes fits ends more = lexes_decimal n behind lexemes (omega arith) ends more
+    lexes_number (signed_decimal (signed_16 imm)) behind (printed (signed_16 imm)) lexemes
+    (signed-integer (signed_16 imm) (signed_16-small imm fits)) ends more
+lexes_operand pc (operand.Unsigned n) behind lexemes fits ends more =
+    lexes_decimal n behind lexemes (omega arith) ends more
+lexes_operand pc (operand.Code n) behind lexemes fits ends more =
+    lexes_decimal n behind lexemes (omega arith) ends more
 lexes_operand pc (operand.Branch imm) behind lexemes fits ends more =
     let address : ℕ = target (after pc) imm in
-    lexes_number (operand_text pc (operand.Branch imm)) behind (printed (pos address)) lexemes (address-integer address (target-below (after pc) imm)) ends more
+    lexes_number (operand_text pc (operand.Branch imm)) behind (printed (pos address)) lexemes
+    (address-integer address (target-below (after pc) imm)) ends more
 lexes_operand pc (operand.Jump index) behind lexemes fits ends more =
     let address : ℕ = jump_target (after pc) index in
-    lexes_number (operand_text pc (operand.Jump index)) behind (printed (pos address)) lexemes (address-integer address (jump_target-below pc index fits)) ends more
+    lexes_number (operand_text pc (operand.Jump index)) behind (printed (pos address)) lexemes
+    (address-integer address (jump_target-below pc index fits)) ends more
 lexes_operand pc (operand.Offset imm base) behind lexemes fits ends more =
     let number = signed-integer (signed_16 imm) (signed_16-small imm fits.0) in
-    subst (λ (text : List ℕ). Lexes text (lexed pc (operand.Offset imm base) ++ lexemes)) (sym (offset_parts (signed_decimal (signed_16 imm)) (register_text base) behind))
-    (lexes_number (signed_decimal (signed_16 imm)) (40 ∷ (register_text base ++ 41 ∷ behind)) (printed (signed_16 imm)) (Left ∷ Register base ∷ Right ∷ lexemes) number refl
+    subst (λ (text : List ℕ). Lexes text (lexed pc (operand.Offset imm base) ++ lexemes))
+    (sym (offset_parts (signed_decimal (signed_16 imm)) (register_text base) behind))
+    (lexes_number (signed_decimal (signed_16 imm)) (40 ∷ (register_text base ++ 41 ∷ behind))
+    (printed (signed_16 imm)) (Left ∷ Register base ∷ Right ∷ lexemes) number refl
     (lexes_base base behind lexemes fits.1 more))
 
 -- those lexemes are its argument
@@ -171,7 +195,8 @@ argument-lexed pc _ = refl
 -- which shows the operand
 shows-shown : (pc : ℕ) (v : Operand) → Shows pc v (shown pc v)
 shows-shown pc (operand.Register r) = refl
-shows-shown pc (operand.Offset imm base) = (printed (signed_16 imm), whole-printed (signed_16 imm), refl)
+shows-shown pc (operand.Offset imm base) =
+    (printed (signed_16 imm), whole-printed (signed_16 imm), refl)
 shows-shown pc (operand.Shift n) = (printed (pos n), refl, refl)
 shows-shown pc (operand.Signed imm) = (printed (signed_16 imm), whole-printed (signed_16 imm), refl)
 shows-shown pc (operand.Unsigned n) = (printed (pos n), refl, refl)
@@ -197,7 +222,8 @@ abbrev operand_texts : (pc : ℕ) → List Operand → List (List ℕ)
 operand_texts pc vs = map (operand_text pc) vs
 
 -- they are read as their lexemes
-lexes_joined : (pc : ℕ) (vs : List Operand) → AllByRecursion InRange vs → Lexes (joined (operand_texts pc vs)) (all_lexed pc vs)
+lexes_joined : (pc : ℕ) (vs : List Operand) → AllByRecursion InRange vs
+    → Lexes (joined (operand_texts pc vs)) (all_lexed pc vs)
 lexes_joined pc [] fits = lexes_none
 lexes_joined pc (v ∷ []) fits =
     let alone = lexes_operand pc v [] [] fits.0 tt lexes_none in
@@ -206,12 +232,16 @@ lexes_joined pc (v ∷ next ∷ vs) fits =
     let others : List ℕ = joined (operand_texts pc (next ∷ vs)) in
     let rest : List Lexeme = all_lexed pc (next ∷ vs) in
     lexes_operand pc v (44 ∷ 32 ∷ others) (Comma ∷ rest) fits.0 refl
-    (lexes_token kinds.Comma (44 ∷ []) (32 ∷ others) Comma rest refl tt refl (lexes_space others rest (lexes_joined pc (next ∷ vs) fits.1)))
+    (lexes_token kinds.Comma (44 ∷ []) (32 ∷ others) Comma rest refl tt refl
+    (lexes_space others rest (lexes_joined pc (next ∷ vs) fits.1)))
 
 -- behind a mnemonic
-pub lexes_operands : (pc : ℕ) (vs : List Operand) → AllByRecursion InRange vs → Lexes (operands_text (operand_texts pc vs)) (all_lexed pc vs)
+pub lexes_operands : (pc : ℕ) (vs : List Operand) → AllByRecursion InRange vs
+    → Lexes (operands_text (operand_texts pc vs)) (all_lexed pc vs)
 lexes_operands pc [] fits = lexes_none
-lexes_operands pc (v ∷ vs) fits = lexes_space (joined (operand_texts pc (v ∷ vs))) (all_lexed pc (v ∷ vs)) (lexes_joined pc (v ∷ vs) fits)
+lexes_operands pc (v ∷ vs) fits =
+    lexes_space (joined (operand_texts pc (v ∷ vs))) (all_lexed pc (v ∷ vs))
+    (lexes_joined pc (v ∷ vs) fits)
 
 -- no name byte follows the mnemonic
 pub operands_end : (pc : ℕ) (vs : List Operand) → NoNameByte (operands_text (operand_texts pc vs))
@@ -219,7 +249,8 @@ operands_end pc [] = tt
 operands_end pc (v ∷ vs) = refl
 
 -- the first operand goes up to its comma
-split-first : (pc : ℕ) (v : Operand) (rest : List Lexeme) → slice_split is_comma (lexed pc v ++ (Comma ∷ rest)) ≡ lexed pc v ∷ slice_split is_comma rest
+split-first : (pc : ℕ) (v : Operand) (rest : List Lexeme)
+    → slice_split is_comma (lexed pc v ++ (Comma ∷ rest)) ≡ lexed pc v ∷ slice_split is_comma rest
 split-first pc (operand.Register r) rest = refl
 split-first pc _ rest = refl
 
@@ -229,12 +260,22 @@ split-last pc (operand.Register r) = refl
 split-last pc _ = refl
 
 -- cut at their commas, they are the arguments
-arguments-split : (pc : ℕ) (v : Operand) (vs : List Operand) → map_some argument_of (slice_split is_comma (all_lexed pc (v ∷ vs))) ≡ Some (map (shown pc) (v ∷ vs))
+arguments-split : (pc : ℕ) (v : Operand) (vs : List Operand)
+    → map_some argument_of (slice_split is_comma (all_lexed pc (v ∷ vs))) ≡ Some (map (shown pc)
+    (v ∷ vs))
 arguments-split pc v [] = rw (split-last pc v, argument-lexed pc v) refl
-arguments-split pc v (next ∷ vs) = rw (split-first pc v (all_lexed pc (next ∷ vs)), argument-lexed pc v, arguments-split pc next vs) refl
+arguments-split pc v (next ∷ vs) =
+    rw (
+      split-first pc v (all_lexed pc (next ∷ vs)),
+      argument-lexed pc v,
+      arguments-split pc next
+          vs,
+    ) refl
 
 -- there is a lexeme to cut
-arguments-cut : (pc : ℕ) (v : Operand) (vs : List Operand) → arguments_of (all_lexed pc (v ∷ vs)) ≡ map_some argument_of (slice_split is_comma (all_lexed pc (v ∷ vs)))
+arguments-cut : (pc : ℕ) (v : Operand) (vs : List Operand)
+    → arguments_of (all_lexed pc (v ∷ vs)) ≡ map_some argument_of
+    (slice_split is_comma (all_lexed pc (v ∷ vs)))
 unfolding arguments_of
 arguments-cut pc (operand.Register r) [] = refl
 arguments-cut pc _ [] = refl
@@ -242,7 +283,8 @@ arguments-cut pc (operand.Register r) (next ∷ vs) = refl
 arguments-cut pc _ (next ∷ vs) = refl
 
 -- the arguments of the lexemes are those that are shown
-pub arguments-lexed : (pc : ℕ) (vs : List Operand) → arguments_of (all_lexed pc vs) ≡ Some (map (shown pc) vs)
+pub arguments-lexed : (pc : ℕ) (vs : List Operand)
+    → arguments_of (all_lexed pc vs) ≡ Some (map (shown pc) vs)
 unfolding arguments_of
 arguments-lexed pc [] = refl
 arguments-lexed pc (v ∷ vs) = arguments-cut pc v vs ∙ arguments-split pc v vs
@@ -253,6 +295,7 @@ all_shown pc [] = tt
 all_shown pc (v ∷ vs) = (shows-shown pc v, all_shown pc vs)
 
 -- and they may stand for the kinds of the operands
-pub may_be_all-shown : (pc : ℕ) (vs : List Operand) → may_be_all (map kind_of vs) (map (shown pc) vs) ≡ true
+pub may_be_all-shown : (pc : ℕ) (vs : List Operand)
+    → may_be_all (map kind_of vs) (map (shown pc) vs) ≡ true
 may_be_all-shown pc [] = refl
 may_be_all-shown pc (v ∷ vs) = rw (may_be-shown pc v, may_be_all-shown pc vs) refl

@@ -15,7 +15,8 @@ use Rattle.mips_asm.specs.Sources.{IsImageOf}
 abbrev pub WordsAreReadAgain : Type 0
 WordsAreReadAgain =
     (labels : Labels) (number pc word : ℕ) → pc % 4 ≡ 0 → pc + 4 < 2 ^ 32 → word < 2 ^ 32
-    → (content : Content) × (line_parts number (word_text word pc) ≡ Some (part number content ∷ [])) × Gives labels pc content (to_be_bytes w32 word)
+    → (content : Content) × (line_parts number (word_text word pc) ≡ Some (part number content
+    ∷ [])) × Gives labels pc content (to_be_bytes w32 word)
 
 -- the texts of so many words of an image, from its start, each as a line of its own
 abbrev pub texts_of : List ℕ → ℕ → List ℕ
@@ -26,9 +27,11 @@ texts_of bytes (suc n) = texts_of bytes n ++ (word_text (word_at bytes (4 * n)) 
 abbrev pub whole_words : List ℕ → List ℕ
 whole_words bytes = bytes ++ replicate (padding 2 (length bytes)) 0
 
--- The texts of all the words of an image, without their addresses and digits, are a source of an image with
+-- The texts of all the words of an image, without their addresses and digits, are a source of an
+-- image with
 -- these bytes, filled up to a whole word, and with the entry 0.
 abbrev pub ListingsAreAssembledAgain : Type 0
 ListingsAreAssembledAgain =
     (bytes : List ℕ) → All (λ byte. byte < 2 ^ 8) bytes → length bytes ≤ 2 ^ 20
-    → (image : PlainImage) × (image.entry ≡ 0) × (image.bytes ≡ whole_words bytes) × IsImageOf (texts_of bytes ((length bytes + 3) / 4)) image
+    → (image : PlainImage) × (image.entry ≡ 0) × (image.bytes ≡ whole_words bytes)
+    × IsImageOf (texts_of bytes ((length bytes + 3) / 4)) image

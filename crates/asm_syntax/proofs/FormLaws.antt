@@ -7,36 +7,54 @@ use Rattle.std.proofs.lemmas.Option.{option_and_then_some as steps, same_Some}
 use Rattle.asm_syntax.specs.Forms.{map_some}
 
 -- nothing comes of what always gives nothing
-none_then : {X Y : Type 0} (f : X → Option Y) → ((x : X) → f x ≡ None) → (o : Option X) → option_and_then f o ≡ None
+none_then : {X Y : Type 0} (f : X → Option Y) → ((x : X) → f x ≡ None) → (o : Option X)
+    → option_and_then f o ≡ None
 none_then f never None = refl
 none_then f never (Some x) = never x
 
 module _ {X Y : Type 0} (f : X → Option Y) where
   -- one more element at the end
-  pub map_some-push : (xs : List X) (x : X) (ys : List Y) (y : Y) → map_some f xs ≡ Some ys → f x ≡ Some y → map_some f (xs ++ x ∷ []) ≡ Some (ys ++ y ∷ [])
-  map_some-push [] x ys y read one = rw one (ap (λ (front : List Y). Some (front ++ y ∷ [])) (same_Some [] ys read))
+  pub map_some-push : (xs : List X) (x : X) (ys : List Y) (y : Y) → map_some f xs ≡ Some ys
+      → f x ≡ Some y → map_some f (xs ++ x ∷ []) ≡ Some (ys ++ y ∷ [])
+  map_some-push [] x ys y read one =
+      rw one (ap (λ (front : List Y). Some (front ++ y ∷ [])) (same_Some [] ys read))
   map_some-push (z ∷ zs) x ys y read one =
       steps _ (f z) ys read (λ a first read.
       steps _ (map_some f zs) ys read (λ more rest same.
-      rw (first, map_some-push zs x more y rest one) (ap (λ (front : List Y). Some (front ++ y ∷ [])) (same_Some (a ∷ more) ys same))))
+      rw (first, map_some-push zs x more y rest one)
+      (ap (λ (front : List Y). Some (front ++ y ∷ [])) (same_Some (a ∷ more) ys same))))
 
   -- an element that gives nothing
-  pub map_some-none : (xs : List X) (x : X) (rest : List X) → f x ≡ None → map_some f (xs ++ (x ∷ rest)) ≡ None
+  pub map_some-none : (xs : List X) (x : X) (rest : List X) → f x ≡ None
+      → map_some f (xs ++ (x ∷ rest)) ≡ None
   map_some-none [] x rest none = rw none refl
-  map_some-none (z ∷ zs) x rest none = rw (map_some-none zs x rest none) (none_then (λ (y : Y). option_and_then (λ (ys : List Y). Some (y ∷ ys)) None) (λ y. refl) (f z))
+  map_some-none (z ∷ zs) x rest none =
+      rw (map_some-none zs x rest none)
+      (none_then (λ (y : Y). option_and_then (λ (ys : List Y). Some (y ∷ ys)) None) (λ y. refl)
+      (f z))
 
   -- the next element of a list, in a loop
-  pub map_some_more : (xs : List X) (i : ℕ) (d : X) (ys : List Y) (y : Y) → i < length xs → map_some f (take i xs) ≡ Some ys → f (get_or xs i d) ≡ Some y → map_some f (take (i + 1) xs) ≡ Some (ys ++ y ∷ [])
+  pub map_some_more : (xs : List X) (i : ℕ) (d : X) (ys : List Y) (y : Y) → i < length xs
+      → map_some f (take i xs) ≡ Some ys → f (get_or xs i d) ≡ Some y
+      → map_some f (take (i + 1) xs) ≡ Some (ys ++ y ∷ [])
   map_some_more xs i d ys y within read one =
-      ap (map_some f) (take_more xs i d within) ∙ map_some-push (take i xs) (get_or xs i d) ys y read one
+      ap (map_some f) (take_more xs i d within) ∙ map_some-push (take i xs) (get_or xs i d) ys y
+      read one
 
   -- an element of a list that gives nothing
-  pub map_some_stops : (xs : List X) (i : ℕ) (d : X) → i < length xs → f (get_or xs i d) ≡ None → map_some f xs ≡ None
+  pub map_some_stops : (xs : List X) (i : ℕ) (d : X) → i < length xs → f (get_or xs i d) ≡ None
+      → map_some f xs ≡ None
   map_some_stops xs i d within none =
-      ap (map_some f) (sym (take-append-drop i xs) ∙ ap (λ (rest : List X). take i xs ++ rest) (drop-cons xs i d within))
+      ap (map_some f) (sym (take-append-drop i xs) ∙ ap (λ (rest : List X). take i xs ++ rest)
+      (drop-cons xs i d within))
       ∙ map_some-none (take i xs) (get_or xs i d) (drop (suc i) xs) none
 
 -- what each of the elements gives that others are made to
-pub map_some_map : {X Y Z : Type 0} (f : Y → Option Z) (g : X → Y) (xs : List X) → map_some f (map g xs) ≡ map_some (λ (x : X). f (g x)) xs
+pub map_some_map : {X Y Z : Type 0} (f : Y → Option Z) (g : X → Y) (xs : List X)
+    → map_some f (map g xs) ≡ map_some (λ (x : X). f (g x)) xs
 map_some_map f g [] = refl
-map_some_map {X} {Y} {Z} f g (x ∷ xs) = ap (λ (o : Option (List Z)). option_and_then (λ (y : Z). option_and_then (λ (ys : List Z). Some (y ∷ ys)) o) (f (g x))) (map_some_map f g xs)
+map_some_map {X} {Y} {Z} f g (x ∷ xs) =
+    ap
+    (λ (o : Option (List Z)). option_and_then
+    (λ (y : Z). option_and_then (λ (ys : List Z). Some (y ∷ ys)) o) (f (g x)))
+    (map_some_map f g xs)

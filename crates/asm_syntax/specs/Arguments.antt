@@ -48,8 +48,10 @@ offset_of offset register = do
 -- One operand. A missing offset is 0.
 unfoldable pub argument_of : List Lexeme → Option Argument
 argument_of (one ∷ []) = single_of one
-argument_of (left ∷ register ∷ right ∷ []) = option_map (λ r. argument.Offset («value».Number zero_integer) r) (based_of left register right)
-argument_of (offset ∷ left ∷ register ∷ right ∷ []) = offset_of offset (based_of left register right)
+argument_of (left ∷ register ∷ right ∷ []) =
+    option_map (λ r. argument.Offset («value».Number zero_integer) r) (based_of left register right)
+argument_of (offset ∷ left ∷ register ∷ right ∷ []) =
+    offset_of offset (based_of left register right)
 argument_of _ = None
 
 -- a comma stands between operands

@@ -22,7 +22,8 @@ abbrev pub Answers : {A : Type 0} → Option A → Result A LineFault → Type 0
 Answers form (Ok value) = form ≡ Some value
 Answers form (Err fault) = Refuses form fault
 
--- What the form has was added at the end of a list. Where it was refused, nothing is said of the list.
+-- What the form has was added at the end of a list. Where it was refused, nothing is said of the
+-- list.
 abbrev pub Adds : {A B : Type 0} → Option (List A) → List A → Result B LineFault → List A → Type 0
 Adds {A} form old (Ok done) new = (more : List A) × (form ≡ Some more) × (new ≡ old ++ more)
 Adds form old (Err fault) new = Refuses form fault

@@ -169,7 +169,8 @@ may_be _ _ = false
 -- whether these operands may stand where the instruction takes those of these kinds
 abbrev pub may_be_all : List OperandKind → List Argument → Bool
 may_be_all [] [] = true
-may_be_all (kind ∷ shape) (argument ∷ arguments) = may_be kind argument && may_be_all shape arguments
+may_be_all (kind ∷ shape) (argument ∷ arguments) =
+    may_be kind argument && may_be_all shape arguments
 may_be_all _ _ = false
 
 -- an instruction with all its operands
@@ -180,7 +181,8 @@ instruction_of name arguments = do
 
 -- jalr rs is jalr $31, rs
 unfoldable pub jalr_of : List Argument → Option Content
-jalr_of (Register rs ∷ []) = Some (content.Instruction (codes "jalr") (Register 31 ∷ Register rs ∷ []))
+jalr_of (Register rs ∷ []) =
+    Some (content.Instruction (codes "jalr") (Register 31 ∷ Register rs ∷ []))
 jalr_of arguments = instruction_of (codes "jalr") arguments
 
 -- syscall and break without a code have the code 0
@@ -198,7 +200,8 @@ mnemonic_of name arguments =
     else (if bytes_eq name (codes "nop") then nop_of arguments
     else (if bytes_eq name (codes "b") then b_of arguments
     else (if bytes_eq name (codes "jalr") then jalr_of arguments
-    else (if bytes_eq name (codes "syscall") || bytes_eq name (codes "break") then coded_of name arguments
+    else (if bytes_eq name (codes "syscall") || bytes_eq name (codes "break") then coded_of name
+    arguments
     else instruction_of name arguments))))))
 
 -- the statement with this name and these operands, or none
@@ -229,7 +232,8 @@ last_of number _ = None
 
 -- the labels and the statement of the line of this number
 unfoldable pub parts_of : ℕ → List Lexeme → Option (List Part)
-parts_of number (lexeme.Name label ∷ lexeme.Colon ∷ rest) = option_map (λ more. part number (content.Label label) ∷ more) (parts_of number rest)
+parts_of number (lexeme.Name label ∷ lexeme.Colon ∷ rest) =
+    option_map (λ more. part number (content.Label label) ∷ more) (parts_of number rest)
 parts_of number lexemes = last_of number lexemes
 
 -- the same of a line's bytes
@@ -238,7 +242,8 @@ line_parts number line = lexemes_of line >>= parts_of number
 
 -- A line adds its parts to those of the lines before. It gives no value of its own.
 abbrev pub source_step : LineStep (List Part) (Unit {0})
-source_step before number line = option_map (λ more. (None, before ++ more)) (line_parts number line)
+source_step before number line =
+    option_map (λ more. (None, before ++ more)) (line_parts number line)
 
 -- the state behind the last line
 abbrev pub state_of : {S X : Type 0} → Result (List X × S) ℕ → Result S ℕ

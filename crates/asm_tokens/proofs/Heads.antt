@@ -12,10 +12,12 @@ pub rest_same : (x y : ℕ) (xs ys : List ℕ) → x ∷ xs ≡ y ∷ ys → xs 
 rest_same x y xs ys h = ap (drop 1) h
 
 -- what stands behind all those in front that pass a test begins with none that passes it
-pub FirstFails-behind : (test : ℕ → Bool) (bytes : List ℕ) → FirstFails test (drop (prefix_len test bytes) bytes)
+pub FirstFails-behind : (test : ℕ → Bool) (bytes : List ℕ)
+    → FirstFails test (drop (prefix_len test bytes) bytes)
 FirstFails-behind test [] = tt
 FirstFails-behind test (byte ∷ bytes) =
     elim (cases_Bool (test byte)) [
-      | inl passes ↦ let one : 1 + prefix_len test bytes ≡ suc (prefix_len test bytes) = omega arith in rw (passes, one) (FirstFails-behind test bytes)
+      | inl passes ↦ let one : 1 + prefix_len test bytes ≡ suc (prefix_len test bytes) =
+          omega arith in rw (passes, one) (FirstFails-behind test bytes)
       | inr fails ↦ rw fails fails
     ]

@@ -25,7 +25,8 @@ no_number n h = elim h [
 
 -- a whole number of this sign
 signed_exact : (negative : Bool) (word : List ℕ) (i : Integer)
-    → (option_map (signed negative) (number_of word) ≡ Some i) ↔ ((i.negative ≡ negative) × IsNumber word i.magnitude)
+    → (option_map (signed negative) (number_of word) ≡ Some i) ↔ ((i.negative ≡ negative)
+    × IsNumber word i.magnitude)
 signed_exact negative word i = (
   λ h.
       let m = option_map_some (signed negative) (number_of word) i h in
@@ -38,17 +39,23 @@ pub integer_of-exact : (text : List ℕ) (i : Integer) → (integer_of text ≡ 
 unfolding integer_of
 integer_of-exact [] i = (
   λ h. absurd (none-some i h),
-  λ h. elim h [ inl n ↦ absurd (no_number i.magnitude n.1) | inr x ↦ absurd (omega (arith, ap length x.1)) ],
+  λ h. elim h [
+    | inl n ↦ absurd (no_number i.magnitude n.1)
+    | inr x ↦
+        absurd (omega (arith, ap length x.1))
+  ],
 )
 integer_of-exact (first ∷ rest) i =
     elim (cases_Bool (eqb first 45)) [
       | inl minus ↦
           let is : first ≡ 45 = eqb-true first 45 minus in
           rw minus (
-            λ h. let s = (signed_exact true rest i).0 h in inr (rest, ap (λ b. b ∷ rest) is, s.0, s.1),
+            λ h. let s = (signed_exact true rest i).0 h in
+                inr (rest, ap (λ b. b ∷ rest) is, s.0, s.1),
             λ h. elim h [
               | inl n ↦ absurd (no_minus rest i.magnitude (rw is at n.1))
-              | inr x ↦ let same = rest_same first 45 rest x.0 x.1 in (signed_exact true rest i).1 (x.2, rw same (x.3))
+              | inr x ↦ let same = rest_same first 45 rest x.0 x.1 in (signed_exact true rest i).1
+                  (x.2, rw same (x.3))
             ],
           )
       | inr plain ↦
@@ -56,7 +63,8 @@ integer_of-exact (first ∷ rest) i =
             λ h. inl ((signed_exact false (first ∷ rest) i).0 h),
             λ h. elim h [
               | inl n ↦ (signed_exact false (first ∷ rest) i).1 n
-              | inr x ↦ let is = first_same first 45 rest x.0 x.1 in absurd (true≢false (rw is at plain))
+              | inr x ↦ let is = first_same first 45 rest x.0 x.1 in
+                  absurd (true≢false (rw is at plain))
             ],
           )
     ]

@@ -48,7 +48,8 @@ escape_only letter byte h =
 -- ---- what is read
 
 -- what a byte in front was put on
-in_front_some : (byte : ℕ) (read : Option (List ℕ × List ℕ)) (bytes behind : List ℕ) → in_front byte read ≡ Some (bytes, behind)
+in_front_some : (byte : ℕ) (read : Option (List ℕ × List ℕ)) (bytes behind : List ℕ)
+    → in_front byte read ≡ Some (bytes, behind)
     → (more : List ℕ) × (read ≡ Some (more, behind)) × (bytes ≡ byte ∷ more)
 in_front_some byte None bytes behind h = absurd (none-some (bytes, behind) h)
 in_front_some byte (Some read) bytes behind h =
@@ -61,43 +62,76 @@ shown true body = 92 ∷ body
 shown false body = body
 
 -- a byte that is written as itself
-wrote_itself : (byte : ℕ) (own bytes : List ℕ) → eqb byte 34 ≡ false → eqb byte 92 ≡ false → WritesBytes own bytes → WritesBytes (byte ∷ own) (byte ∷ bytes)
-wrote_itself byte own bytes plain itself w =
-    (byte ∷ [], own, refl, inl (refl, λ e. both_ways (eqb byte 34) plain (eq-eqb byte 34 e), λ e. both_ways (eqb byte 92) itself (eq-eqb byte 92 e)), w)
+wrote_itself : (byte : ℕ) (own bytes : List ℕ) → eqb byte 34 ≡ false → eqb byte 92 ≡ false
+    → WritesBytes own bytes → WritesBytes (byte ∷ own) (byte ∷ bytes)
+wrote_itself byte own bytes plain itself w = (
+  byte ∷ [],
+  own,
+  refl,
+  inl (
+    refl,
+    λ e. both_ways (eqb byte 34) plain (eq-eqb byte 34 e),
+    λ e. both_ways (eqb byte 92) itself (eq-eqb byte 92 e),
+  ),
+  w,
+)
 
 -- what is read is written so
-pub read_quoted-found : (escaped : Bool) (body bytes behind : List ℕ) → read_quoted escaped body ≡ Some (bytes, behind)
+pub read_quoted-found : (escaped : Bool) (body bytes behind : List ℕ)
+    → read_quoted escaped body ≡ Some (bytes, behind)
     → (own : List ℕ) × (shown escaped body ≡ own ++ behind) × WritesBytes own bytes
 unfolding read_quoted
 read_quoted-found escaped [] bytes behind h = absurd (none-some (bytes, behind) h)
 read_quoted-found true (letter ∷ more) bytes behind h =
-    option_and_then_some (λ byte. in_front byte (read_quoted false more)) (escape_of letter) (bytes, behind) h (λ byte is front.
+    option_and_then_some (λ byte. in_front byte (read_quoted false more)) (escape_of letter)
+    (bytes, behind) h (λ byte is front.
     let r = in_front_some byte (read_quoted false more) bytes behind front in
-    let w = read_quoted-found false more r.0 behind r.1 in
-    (92 ∷ letter ∷ w.0, ap (λ m. 92 ∷ letter ∷ m) w.1, subst (WritesBytes (92 ∷ letter ∷ w.0)) (sym r.2) (92 ∷ letter ∷ [], w.0, refl, inr (letter, refl, escape_found letter byte is), w.2)))
+    let w = read_quoted-found false more r.0 behind r.1 in (
+      92 ∷ letter ∷ w.0,
+      ap (λ m. 92 ∷ letter ∷ m) w.1,
+      subst (WritesBytes (92 ∷ letter ∷ w.0))
+          (sym r.2) (
+            92 ∷ letter ∷ [],
+            w.0,
+            refl,
+            inr (letter, refl, escape_found letter byte is),
+            w.2,
+          ),
+    ))
 read_quoted-found false (byte ∷ more) bytes behind h =
     elim (cases_Bool (eqb byte 34)) [
       | inl quote ↦
-          let e = some_pair_parts [] bytes more behind (rw quote at h) in
-          (34 ∷ [], ap (λ b. b ∷ more) (eqb-true byte 34 quote) ∙ ap (λ m. 34 ∷ m) e.1, rw (sym e.0) refl)
+          let e = some_pair_parts [] bytes more behind (rw quote at h) in (
+            34 ∷ [],
+            ap (λ b. b ∷ more) (eqb-true byte 34 quote) ∙ ap (λ m. 34 ∷ m) e.1,
+            rw (sym e.0)
+                refl,
+          )
       | inr plain ↦ elim (cases_Bool (eqb byte 92)) [
         | inl escape ↦
             let w = read_quoted-found true more bytes behind (rw (plain, escape) at h) in
             (w.0, ap (λ b. b ∷ more) (eqb-true byte 92 escape) ∙ w.1, w.2)
         | inr itself ↦
-            let r = in_front_some byte (read_quoted false more) bytes behind (rw (plain, itself) at h) in
-            let w = read_quoted-found false more r.0 behind r.1 in
-            (byte ∷ w.0, ap (λ m. byte ∷ m) w.1, subst (WritesBytes (byte ∷ w.0)) (sym r.2) (wrote_itself byte w.0 r.0 plain itself w.2))
+            let r = in_front_some byte (read_quoted false more) bytes behind
+            (rw (plain, itself) at h) in
+            let w = read_quoted-found false more r.0 behind r.1 in (
+              byte ∷ w.0,
+              ap (λ m. byte ∷ m) w.1,
+              subst (WritesBytes (byte ∷ w.0)) (sym r.2)
+                  (wrote_itself byte w.0 r.0 plain itself w.2),
+            )
       ]
     ]
 
 -- what is written so is read
-pub read_quoted-only : (bytes own behind : List ℕ) → WritesBytes own bytes → read_quoted false (own ++ behind) ≡ Some (bytes, behind)
+pub read_quoted-only : (bytes own behind : List ℕ) → WritesBytes own bytes
+    → read_quoted false (own ++ behind) ≡ Some (bytes, behind)
 unfolding read_quoted
 read_quoted-only [] own behind w = rw w refl
 read_quoted-only (byte ∷ bytes) own behind w =
     let more = w.1 in
-    let then : read_quoted false (more ++ behind) ≡ Some (bytes, behind) = read_quoted-only bytes more behind w.4 in
+    let then : read_quoted false (more ++ behind) ≡ Some (bytes, behind) = read_quoted-only bytes
+    more behind w.4 in
     elim w.3 [
       | inl itself ↦
           let whole : own ≡ byte ∷ more = w.2 ∙ ap (λ s. s ++ more) itself.0 in
@@ -108,20 +142,28 @@ read_quoted-only (byte ∷ bytes) own behind w =
     ]
 
 -- nothing stands behind what is whole
-if_whole_some : (read : List ℕ × List ℕ) (bytes : List ℕ) → if_whole read ≡ Some bytes → read ≡ (bytes, [])
+if_whole_some : (read : List ℕ × List ℕ) (bytes : List ℕ) → if_whole read ≡ Some bytes
+    → read ≡ (bytes, [])
 if_whole_some (own, []) bytes h = ap (λ (b : List ℕ). (b, [])) (cc h)
 if_whole_some (own, byte ∷ more) bytes h = absurd (none-some bytes h)
 
 pub quoted_of-exact : (text bytes : List ℕ) → (quoted_of text ≡ Some bytes) ↔ Quotes text bytes
 unfolding quoted_of
-quoted_of-exact [] bytes = (λ h. absurd (none-some bytes h), λ h. absurd (omega (arith, ap length h.1)))
+quoted_of-exact [] bytes =
+    (λ h. absurd (none-some bytes h), λ h. absurd (omega (arith, ap length h.1)))
 quoted_of-exact (first ∷ body) bytes = (
   λ h.
       elim (cases_Bool (eqb first 34)) [
         | inl quote ↦
-            option_and_then_some if_whole (read_quoted false body) bytes (rw quote at h) (λ read is whole.
-            let found = read_quoted-found false body bytes [] (is ∙ ap Some (if_whole_some read bytes whole)) in
-            (body, ap (λ b. b ∷ body) (eqb-true first 34 quote), subst (λ (own : List ℕ). WritesBytes own bytes) (sym (append-nil found.0) ∙ sym found.1) found.2))
+            option_and_then_some if_whole (read_quoted false body) bytes (rw quote at h)
+            (λ read is whole.
+            let found = read_quoted-found false body bytes []
+            (is ∙ ap Some (if_whole_some read bytes whole)) in (
+              body,
+              ap (λ b. b ∷ body) (eqb-true first 34 quote),
+              subst (λ (own : List ℕ). WritesBytes own bytes) (sym (append-nil found.0)
+                  ∙ sym found.1) found.2,
+            ))
         | inr away ↦ absurd (none-some bytes (rw away at h))
       ],
   λ h.
@@ -135,7 +177,8 @@ quoted_of-exact (first ∷ body) bytes = (
 
 -- behind a `\`
 escaped_one : (rest : List ℕ) (byte : ℕ) (more : List ℕ) → escaped_first rest ≡ Some (byte, more)
-    → (read_quoted true rest ≡ in_front byte (read_quoted false more)) × (length more < length (92 ∷ rest))
+    → (read_quoted true rest ≡ in_front byte (read_quoted false more))
+    × (length more < length (92 ∷ rest))
 unfolding read_quoted
 escaped_one [] byte more h = absurd (none-some (byte, more) h)
 escaped_one (letter ∷ left) byte more h =
@@ -146,10 +189,13 @@ escaped_one (letter ∷ left) byte more h =
 escaped_none : (rest : List ℕ) → escaped_first rest ≡ None → read_quoted true rest ≡ None
 unfolding read_quoted
 escaped_none [] h = refl
-escaped_none (letter ∷ left) h = let none = option_map_none (λ b. (b, left)) (escape_of letter) h in rw none refl
+escaped_none (letter ∷ left) h =
+    let none = option_map_none (λ b. (b, left)) (escape_of letter) h in rw none refl
 
-pub read_quoted-one : (body : List ℕ) (byte : ℕ) (more : List ℕ) → written_first body ≡ Some (byte, more)
-    → (read_quoted false body ≡ in_front byte (read_quoted false more)) × (length more < length body)
+pub read_quoted-one : (body : List ℕ) (byte : ℕ) (more : List ℕ)
+    → written_first body ≡ Some (byte, more)
+    → (read_quoted false body ≡ in_front byte (read_quoted false more))
+    × (length more < length body)
 unfolding read_quoted written_first
 read_quoted-one [] byte more h = absurd (none-some (byte, more) h)
 read_quoted-one (first ∷ rest) byte more h =
@@ -163,7 +209,8 @@ read_quoted-one (first ∷ rest) byte more h =
       ]
     ]
 
-pub read_quoted-none : (body : List ℕ) → written_first body ≡ None → read_quoted false body ≡ option_map (λ behind. ([], behind)) (after_quote body)
+pub read_quoted-none : (body : List ℕ) → written_first body ≡ None
+    → read_quoted false body ≡ option_map (λ behind. ([], behind)) (after_quote body)
 unfolding read_quoted written_first
 read_quoted-none [] h = refl
 read_quoted-none (first ∷ rest) h =
@@ -180,7 +227,8 @@ abbrev pub put_front : List ℕ → Option (List ℕ × List ℕ) → Option (Li
 put_front front read = option_map (λ read. (front ++ read.0, read.1)) read
 
 -- one byte more
-pub put_front-one : (front : List ℕ) (byte : ℕ) (read : Option (List ℕ × List ℕ)) → put_front (front ++ byte ∷ []) read ≡ put_front front (in_front byte read)
+pub put_front-one : (front : List ℕ) (byte : ℕ) (read : Option (List ℕ × List ℕ))
+    → put_front (front ++ byte ∷ []) read ≡ put_front front (in_front byte read)
 put_front-one front byte None = refl
 put_front-one front byte (Some read) = rw append_assoc refl
 
@@ -190,37 +238,49 @@ put_front-nil None = refl
 put_front-nil (Some read) = refl
 
 -- a byte in front changes nothing of what stands behind the closing quote
-behind-in_front : (byte : ℕ) (read : Option (List ℕ × List ℕ)) → option_map (λ read. read.1) (in_front byte read) ≡ option_map (λ read. read.1) read
+behind-in_front : (byte : ℕ) (read : Option (List ℕ × List ℕ))
+    → option_map (λ read. read.1) (in_front byte read) ≡ option_map (λ read. read.1) read
 behind-in_front byte None = refl
 behind-in_front byte (Some read) = refl
 
 pub behind-one : (rest : List ℕ) (byte : ℕ) (more : List ℕ) → Some (byte, more) ≡ written_first rest
-    → option_map (λ read. read.1) (read_quoted false more) ≡ option_map (λ read. read.1) (read_quoted false rest)
+    → option_map (λ read. read.1) (read_quoted false more) ≡ option_map (λ read. read.1)
+    (read_quoted false rest)
 behind-one rest byte more h =
     let one = read_quoted-one rest byte more (sym h) in
-    sym (behind-in_front byte (read_quoted false more)) ∙ ap (λ read. option_map (λ read. read.1) read) (sym one.0)
+    sym (behind-in_front byte (read_quoted false more))
+    ∙ ap (λ read. option_map (λ read. read.1) read) (sym one.0)
 
-behind_pair : (behind : Option (List ℕ)) → option_map (λ (read : List ℕ × List ℕ). read.1) (option_map (λ behind. ([], behind)) behind) ≡ behind
+behind_pair : (behind : Option (List ℕ))
+    → option_map (λ (read : List ℕ × List ℕ). read.1) (option_map (λ behind. ([], behind)) behind)
+    ≡ behind
 behind_pair None = refl
 behind_pair (Some behind) = refl
 
-pub behind-none : (rest : List ℕ) → written_first rest ≡ None → option_map (λ read. read.1) (read_quoted false rest) ≡ after_quote rest
+pub behind-none : (rest : List ℕ) → written_first rest ≡ None
+    → option_map (λ read. read.1) (read_quoted false rest) ≡ after_quote rest
 behind-none rest h = rw (read_quoted-none rest h) (behind_pair (after_quote rest))
 
 -- the same of the bytes so far
-pub put_front-step : (front : List ℕ) (rest : List ℕ) (byte : ℕ) (more : List ℕ) → Some (byte, more) ≡ written_first rest
-    → put_front (front ++ byte ∷ []) (read_quoted false more) ≡ put_front front (read_quoted false rest)
+pub put_front-step : (front : List ℕ) (rest : List ℕ) (byte : ℕ) (more : List ℕ)
+    → Some (byte, more) ≡ written_first rest
+    → put_front (front ++ byte ∷ []) (read_quoted false more) ≡ put_front front
+    (read_quoted false rest)
 put_front-step front rest byte more h =
     let one = read_quoted-one rest byte more (sym h) in
     put_front-one front byte (read_quoted false more) ∙ ap (put_front front) (sym one.0)
 
 -- where the rest is the closing quote alone
-pub put_front-closed : (front rest : List ℕ) → bytes_eq rest (34 ∷ []) ≡ true → option_and_then if_whole (put_front front (read_quoted false rest)) ≡ Some front
+pub put_front-closed : (front rest : List ℕ) → bytes_eq rest (34 ∷ []) ≡ true
+    → option_and_then if_whole (put_front front (read_quoted false rest)) ≡ Some front
 unfolding read_quoted
-put_front-closed front rest h = let is : rest ≡ 34 ∷ [] = (bytes_eq-Decides rest (34 ∷ [])).0 h in rw is (ap Some (append-nil front))
+put_front-closed front rest h =
+    let is : rest
+    ≡ 34 ∷ [] = (bytes_eq-Decides rest (34 ∷ [])).0 h in rw is (ap Some (append-nil front))
 
 -- where no byte is left to be written, and the rest isn't that
-left_open : (front : List ℕ) (behind : Option (List ℕ)) → (behind ≡ Some [] → ⊥) → option_and_then if_whole (put_front front (option_map (λ behind. ([], behind)) behind)) ≡ None
+left_open : (front : List ℕ) (behind : Option (List ℕ)) → (behind ≡ Some [] → ⊥)
+    → option_and_then if_whole (put_front front (option_map (λ behind. ([], behind)) behind)) ≡ None
 left_open front None never = refl
 left_open front (Some []) never = absurd (never refl)
 left_open front (Some (byte ∷ more)) never = refl
@@ -231,8 +291,10 @@ after_quote_whole (byte ∷ more) h =
     let e = cond_some (eqb byte 34) more [] h in
     ap (λ b. b ∷ more) (eqb-true byte 34 e.0) ∙ ap (λ m. 34 ∷ m) e.1
 
-pub put_front-open : (front rest : List ℕ) → written_first rest ≡ None → bytes_eq rest (34 ∷ []) ≡ false
+pub put_front-open : (front rest : List ℕ) → written_first rest ≡ None
+    → bytes_eq rest (34 ∷ []) ≡ false
     → option_and_then if_whole (put_front front (read_quoted false rest)) ≡ None
 put_front-open front rest none away =
     rw (read_quoted-none rest none)
-    (left_open front (after_quote rest) (λ whole. both_ways (bytes_eq rest (34 ∷ [])) away ((bytes_eq-Decides rest (34 ∷ [])).1 (after_quote_whole rest whole))))
+    (left_open front (after_quote rest) (λ whole. both_ways (bytes_eq rest (34 ∷ [])) away
+    ((bytes_eq-Decides rest (34 ∷ [])).1 (after_quote_whole rest whole))))

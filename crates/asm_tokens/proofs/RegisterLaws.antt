@@ -13,7 +13,8 @@ use Rattle.asm_tokens.specs.Registers.{IsRegister, register_names, register_numb
 -- ---- first places
 
 -- a first place, where each element is seen through a function
-prefix_len-map : {A B : Type 0} (see : A → B) (p : B → Bool) (xs : List A) → prefix_len (λ x. p (see x)) xs ≡ prefix_len p (map see xs)
+prefix_len-map : {A B : Type 0} (see : A → B) (p : B → Bool) (xs : List A)
+    → prefix_len (λ x. p (see x)) xs ≡ prefix_len p (map see xs)
 prefix_len-map see p [] = refl
 prefix_len-map see p (x ∷ xs) = ap (λ n. cond (p (see x)) (1 + n) 0) (prefix_len-map see p xs)
 
@@ -21,7 +22,8 @@ length-seen : {A B : Type 0} (see : A → B) (xs : List A) → length xs ≡ len
 length-seen see [] = refl
 length-seen see (x ∷ xs) = ap suc (length-seen see xs)
 
-pub position-map : {A B : Type 0} (see : A → B) (p : B → Bool) (xs : List A) → position (λ x. p (see x)) xs ≡ position p (map see xs)
+pub position-map : {A B : Type 0} (see : A → B) (p : B → Bool) (xs : List A)
+    → position (λ x. p (see x)) xs ≡ position p (map see xs)
 position-map see p xs = rw (prefix_len-map see (λ y. not (p y)) xs, length-seen see xs) refl
 
 -- where an element of two lists stands
@@ -30,11 +32,17 @@ slice_get-append : {A : Type 0} (xs ys : List A) (i : ℕ) (x : A) → slice_get
 slice_get-append [] ys i x h = inr (i, omega arith, h)
 slice_get-append (y ∷ xs) ys zero x h = inl h
 slice_get-append (y ∷ xs) ys (suc i) x h =
-    elim (slice_get-append xs ys i x h) [ inl here ↦ inl here | inr there ↦ inr (there.0, omega (arith, there.1), there.2) ]
+    elim (slice_get-append xs ys i x h) [
+      | inl here ↦ inl here
+      | inr there ↦
+          inr (there.0, omega (arith, there.1), there.2)
+    ]
 
 -- ---- from the function to the table
 
-found : (text : List ℕ) (place : ℕ) → slice_get (register_numbers ++ register_names) place ≡ Some text → IsRegister text (place % 32)
+found : (text : List ℕ) (place : ℕ)
+    → slice_get (register_numbers ++ register_names) place ≡ Some text
+    → IsRegister text (place % 32)
 unfolding register_numbers register_names
 found text place h =
     elim (slice_get-append register_numbers register_names place text h) [
@@ -64,16 +72,19 @@ gives : ℕ → List (List ℕ) → Bool
 gives i [] = true
 gives i (text ∷ texts) = is_some_of (register_of text) i && gives (i + 1) texts
 
-gives_at : (i : ℕ) (texts : List (List ℕ)) (k : ℕ) (text : List ℕ) → gives i texts ≡ true → slice_get texts k ≡ Some text → register_of text ≡ Some (i + k)
+gives_at : (i : ℕ) (texts : List (List ℕ)) (k : ℕ) (text : List ℕ) → gives i texts ≡ true
+    → slice_get texts k ≡ Some text → register_of text ≡ Some (i + k)
 unfolding gives
 gives_at i [] k text all h = absurd (none-some text h)
 gives_at i (t ∷ texts) zero text all h =
-    let here = is_some_of-true (register_of t) i (and_parts (is_some_of (register_of t) i) (gives (i + 1) texts) all).0 in
+    let here = is_some_of-true (register_of t) i (and_parts (is_some_of (register_of t) i)
+    (gives (i + 1) texts) all).0 in
     let same : t ≡ text = cc h in
     let sum : i + 0 ≡ i = omega arith in
     rw (sum, ← same) here
 gives_at i (t ∷ texts) (suc k) text all h =
-    let there = gives_at (i + 1) texts k text (and_parts (is_some_of (register_of t) i) (gives (i + 1) texts) all).1 h in
+    let there = gives_at (i + 1) texts k text (and_parts (is_some_of (register_of t) i)
+    (gives (i + 1) texts) all).1 h in
     let sum : i + suc k ≡ (i + 1) + k = omega arith in
     rw sum there
 
@@ -112,4 +123,7 @@ register_of-exact text r = (
 -- there are 32 of them
 pub register_small : (text : List ℕ) (r : ℕ) → IsRegister text r → r < 32
 unfolding register_numbers register_names
-register_small text r h = elim h [ inl number ↦ slice_get_within register_numbers r text number | inr name ↦ slice_get_within register_names r text name ]
+register_small text r h = elim h [
+  | inl number ↦ slice_get_within register_numbers r text number
+  | inr name ↦ slice_get_within register_names r text name
+]

@@ -7,7 +7,8 @@ use Rattle.asm_tokens.specs.declared.integers.Integer.{Integer}
 abbrev pub IsInteger : List ℕ → Integer → Type 0
 IsInteger text integer =
     ((integer.negative ≡ false) × IsNumber text integer.magnitude)
-    ⊎ ((digits : List ℕ) × (text ≡ 45 ∷ digits) × (integer.negative ≡ true) × IsNumber digits integer.magnitude)
+    ⊎ ((digits : List ℕ) × (text ≡ 45 ∷ digits) × (integer.negative ≡ true) × IsNumber digits
+    integer.magnitude)
 
 -- the number in ℤ
 abbrev pub whole : Integer → ℤ
@@ -22,4 +23,5 @@ signed negative magnitude = record { negative = negative; magnitude = magnitude 
 unfoldable pub integer_of : List ℕ → Option Integer
 integer_of [] = None
 integer_of (first ∷ rest) =
-    if first == 45 then option_map (signed true) (number_of rest) else option_map (signed false) (number_of (first ∷ rest))
+    if first == 45 then option_map (signed true) (number_of rest) else option_map (signed false)
+    (number_of (first ∷ rest))

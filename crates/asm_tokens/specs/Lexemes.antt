@@ -19,10 +19,12 @@ IsName (first ∷ rest) = IsTrue (begins_name first) × IsTrue (list_all is_name
 
 -- ---- quoted texts
 
--- what the letter behind `\` stands for: `n` for byte 10, `0` for byte 0, `\` and `"` for themselves
+-- what the letter behind `\` stands for: `n` for byte 10, `0` for byte 0, `\` and `"` for
+-- themselves
 abbrev pub IsEscape : ℕ → ℕ → Type 0
 IsEscape letter byte =
-    ((letter ≡ 110) × (byte ≡ 10)) ⊎ ((letter ≡ 48) × (byte ≡ 0)) ⊎ ((letter ≡ 92) × (byte ≡ 92)) ⊎ ((letter ≡ 34) × (byte ≡ 34))
+    ((letter ≡ 110) × (byte ≡ 10)) ⊎ ((letter ≡ 48) × (byte ≡ 0)) ⊎ ((letter ≡ 92) × (byte ≡ 92))
+    ⊎ ((letter ≡ 34) × (byte ≡ 34))
 
 -- how one byte is written: as itself, unless it is a quote or `\`, or as an escape
 abbrev pub WritesByte : List ℕ → ℕ → Type 0
@@ -30,11 +32,13 @@ WritesByte written byte =
     ((written ≡ byte ∷ []) × (byte ≢ 34) × (byte ≢ 92))
     ⊎ ((letter : ℕ) × (written ≡ 92 ∷ letter ∷ []) × IsEscape letter byte)
 
--- what stands behind the opening quote writes these bytes one after another, and ends with the closing quote
+-- what stands behind the opening quote writes these bytes one after another, and ends with the
+-- closing quote
 abbrev pub WritesBytes : List ℕ → List ℕ → Type 0
 WritesBytes body [] = body ≡ 34 ∷ []
 WritesBytes body (byte ∷ bytes) =
-    (written more : List ℕ) × (body ≡ written ++ more) × WritesByte written byte × WritesBytes more bytes
+    (written more : List ℕ) × (body ≡ written ++ more) × WritesByte written byte × WritesBytes more
+    bytes
 
 -- the quoted text stands for these bytes
 abbrev pub Quotes : List ℕ → List ℕ → Type 0
@@ -45,22 +49,27 @@ Quotes text bytes = (body : List ℕ) × (text ≡ 34 ∷ body) × WritesBytes b
 -- what the letter behind `\` stands for, or none
 unfoldable pub escape_of : ℕ → Option ℕ
 escape_of letter =
-    if letter == 110 then Some 10 else if letter == 48 then Some 0 else if letter == 92 then Some 92 else if letter == 34 then Some 34 else None
+    if letter == 110 then Some 10 else if letter == 48 then Some 0 else if letter == 92 then Some 92
+    else if letter == 34 then Some 34 else None
 
 -- a byte in front of those that follow; what stands behind the closing quote stays
 abbrev pub in_front : ℕ → Option (List ℕ × List ℕ) → Option (List ℕ × List ℕ)
 in_front byte None = None
 in_front byte (Some read) = Some (byte ∷ read.0, read.1)
 
--- What is written up to the closing quote, and what stands behind that quote; none where an escape is
+-- What is written up to the closing quote, and what stands behind that quote; none where an escape
+-- is
 -- unknown or no quote closes. The test says whether a `\` stands right before.
 unfoldable pub read_quoted : Bool → List ℕ → Option (List ℕ × List ℕ)
 read_quoted escaped [] = None
-read_quoted true (letter ∷ more) = option_and_then (λ byte. in_front byte (read_quoted false more)) (escape_of letter)
+read_quoted true (letter ∷ more) =
+    option_and_then (λ byte. in_front byte (read_quoted false more)) (escape_of letter)
 read_quoted false (byte ∷ more) =
-    if byte == 34 then Some ([], more) else if byte == 92 then read_quoted true more else in_front byte (read_quoted false more)
+    if byte == 34 then Some ([], more) else if byte == 92 then read_quoted true more
+    else in_front byte (read_quoted false more)
 
--- what the letter behind a `\` and what follows it give: the byte, and what is left; none where the escape is unknown
+-- what the letter behind a `\` and what follows it give: the byte, and what is left; none where the
+-- escape is unknown
 abbrev pub escaped_first : List ℕ → Option (ℕ × List ℕ)
 escaped_first [] = None
 escaped_first (letter ∷ more) = option_map (λ byte. (byte, more)) (escape_of letter)
@@ -68,7 +77,8 @@ escaped_first (letter ∷ more) = option_map (λ byte. (byte, more)) (escape_of 
 -- the first byte that is written, and what is left; none at a closing quote, too
 unfoldable pub written_first : List ℕ → Option (ℕ × List ℕ)
 written_first [] = None
-written_first (byte ∷ more) = if byte == 34 then None else if byte == 92 then escaped_first more else Some (byte, more)
+written_first (byte ∷ more) =
+    if byte == 34 then None else if byte == 92 then escaped_first more else Some (byte, more)
 
 -- what stands behind a quote at the front, or none
 abbrev pub after_quote : List ℕ → Option (List ℕ)
@@ -83,4 +93,5 @@ if_whole (bytes, byte ∷ more) = None
 -- the bytes that a quoted text stands for, or none
 unfoldable pub quoted_of : List ℕ → Option (List ℕ)
 quoted_of [] = None
-quoted_of (first ∷ body) = if first == 34 then option_and_then if_whole (read_quoted false body) else None
+quoted_of (first ∷ body) =
+    if first == 34 then option_and_then if_whole (read_quoted false body) else None

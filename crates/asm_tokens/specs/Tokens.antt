@@ -35,7 +35,8 @@ FirstFails test (byte ∷ behind) = test byte ≡ false
 abbrev pub NoNameByte : List ℕ → Type 0
 NoNameByte behind = FirstFails is_name_byte behind
 
--- A token of this kind may end before these bytes: a name, a number or a register takes all letters,
+-- A token of this kind may end before these bytes: a name, a number or a register takes all
+-- letters,
 -- digits, `_` and `.` that follow.
 abbrev pub EndsBefore : TokenKind → List ℕ → Type 0
 EndsBefore Name behind = NoNameByte behind
@@ -62,11 +63,13 @@ pub record BlankBetween (line : List ℕ) (from to : ℕ) : Type 0 where
   pub within : to ≤ length line
   pub blanks : IsTrue (list_all is_blank (slice_range line from to))
 
--- these tokens, one behind the other, and blanks alone between them, stand from the one place to the other
+-- these tokens, one behind the other, and blanks alone between them, stand from the one place to
+-- the other
 abbrev pub StandBetween : List ℕ → ℕ → List Token → ℕ → Type 0
 StandBetween line from [] to = BlankBetween line from to
 StandBetween line from (token ∷ tokens) to =
-    BlankBetween line from token.start × IsTokenOf line token × StandBetween line token.end tokens to
+    BlankBetween line from token.start × IsTokenOf line token × StandBetween line token.end tokens
+    to
 
 -- nothing stands there any more, or a comment begins
 abbrev pub is_over : List ℕ → Bool
@@ -113,13 +116,15 @@ run_of bytes = 1 + prefix_len is_name_byte (drop 1 bytes)
 abbrev pub so_many : Bool → ℕ → Option ℕ
 so_many passes count = if passes then Some count else None
 
--- how many bytes a token of this kind takes that begins with the first of these bytes, or none where
+-- how many bytes a token of this kind takes that begins with the first of these bytes, or none
+-- where
 -- there is no such token
 unfoldable pub size_of : TokenKind → List ℕ → Option ℕ
 size_of Name bytes = Some (run_of bytes)
 size_of Number bytes = so_many (is_some (integer_of (take (run_of bytes) bytes))) (run_of bytes)
 size_of Register bytes = so_many (is_some (register_of (take (run_of bytes) bytes))) (run_of bytes)
-size_of Text bytes = option_map (λ read. length bytes - length read.1) (read_quoted false (drop 1 bytes))
+size_of Text bytes =
+    option_map (λ read. length bytes - length read.1) (read_quoted false (drop 1 bytes))
 size_of Comma bytes = Some 1
 size_of Colon bytes = Some 1
 size_of Left bytes = Some 1
@@ -129,7 +134,8 @@ size_of Right bytes = Some 1
 unfoldable pub token_of : List ℕ → Option (TokenKind × ℕ)
 token_of [] = None
 token_of (first ∷ rest) =
-    option_and_then (λ kind. option_map (λ size. (kind, size)) (size_of kind (first ∷ rest))) (kind_of first)
+    option_and_then (λ kind. option_map (λ size. (kind, size)) (size_of kind (first ∷ rest)))
+    (kind_of first)
 
 -- tokens in front of those that follow
 abbrev pub with_tokens : List Token → Result (List Token) ℕ → Result (List Token) ℕ
@@ -140,12 +146,14 @@ with_tokens front (Err bad) = Err bad
 abbrev pub token_at : ℕ → TokenKind × ℕ → Token
 token_at at found = record { kind = found.0; start = at; end = at + found.1 }
 
--- what follows of the token that begins at a place, if there is one; the tokens behind it depend on its size
+-- what follows of the token that begins at a place, if there is one; the tokens behind it depend on
+-- its size
 abbrev pub go_on : ℕ → Option (TokenKind × ℕ) → (ℕ → Result (List Token) ℕ) → Result (List Token) ℕ
 go_on at None more = Err at
 go_on at (Some found) more = with_tokens (token_at at found ∷ []) (more (found.1 - 1))
 
--- The tokens of what stands from a place on, or the place of the first byte that begins none. So many
+-- The tokens of what stands from a place on, or the place of the first byte that begins none. So
+-- many
 -- bytes are passed over first: those of the token before that are left.
 unfoldable pub tokens_from : ℕ → ℕ → List ℕ → Result (List Token) ℕ
 tokens_from at left [] = Ok []

@@ -8,7 +8,11 @@ prints text = record { text = text; file = None; status = 0 }
 
 -- the answer that puts this file and prints this text
 abbrev pub writes : List ℕ → List ℕ → List ℕ → Answer
-writes text name bytes = record { text = text; file = Some (record { name = name; bytes = bytes }); status = 0 }
+writes text name bytes = record {
+  text = text;
+  file = Some (record { name = name; bytes = bytes });
+  status = 0;
+}
 
 -- a command that was carried out ends so
 abbrev pub IsDone : ℕ → Type 0

@@ -1,4 +1,5 @@
--- What a command reads, where it is told what files hold: the value that a file's bytes write, or why it is refused.
+-- What a command reads, where it is told what files hold: the value that a file's bytes write, or
+-- why it is refused.
 use Rattle.std.specs.Prelude.{◌≡◌, ℕ, ◌%◌, ◌^◌, ◌<◌, ◌≤◌, ◌==◌, Bool, true, false, List, Option, Some, None, Result, Ok, Err, length, nat_le, if◌then◌else◌}
 use Rattle.std.proofs.Math.Decide.{dec_le, dec_lt}
 use Rattle.std.proofs.Common.{refl}
@@ -27,7 +28,8 @@ without name held other = if bytes_eq other name then None else held other
 -- the bytes of a file that is held, at most so many
 abbrev pub fetched_bytes : List ℕ → ℕ → Option (List ℕ) → Result (List ℕ) Refusal
 fetched_bytes name limit None = Err (Unread name)
-fetched_bytes name limit (Some bytes) = if nat_le (length bytes) limit then Ok bytes else Err (Bad name TooLong)
+fetched_bytes name limit (Some bytes) =
+    if nat_le (length bytes) limit then Ok bytes else Err (Bad name TooLong)
 
 unfoldable pub fetched : Held → List ℕ → ℕ → Result (List ℕ) Refusal
 fetched held name limit = fetched_bytes name limit (held name)
@@ -38,7 +40,8 @@ in_file name (Ok value) = Ok value
 in_file name (Err fault) = Err (Bad name fault)
 
 -- the value of a file of at most so many bytes, by the format that reads them
-abbrev pub input_of : {A : Type 0} → ℕ → (List ℕ → Result A InputFault) → Held → List ℕ → Result A Refusal
+abbrev pub input_of : {A : Type 0} → ℕ → (List ℕ → Result A InputFault) → Held → List ℕ
+    → Result A Refusal
 input_of limit format held name = do
   bytes ← fetched held name limit
   in_file name (format bytes)
@@ -54,25 +57,38 @@ Answers wanted (Err why) = Faults wanted why
 
 -- ---- The formats
 
--- the image of an entry and of bytes that are valid: the bytes are few enough, and the entry is below the size of
+-- the image of an entry and of bytes that are valid: the bytes are few enough, and the entry is
+-- below the size of
 -- private memory and aligned
-abbrev pub image_if_aligned : (entry : ℕ) (bytes : List ℕ) → length bytes ≤ 2 ^ 20 → entry < 2 ^ 20 → (b : Bool) → (entry % 4 == 0) ≡ b → Option PlainImage
+abbrev pub image_if_aligned : (entry : ℕ) (bytes : List ℕ) → length bytes ≤ 2 ^ 20 → entry < 2 ^ 20
+    → (b : Bool) → (entry % 4 == 0) ≡ b → Option PlainImage
 image_if_aligned entry bytes fits private false aligned = None
 image_if_aligned entry bytes fits private true aligned =
-    Some (record { entry = entry; bytes = bytes; fits = fits; aligned = eqb-true (entry % 4) 0 aligned; private = private })
+    Some (record {
+      entry = entry;
+      bytes = bytes;
+      fits = fits;
+      aligned = eqb-true (entry % 4) 0
+          aligned;
+      private = private;
+    })
 
-abbrev pub image_if_private : (entry : ℕ) (bytes : List ℕ) → length bytes ≤ 2 ^ 20 → Dec (entry < 2 ^ 20) → Option PlainImage
+abbrev pub image_if_private : (entry : ℕ) (bytes : List ℕ) → length bytes ≤ 2 ^ 20
+    → Dec (entry < 2 ^ 20) → Option PlainImage
 image_if_private entry bytes fits (no high) = None
-image_if_private entry bytes fits (yes private) = image_if_aligned entry bytes fits private (entry % 4 == 0) refl
+image_if_private entry bytes fits (yes private) =
+    image_if_aligned entry bytes fits private (entry % 4 == 0) refl
 
-abbrev pub image_if_fitting : (entry : ℕ) (bytes : List ℕ) → Dec (length bytes ≤ 2 ^ 20) → Option PlainImage
+abbrev pub image_if_fitting : (entry : ℕ) (bytes : List ℕ) → Dec (length bytes ≤ 2 ^ 20)
+    → Option PlainImage
 image_if_fitting entry bytes (no long) = None
 image_if_fitting entry bytes (yes fits) = image_if_private entry bytes fits (dec_lt entry (2 ^ 20))
 
 abbrev pub valid_image : ℕ → List ℕ → Option PlainImage
 valid_image entry bytes = image_if_fitting entry bytes (dec_le (length bytes) (2 ^ 20))
 
--- The image that was read, or the first bad byte. What is read is valid, so the first case is never met.
+-- The image that was read, or the first bad byte. What is read is valid, so the first case is never
+-- met.
 abbrev pub image_found : Option PlainImage → Result PlainImage InputFault
 image_found None = Err NotBuilt
 image_found (Some image) = Ok image

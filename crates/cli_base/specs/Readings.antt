@@ -1,4 +1,5 @@
--- What reading the files of a command gives, where `Wanted` says what it is to give of what files hold.
+-- What reading the files of a command gives, where `Wanted` says what it is to give of what files
+-- hold.
 use Rattle.std.specs.Prelude.{◌≡◌, ◌⊎◌, ℕ, ◌≤◌, List, Some, Result, Ok, Err, IsSomeAnd}
 use Rattle.xom_io.specs.Answers.{Rises, Told}
 use Rattle.xom_base.specs.Memory.{OrOut}
@@ -14,18 +15,24 @@ use Rattle.cli_base.specs.declared.refusal.Stop.TheVariants as stop
 use Rattle.cli_base.specs.Inputs.{Held, without}
 
 -- where it is told what files hold, this is what was wanted
-abbrev pub IsWanted : {Y : Type 0} → Told → (Held → Result Y Refusal → Type 0) → Result Y Refusal → Type 0
+abbrev pub IsWanted : {Y : Type 0} → Told → (Held → Result Y Refusal → Type 0) → Result Y Refusal
+    → Type 0
 IsWanted told Wanted result = (held : Held) → told ≡ Some held → Wanted held result
 
--- a file of this name is read where it is told what files hold: were it not held, that would be refused
+-- a file of this name is read where it is told what files hold: were it not held, that would be
+-- refused
 abbrev pub IsRead : {Y : Type 0} → Told → (Held → Result Y Refusal → Type 0) → List ℕ → Type 0
-IsRead told Wanted name = (held : Held) → told ≡ Some held → Wanted (without name held) (Err (Unread name))
+IsRead told Wanted name =
+    (held : Held) → told ≡ Some held → Wanted (without name held) (Err (Unread name))
 
 -- why reading stopped. The counts are those of reads, before and after
-abbrev pub Refuses : {Y : Type 0} → Told → (Held → Result Y Refusal → Type 0) → ℕ → ℕ → Refusal → Type 0
+abbrev pub Refuses : {Y : Type 0} → Told → (Held → Result Y Refusal → Type 0) → ℕ → ℕ → Refusal
+    → Type 0
 Refuses told Wanted before after (Unread name) =
-    (before ≤ after) × (Rises before after ⊎ IsSomeAnd told (λ held. Wanted held (Err (Unread name)))) × IsRead told Wanted name
-Refuses told Wanted before after (Bad name fault) = (after ≡ before) × IsWanted told Wanted (Err (Bad name fault))
+    (before ≤ after) × (Rises before after
+    ⊎ IsSomeAnd told (λ held. Wanted held (Err (Unread name)))) × IsRead told Wanted name
+Refuses told Wanted before after (Bad name fault) =
+    (after ≡ before) × IsWanted told Wanted (Err (Bad name fault))
 
 -- want of memory comes freely
 abbrev pub Stops : {Y : Type 0} → Told → (Held → Result Y Refusal → Type 0) → ℕ → ℕ → Stop → Type 0
@@ -33,13 +40,15 @@ Stops told Wanted before after (stop.Refused refusal) = Refuses told Wanted befo
 Stops told Wanted before after stop.NoMemory = before ≤ after
 
 -- what reading answered meets what was wanted
-abbrev pub Meets : {Y : Type 0} → Told → (Held → Result Y Refusal → Type 0) → ℕ → ℕ → Result Y Stop → Type 0
+abbrev pub Meets : {Y : Type 0} → Told → (Held → Result Y Refusal → Type 0) → ℕ → ℕ → Result Y Stop
+    → Type 0
 Meets told Wanted before after (Ok value) = (after ≡ before) × IsWanted told Wanted (Ok value)
 Meets told Wanted before after (Err why) = Stops told Wanted before after why
 
 -- and is what a function of what files hold gives
 abbrev pub Gives : {Y : Type 0} → Told → (Held → Result Y Refusal) → ℕ → ℕ → Result Y Stop → Type 0
-Gives told wanted before after result = Meets told (λ held outcome. wanted held ≡ outcome) before after result
+Gives told wanted before after result =
+    Meets told (λ held outcome. wanted held ≡ outcome) before after result
 
 -- a refusal was made, unless memory ran out
 abbrev pub IsRefusal : Stop → Refusal → Type 0
@@ -54,5 +63,6 @@ IsLined (Err text_fault.NoMemory) result = result ≡ Err input_stop.NoMemory
 -- what a reader answered, with the name of the file
 abbrev pub IsNamed : {A : Type 0} → List ℕ → Result A InputStop → Result A Stop → Type 0
 IsNamed name (Ok value) result = result ≡ Ok value
-IsNamed name (Err (input_stop.Fault fault)) result = OrOut stop.NoMemory (Err (stop.Refused (Bad name fault))) result
+IsNamed name (Err (input_stop.Fault fault)) result =
+    OrOut stop.NoMemory (Err (stop.Refused (Bad name fault))) result
 IsNamed name (Err input_stop.NoMemory) result = result ≡ Err stop.NoMemory

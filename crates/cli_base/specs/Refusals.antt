@@ -27,7 +27,8 @@ fault_text TooLong = codes ": too long\n"
 fault_text NotBuilt = codes ": not built\n"
 fault_text (BadByte offset) = codes " byte " ++ (decimal offset ++ codes ": bad\n")
 fault_text (BadLine line) = codes " line " ++ (decimal line ++ codes ": bad\n")
-fault_text (BadSource line fault) = codes " line " ++ (decimal line ++ (codes ": " ++ (source_word fault ++ codes "\n")))
+fault_text (BadSource line fault) =
+    codes " line " ++ (decimal line ++ (codes ": " ++ (source_word fault ++ codes "\n")))
 
 -- the line of a refusal
 abbrev pub line_of : Refusal → List ℕ

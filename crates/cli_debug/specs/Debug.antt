@@ -32,17 +32,23 @@ commands_of = input_of commands_limit (λ text. in_lines (commands_at text))
 
 -- ---- What is answered
 
--- the moments of the run of a kernel that tells its turns, under the schedule and within the budget of a run file
-abbrev pub moments_under : {K : Type 0} → (K → View → Option (Turn × (List ℕ × K))) → K → RunFile → Record → List Moment
-moments_under told k file first = unwrap_or (moments_from shipped told file.schedule file.budget 0 first k) []
+-- the moments of the run of a kernel that tells its turns, under the schedule and within the budget
+-- of a run file
+abbrev pub moments_under : {K : Type 0} → (K → View → Option (Turn × (List ℕ × K))) → K → RunFile
+    → Record → List Moment
+moments_under told k file first =
+    unwrap_or (moments_from shipped told file.schedule file.budget 0 first k) []
 
 abbrev pub moments_by : RunFile → List GuestImage → KernelFile → List Moment
-moments_by file guests (kernel.Script script) = moments_under script_told script.lines file (first_of file guests (kernel.Script script))
-moments_by file guests (kernel.Image image) = moments_under image_told tt file (first_of file guests (kernel.Image image))
+moments_by file guests (kernel.Script script) =
+    moments_under script_told script.lines file (first_of file guests (kernel.Script script))
+moments_by file guests (kernel.Image image) =
+    moments_under image_told tt file (first_of file guests (kernel.Image image))
 
 -- the text of the commands over them
 abbrev pub text_by : RunFile → List GuestImage → KernelFile → List Command → List ℕ
-text_by file guests k commands = debug_text commands (view_of (first_of file guests k)) (moments_by file guests k)
+text_by file guests k commands =
+    debug_text commands (view_of (first_of file guests k)) (moments_by file guests k)
 
 -- that text, with status 0
 unfoldable pub debugged : Parts → List Command → Answer

@@ -22,36 +22,51 @@ use Rattle.cli_judge.specs.Judge.{entries_at, journal_limit, journal_of, judge_o
 -- ---- The journal
 
 -- to judge what was read of a file is to read its judgement
-in_file-then : {A B : Type 0} (name : List ℕ) (read : Result A InputFault) (f : A → B) → (in_file name read >>= (λ x. Ok (f x))) ≡ in_file name (read >>= (λ x. Ok (f x)))
+in_file-then : {A B : Type 0} (name : List ℕ) (read : Result A InputFault) (f : A → B)
+    → (in_file name read >>= (λ x. Ok (f x))) ≡ in_file name (read >>= (λ x. Ok (f x)))
 in_file-then name (Ok x) f = refl
 in_file-then name (Err fault) f = refl
 
 bytes-then : (name : List ℕ) (bytes : Result (List ℕ) Refusal) (f : List Entry → Answer)
-    → (bytes >>= (λ text. in_file name (in_lines (entries_at text) >>= (λ es. Ok (f es))))) ≡ ((bytes >>= (λ text. in_file name (in_lines (entries_at text)))) >>= (λ es. Ok (f es)))
+    → (bytes >>= (λ text. in_file name (in_lines (entries_at text) >>= (λ es. Ok (f es)))))
+    ≡ ((bytes >>= (λ text. in_file name (in_lines (entries_at text)))) >>= (λ es. Ok (f es)))
 bytes-then name (Ok text) f = sym (in_file-then name (in_lines (entries_at text)) f)
 bytes-then name (Err e) f = refl
 
 journal-then : (held : Held) (name : List ℕ) (machine : Key256) (owners : List Owner)
-    → input_of journal_limit (judged_at machine owners) held name ≡ (journal_of held name >>= (λ entries. Ok (judged machine owners entries)))
+    → input_of journal_limit (judged_at machine owners) held
+    name ≡ (journal_of held name >>= (λ entries. Ok (judged machine owners entries)))
 unfolding journal_of
-journal-then held name machine owners = bytes-then name (fetched held name journal_limit) (judged machine owners)
+journal-then held name machine owners =
+    bytes-then name (fetched held name journal_limit) (judged machine owners)
 
 -- ---- One step after another
 
 -- a run file was read, and the reading of its owners stopped
-pub judge_stops : (told : Told) (run journal : List ℕ) (before between after : ℕ) (file : RunFile) (why : Stop) → Gives told (λ held. run_file_of held run) before between (Ok file)
-    → Gives told (λ held. owners_of held file.owners) between after (Err why) → Gives told (λ held. judge_of held run journal) before after (Err why)
+pub judge_stops : (told : Told) (run journal : List ℕ) (before between after : ℕ) (file : RunFile)
+    (why : Stop)
+    → Gives told (λ held. run_file_of held run) before between (Ok file)
+    → Gives told (λ held. owners_of held file.owners) between after (Err why)
+    → Gives told (λ held. judge_of held run journal) before after (Err why)
 unfolding judge_of
 judge_stops told run journal before between after file why gave is =
-    stops-after told (λ held. run_file_of held run) _ before between after file why (λ held name. run_file-without held name run) gave
+    stops-after told (λ held. run_file_of held run) _ before between after file why
+    (λ held name. run_file-without held name run) gave
     (stops-through told (λ held. owners_of held file.owners) _ between after why is)
 
 -- both were read, and the journal was judged, or refused
-pub judge_ends : (told : Told) (run journal : List ℕ) (before between later after : ℕ) (file : RunFile) (owners : List Owner) (result : Result Answer Stop) → Gives told (λ held. run_file_of held run) before between (Ok file)
-    → Gives told (λ held. owners_of held file.owners) between later (Ok owners) → Gives told (λ held. input_of journal_limit (judged_at file.machine owners) held journal) later after result
+pub judge_ends : (told : Told) (run journal : List ℕ) (before between later after : ℕ)
+    (file : RunFile) (owners : List Owner) (result : Result Answer Stop)
+    → Gives told (λ held. run_file_of held run) before between (Ok file)
+    → Gives told (λ held. owners_of held file.owners) between later (Ok owners)
+    → Gives told (λ held. input_of journal_limit (judged_at file.machine owners) held journal) later
+    after result
     → Gives told (λ held. judge_of held run journal) before after result
 unfolding judge_of
 judge_ends told run journal before between later after file owners result gave read is =
-    gives-after told (λ held. run_file_of held run) _ before between after file result (λ held name. run_file-without held name run) gave
-    (gives-after told (λ held. owners_of held file.owners) _ between later after owners result (λ held name. owners-without held name file.owners) read
-    (gives-same told _ _ later after result (λ held. journal-then held journal file.machine owners) is))
+    gives-after told (λ held. run_file_of held run) _ before between after file result
+    (λ held name. run_file-without held name run) gave
+    (gives-after told (λ held. owners_of held file.owners) _ between later after owners result
+    (λ held name. owners-without held name file.owners) read
+    (gives-same told _ _ later after result (λ held. journal-then held journal file.machine owners)
+    is))

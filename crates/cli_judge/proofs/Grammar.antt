@@ -11,15 +11,22 @@ use Rattle.cli_judge.specs.Judge.{entries_at}
 use Rattle.cli_judge.specs.Laws.{TextsAreRead}
 
 -- a reader that gives these entries
-given : (text : List ℕ) (entries : List Entry) → entries_at text ≡ Ok entries → AnswersText (IsJournal text) (IsBadLine (lines_of text)) (Ok entries)
-given text entries is = AnswersText-lines journal_step JournalLine tells entries_alone 0 text (Ok entries) is
+given : (text : List ℕ) (entries : List Entry) → entries_at text ≡ Ok entries
+    → AnswersText (IsJournal text) (IsBadLine (lines_of text)) (Ok entries)
+given text entries is =
+    AnswersText-lines journal_step JournalLine tells entries_alone 0 text (Ok entries) is
 
 -- and one that answers this line
-refused : (text : List ℕ) (n : ℕ) → entries_at text ≡ Err n → AnswersText (IsJournal text) (IsBadLine (lines_of text)) (Err (text_fault.Line n))
-refused text n is = AnswersText-lines journal_step JournalLine tells entries_alone 0 text (Err (text_fault.Line n)) is
+refused : (text : List ℕ) (n : ℕ) → entries_at text ≡ Err n
+    → AnswersText (IsJournal text) (IsBadLine (lines_of text)) (Err (text_fault.Line n))
+refused text n is =
+    AnswersText-lines journal_step JournalLine tells entries_alone 0 text (Err (text_fault.Line n))
+    is
 
-pub entries-are : (text : List ℕ) (entries : List Entry) → entries_at text ≡ Ok entries → IsJournal text entries
+pub entries-are : (text : List ℕ) (entries : List Entry) → entries_at text ≡ Ok entries
+    → IsJournal text entries
 entries-are text entries is = (given text entries is).found
 
 pub texts_are_read : TextsAreRead
-texts_are_read text = (λ entries is. entries-are text entries is, λ n is. (refused text n is).bad n refl)
+texts_are_read text =
+    (λ entries is. entries-are text entries is, λ n is. (refused text n is).bad n refl)

@@ -34,17 +34,24 @@ journal_of = input_of journal_limit (λ text. in_lines (entries_at text))
 
 -- the first of these that holds: the report is suspect, a guest was stopped
 abbrev pub judge_status : Report → List Entry → ℕ
-judge_status report entries = if is_suspect report then 9 else (if list_any is_stop entries then 8 else 0)
+judge_status report entries =
+    if is_suspect report then 9 else (if list_any is_stop entries then 8 else 0)
 
 -- the report on these entries, with that status
 abbrev pub answer_of : Report → List Entry → Answer
-answer_of report entries = record { text = report_text report; file = None; status = judge_status report entries }
+answer_of report entries = record {
+  text = report_text report;
+  file = None;
+  status =
+      judge_status report entries;
+}
 
 -- by the machine key and the owners
 abbrev pub judged : Key256 → List Owner → List Entry → Answer
 judged machine owners entries = answer_of (judgement machine owners entries) entries
 
--- The answer of the command: the run file, the images of its owners, and the journal are read in this order. No other file that
+-- The answer of the command: the run file, the images of its owners, and the journal are read in
+-- this order. No other file that
 -- the run file names is looked at.
 unfoldable pub judge_of : Held → List ℕ → List ℕ → Result Answer Refusal
 judge_of held run journal = do

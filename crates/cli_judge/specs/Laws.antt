@@ -7,11 +7,15 @@ use Rattle.journal_text.specs.Readings.{IsBadLine, IsJournal}
 use Rattle.trace_judge.specs.Numbers.{installs_in, may_stand}
 use Rattle.cli_judge.specs.Judge.{entries_at}
 
--- the entry of each line may stand next, and behind it the last install has the number of all installs so far
+-- the entry of each line may stand next, and behind it the last install has the number of all
+-- installs so far
 abbrev pub RowsMayStand : Type 0
-RowsMayStand = (last next : ℕ) (words : List (List ℕ)) (e : Entry) → IsRow last words e next → (may_stand last e ≡ true) × (next ≡ last + installs_in e)
+RowsMayStand =
+    (last next : ℕ) (words : List (List ℕ)) (e : Entry) → IsRow last words e next
+    → (may_stand last e ≡ true) × (next ≡ last + installs_in e)
 
 -- what is read of a journal's text is what its grammar says: its entries, or its first bad line
 abbrev pub TextsAreRead : Type 0
 TextsAreRead = (text : List ℕ)
-    → ((entries : List Entry) → entries_at text ≡ Ok entries → IsJournal text entries) × ((n : ℕ) → entries_at text ≡ Err n → IsBadLine (lines_of text) n)
+    → ((entries : List Entry) → entries_at text ≡ Ok entries → IsJournal text entries)
+    × ((n : ℕ) → entries_at text ≡ Err n → IsBadLine (lines_of text) n)

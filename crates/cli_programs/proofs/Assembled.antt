@@ -15,7 +15,8 @@ use Rattle.cli_programs.specs.Programs.{source_limit}
 use Rattle.cli_base.specs.Readings.{IsWanted, Meets}
 
 -- a fault of a source isn't that it can't be read
-pub said-unread : (source name : List ℕ) (fault : AsmFault) → said_of source fault ≡ Some (Unread name) → ⊥
+pub said-unread : (source name : List ℕ) (fault : AsmFault)
+    → said_of source fault ≡ Some (Unread name) → ⊥
 said-unread source name (asm_fault.Syntax line) is = cc
 said-unread source name (asm_fault.Duplicate line) is = cc
 said-unread source name (asm_fault.TooLong line) is = cc
@@ -25,22 +26,35 @@ said-unread source name (asm_fault.Range line) is = cc
 said-unread source name asm_fault.NoMemory is = cc
 
 -- want of memory is told by no refusal
-said-none : (source : List ℕ) (fault : AsmFault) (refusal : Refusal) → fault ≡ asm_fault.NoMemory → said_of source fault ≡ Some refusal → ⊥
-said-none source fault refusal none says = let said : said_of source asm_fault.NoMemory ≡ Some refusal = subst (λ (f : AsmFault). said_of source f ≡ Some refusal) none says in absurd (cc)
+said-none : (source : List ℕ) (fault : AsmFault) (refusal : Refusal) → fault ≡ asm_fault.NoMemory
+    → said_of source fault ≡ Some refusal → ⊥
+said-none source fault refusal none says =
+    let said : said_of source asm_fault.NoMemory
+    ≡ Some refusal = subst (λ (f : AsmFault). said_of source f ≡ Some refusal) none says in
+    absurd (cc)
 
 -- a source with a fault is refused for it, or for want of memory
-pub assembled_stops : (source text target : List ℕ) (fault : AsmFault) (made : Stop) → OrNoMemory (IsFaultOf text) fault → Says source fault made → IsAssembled source text target (Err made)
-assembled_stops source text target fault (stop.Refused refusal) (inl none) says = absurd (said-none source fault refusal none says)
+pub assembled_stops : (source text target : List ℕ) (fault : AsmFault) (made : Stop)
+    → OrNoMemory (IsFaultOf text) fault → Says source fault made
+    → IsAssembled source text target (Err made)
+assembled_stops source text target fault (stop.Refused refusal) (inl none) says =
+    absurd (said-none source fault refusal none says)
 assembled_stops source text target fault (stop.Refused refusal) (inr is) says = (fault, is, says)
 assembled_stops source text target fault stop.NoMemory is says = tt
 
-module _ (told : Told) (source target text : List ℕ) (before after : ℕ) (stays : after ≡ before) (read : (held : Held) → told ≡ Some held → fetched held source source_limit ≡ Ok text) where
+module _ (told : Told) (source target text : List ℕ) (before after : ℕ) (stays : after ≡ before)
+    (read : (held : Held) → told ≡ Some held → fetched held source source_limit ≡ Ok text) where
   -- what the text comes to, the name does
-  of_name : (outcome : Result Answer Refusal) → AssemblesRead source target (Ok text) outcome → IsWanted told (Assembles source target) outcome
-  of_name outcome is held here = subst (λ (bytes : Result (List ℕ) Refusal). AssemblesRead source target bytes outcome) (sym (read held here)) is
+  of_name : (outcome : Result Answer Refusal) → AssemblesRead source target (Ok text) outcome
+      → IsWanted told (Assembles source target) outcome
+  of_name outcome is held here =
+      subst (λ (bytes : Result (List ℕ) Refusal). AssemblesRead source target bytes outcome)
+      (sym (read held here)) is
 
-  pub assembled_meets : (result : Result Answer Stop) → IsAssembled source text target result → Meets told (Assembles source target) before after result
+  pub assembled_meets : (result : Result Answer Stop) → IsAssembled source text target result
+      → Meets told (Assembles source target) before after result
   assembled_meets (Ok answer) is = (stays, of_name (Ok answer) is)
   assembled_meets (Err (stop.Refused (Unread name))) is = absurd (said-unread source name is.0 is.2)
-  assembled_meets (Err (stop.Refused (Bad name fault))) is = (stays, of_name (Err (Bad name fault)) is)
+  assembled_meets (Err (stop.Refused (Bad name fault))) is =
+      (stays, of_name (Err (Bad name fault)) is)
   assembled_meets (Err stop.NoMemory) is = omega arith

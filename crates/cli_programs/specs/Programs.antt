@@ -52,11 +52,13 @@ sealed_bytes machine owner = sealed_file (envelope_of machine owner) (sealed_lin
 
 -- how many lines were sealed, and how many bytes the file has
 abbrev pub sealed_text : (lines size : ℕ) → List ℕ
-sealed_text lines size = codes "sealed " ++ (decimal lines ++ (codes " lines " ++ (decimal size ++ codes " bytes\n")))
+sealed_text lines size =
+    codes "sealed " ++ (decimal lines ++ (codes " lines " ++ (decimal size ++ codes " bytes\n")))
 
 abbrev pub sealing_answer : Key256 → Owner → List ℕ → Answer
 sealing_answer machine owner target =
-    writes (sealed_text (length (sealed_lines_of owner)) (length (sealed_bytes machine owner))) target (sealed_bytes machine owner)
+    writes (sealed_text (length (sealed_lines_of owner)) (length (sealed_bytes machine owner)))
+    target (sealed_bytes machine owner)
 
 abbrev pub owner_with : PlainImage → Key256 → ImageId → Owner
 owner_with image key id = record { plain = image; key = key; id = id }

@@ -20,37 +20,57 @@ use Rattle.cli_runs.proofs.Steps.{gives-after}
 use Rattle.cli_runs.proofs.Unheld.{built_run-without, guests-without, owners-without, placed_guest-without}
 
 -- a guest, in its input
-pub guest_stops : (told : Told) (run : List ℕ) (frames frame : ℕ) (line : GuestFile) (before between after : ℕ) (image : GuestImage) (why : Stop)
-    → Gives told (λ held. placed_guest_of held run frames frame line) before between (Ok image) → Gives told (λ held. read_input held line.input) between after (Err why)
+pub guest_stops : (told : Told) (run : List ℕ) (frames frame : ℕ) (line : GuestFile)
+    (before between after : ℕ) (image : GuestImage) (why : Stop)
+    → Gives told (λ held. placed_guest_of held run frames frame line) before between (Ok image)
+    → Gives told (λ held. read_input held line.input) between after (Err why)
     → Gives told (λ held. guest_of held run frames frame line) before after (Err why)
 unfolding guest_of
 guest_stops told run frames frame line before between after image why gave is =
-    stops-after told (λ held. placed_guest_of held run frames frame line) _ before between after image why (λ held name. placed_guest-without run frames held name frame line) gave
+    stops-after told (λ held. placed_guest_of held run frames frame line) _ before between after
+    image why (λ held name. placed_guest-without run frames held name frame line) gave
     (stops-through told (λ held. read_input held line.input) _ between after why is)
 
 module _ (told : Told) (run : List ℕ) (file : RunFile) where
   -- what a run file names, in a guest
-  pub named_stop_guests : (before between after : ℕ) (owners : List Owner) (why : Stop) → Gives told (λ held. owners_of held file.owners) before between (Ok owners)
-      → Gives told (λ held. guests_of held run file.frames first_frame file.guests) between after (Err why) → Gives told (λ held. parts_named held run file) before after (Err why)
+  pub named_stop_guests : (before between after : ℕ) (owners : List Owner) (why : Stop)
+      → Gives told (λ held. owners_of held file.owners) before between (Ok owners)
+      → Gives told (λ held. guests_of held run file.frames first_frame file.guests) between after
+      (Err why)
+      → Gives told (λ held. parts_named held run file) before after (Err why)
   unfolding parts_named
   named_stop_guests before between after owners why gave is =
-      stops-after told (λ held. owners_of held file.owners) _ before between after owners why (λ held name. owners-without held name file.owners) gave
-      (stops-through told (λ held. guests_of held run file.frames first_frame file.guests) _ between after why is)
+      stops-after told (λ held. owners_of held file.owners) _ before between after owners why
+      (λ held name. owners-without held name file.owners) gave
+      (stops-through told (λ held. guests_of held run file.frames first_frame file.guests) _ between
+      after why is)
 
   -- and in its kernel
-  pub named_stop_kernel : (before between later after : ℕ) (owners : List Owner) (guests : List GuestImage) (why : Stop) → Gives told (λ held. owners_of held file.owners) before between (Ok owners)
-      → Gives told (λ held. guests_of held run file.frames first_frame file.guests) between later (Ok guests)
-      → Gives told (λ held. kernel_of held run file.frames file.kernel_line file.kernel) later after (Err why) → Gives told (λ held. parts_named held run file) before after (Err why)
+  pub named_stop_kernel : (before between later after : ℕ) (owners : List Owner)
+      (guests : List GuestImage) (why : Stop)
+      → Gives told (λ held. owners_of held file.owners) before between (Ok owners)
+      → Gives told (λ held. guests_of held run file.frames first_frame file.guests) between later
+      (Ok guests)
+      → Gives told (λ held. kernel_of held run file.frames file.kernel_line file.kernel) later after
+      (Err why)
+      → Gives told (λ held. parts_named held run file) before after (Err why)
   unfolding parts_named
   named_stop_kernel before between later after owners guests why gave read is =
-      stops-after told (λ held. owners_of held file.owners) _ before between after owners why (λ held name. owners-without held name file.owners) gave
-      (stops-after told (λ held. guests_of held run file.frames first_frame file.guests) _ between later after guests why
+      stops-after told (λ held. owners_of held file.owners) _ before between after owners why
+      (λ held name. owners-without held name file.owners) gave
+      (stops-after told (λ held. guests_of held run file.frames first_frame file.guests) _ between
+      later after guests why
       (λ held name. guests-without run file.frames held name first_frame file.guests) read
-      (stops-through told (λ held. kernel_of held run file.frames file.kernel_line file.kernel) _ later after why is))
+      (stops-through told (λ held. kernel_of held run file.frames file.kernel_line file.kernel)
+      _ later after why is))
 
 -- a run file was read, and what it names was read, or refused
-pub parts_end : (told : Told) (run : List ℕ) (before between after : ℕ) (file : RunFile) (result : Result Parts Stop) → Gives told (λ held. built_run_of held run) before between (Ok file)
-    → Gives told (λ held. parts_named held run file) between after result → Gives told (λ held. parts_of held run) before after result
+pub parts_end : (told : Told) (run : List ℕ) (before between after : ℕ) (file : RunFile)
+    (result : Result Parts Stop)
+    → Gives told (λ held. built_run_of held run) before between (Ok file)
+    → Gives told (λ held. parts_named held run file) between after result
+    → Gives told (λ held. parts_of held run) before after result
 unfolding parts_of
 parts_end told run before between after file result gave is =
-    gives-after told (λ held. built_run_of held run) (λ file held. parts_named held run file) before between after file result (λ held name. built_run-without held name run) gave is
+    gives-after told (λ held. built_run_of held run) (λ file held. parts_named held run file) before
+    between after file result (λ held name. built_run-without held name run) gave is

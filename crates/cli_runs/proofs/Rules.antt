@@ -28,10 +28,12 @@ use Rattle.cli_runs.specs.Schedules.{IsPokeOf}
 above : (last : ℕ) (ns : List ℕ) → Ascends last ns → (k : ℕ) → k < length ns → last < get_or ns k 0
 above last [] ascends k within = absurd (omega arith)
 above last (n ∷ ns) ascends zero within = ascends.0
-above last (n ∷ ns) ascends (suc k) within = let low : last < n = ascends.0 in let high = above n ns ascends.1 k (omega arith) in omega arith
+above last (n ∷ ns) ascends (suc k) within =
+    let low : last < n = ascends.0 in let high = above n ns ascends.1 k (omega arith) in omega arith
 
 -- and each is below the next
-strict : (last : ℕ) (ns : List ℕ) → Ascends last ns → (k : ℕ) → suc k < length ns → get_or ns k 0 < get_or ns (suc k) 0
+strict : (last : ℕ) (ns : List ℕ) → Ascends last ns → (k : ℕ) → suc k < length ns
+    → get_or ns k 0 < get_or ns (suc k) 0
 strict last [] ascends k within = absurd (omega arith)
 strict last (n ∷ ns) ascends zero within = above n ns ascends.1 0 (omega arith)
 strict last (n ∷ ns) ascends (suc k) within = strict n ns ascends.1 k (omega arith)
@@ -45,28 +47,39 @@ abbrev events : List Poke → List ℕ
 events pokes = map (λ (poke : Poke). poke.event) pokes
 
 -- the last one of two or more is the last one behind the first
-last_more : (first second : Poke) (pokes : List Poke) → last_event (first ∷ second ∷ pokes) ≡ last_event (second ∷ pokes)
+last_more : (first second : Poke) (pokes : List Poke)
+    → last_event (first ∷ second ∷ pokes) ≡ last_event (second ∷ pokes)
 last_more first second pokes =
     let longer : length (first ∷ second ∷ pokes) - 1 ≡ suc (length pokes) = omega arith in
     let shorter : length (second ∷ pokes) - 1 ≡ length pokes = omega arith in
-    ap (λ n. option_map_or (λ (poke : Poke). poke.event) (slice_get (first ∷ second ∷ pokes) n) 0) longer
-    ∙ ap (λ n. option_map_or (λ (poke : Poke). poke.event) (slice_get (second ∷ pokes) n) 0) (sym shorter)
+    ap (λ n. option_map_or (λ (poke : Poke). poke.event) (slice_get (first ∷ second ∷ pokes) n) 0)
+    longer
+    ∙ ap (λ n. option_map_or (λ (poke : Poke). poke.event) (slice_get (second ∷ pokes) n) 0)
+    (sym shorter)
 
-below_last : (low : ℕ) (first : Poke) (pokes : List Poke) → Ascends low (events (first ∷ pokes)) → low < last_event (first ∷ pokes)
+below_last : (low : ℕ) (first : Poke) (pokes : List Poke) → Ascends low (events (first ∷ pokes))
+    → low < last_event (first ∷ pokes)
 below_last low first [] ascends = ascends.0
-below_last low first (second ∷ pokes) ascends = let one : low < first.event = ascends.0 in let more = below_last first.event second pokes ascends.1 in subst (λ n. low < n) (sym (last_more first second pokes)) (omega (arith, one, more))
+below_last low first (second ∷ pokes) ascends =
+    let one : low < first.event = ascends.0 in let more = below_last first.event second pokes
+    ascends.1 in subst (λ n. low < n) (sym (last_more first second pokes))
+    (omega (arith, one, more))
 
-ascends-snoc : (low : ℕ) (pokes : List Poke) (poke : Poke) → Ascends low (events pokes) → low < poke.event → last_event pokes < poke.event → Ascends low (events (pokes ++ (poke ∷ [])))
+ascends-snoc : (low : ℕ) (pokes : List Poke) (poke : Poke) → Ascends low (events pokes)
+    → low < poke.event → last_event pokes < poke.event → Ascends low (events (pokes ++ (poke ∷ [])))
 ascends-snoc low [] poke ascends above-low above-last = (above-low, tt)
 ascends-snoc low (first ∷ []) poke ascends above-low above-last = (ascends.0, (above-last, tt))
 ascends-snoc low (first ∷ second ∷ pokes) poke ascends above-low above-last =
-    let under : first.event < last_event (second ∷ pokes) = below_last first.event second pokes ascends.1 in
-    let over : last_event (second ∷ pokes) < poke.event = subst (λ n. n < poke.event) (last_more first second pokes) above-last in
+    let under : first.event < last_event (second ∷ pokes) = below_last first.event second pokes
+    ascends.1 in
+    let over : last_event (second ∷ pokes) < poke.event = subst (λ n. n < poke.event)
+    (last_more first second pokes) above-last in
     (ascends.0, ascends-snoc first.event (second ∷ pokes) poke ascends.1 (omega arith) over)
 
 -- ---- The lines, one after another
 
-all-snoc : {A : Type 0} (P : A → Type 0) (items : List A) (item : A) → AllByRecursion P items → P item → AllByRecursion P (items ++ (item ∷ []))
+all-snoc : {A : Type 0} (P : A → Type 0) (items : List A) (item : A) → AllByRecursion P items
+    → P item → AllByRecursion P (items ++ (item ∷ []))
 all-snoc P [] item all one = (one, tt)
 all-snoc P (first ∷ items) item all one = (all.0, all-snoc P items item all.1 one)
 
@@ -90,7 +103,8 @@ length-pairs zero [] sized = refl
 length-pairs zero (high ∷ word) sized = absurd (omega (arith, sized))
 length-pairs (suc n) [] sized = absurd (omega (arith, sized))
 length-pairs (suc n) (high ∷ []) sized = absurd (omega (arith, sized))
-length-pairs (suc n) (high ∷ low ∷ word) sized = let more = length-pairs n word (omega (arith, sized)) in omega (arith, more)
+length-pairs (suc n) (high ∷ low ∷ word) sized =
+    let more = length-pairs n word (omega (arith, sized)) in omega (arith, more)
 
 hex-sized : (count : ℕ) (word bytes : List ℕ) → IsHex count word bytes → length bytes ≡ count
 hex-sized count word bytes is = rw is.written (length-pairs count word is.sized)
@@ -103,7 +117,11 @@ line-keeps before n words (line.Frames frames) after keeps is f = subst KeepsSoF
 line-keeps before n words (line.Budget budget) after keeps is f = subst KeepsSoFar (sym f.4) tt
 line-keeps before n words (line.Owner owner) after keeps is f =
     let k : AllByRecursion IsOwnerLine f.0.owners = subst KeepsSoFar f.1 keeps in
-    subst KeepsSoFar (sym f.5) (all-snoc IsOwnerLine f.0.owners owner k record { key = hex-sized 32 is.0 owner.key.0 is.4; id = hex-sized 16 is.1 owner.id.0 is.5 })
+    subst KeepsSoFar (sym f.5) (all-snoc IsOwnerLine f.0.owners owner k record {
+      key =
+          hex-sized 32 is.0 owner.key.0 is.4;
+      id = hex-sized 16 is.1 owner.id.0 is.5;
+    })
 line-keeps before n words (line.Guest sealed input) after keeps is f =
     let k : AllByRecursion IsOwnerLine f.0.owners = subst KeepsSoFar f.1 keeps in
     subst KeepsSoFar (sym f.3) k
@@ -118,18 +136,28 @@ line-keeps before n words (line.Poke poke) after keeps is f =
     let later : last_event f.0.schedule.pokes < poke.event = f.2 in
     subst KeepsSoFar (sym f.4) record {
       owners = k.owners;
-      pokes = all-snoc (IsPokeOf f.0.frames) f.0.schedule.pokes poke k.pokes record { event = omega arith; some = is.6.1; few = is.6.0.1; inside = f.3 };
+      pokes = all-snoc (IsPokeOf f.0.frames) f.0.schedule.pokes poke k.pokes record {
+        event =
+            omega arith;
+        some = is.6.1;
+        few = is.6.0.1;
+        inside = f.3;
+      };
       ascends = ascends-snoc 0 f.0.schedule.pokes poke k.ascends (omega arith) later;
     }
 
-reads-keep : (before : Progress) (n : ℕ) (lines : List (List ℕ)) (rows : List (Unit {0})) (last : Progress)
+reads-keep : (before : Progress) (n : ℕ) (lines : List (List ℕ)) (rows : List (Unit {0}))
+    (last : Progress)
     → KeepsSoFar before → Reads RunFormat before n lines rows last → KeepsSoFar last
 reads-keep before n [] rows last keeps is = subst KeepsSoFar (sym is.1) keeps
-reads-keep before n (text ∷ lines) rows last keeps is = reads-keep is.1 (n + 1) lines is.2 last (row-keeps is.0 is.1 is.3) is.5
+reads-keep before n (text ∷ lines) rows last keeps is = reads-keep is.1 (n + 1) lines is.2 last
+    (row-keeps is.0 is.1 is.3) is.5
   where
-    row-keeps : (value : Option (Unit {0})) (next : Progress) → RunFormat before n text value next → KeepsSoFar next
+    row-keeps : (value : Option (Unit {0})) (next : Progress) → RunFormat before n text value next
+        → KeepsSoFar next
     row-keeps None next row = subst KeepsSoFar (sym row.1) keeps
-    row-keeps (Some value) next row = line-keeps before n (words_of text) row.0 next keeps row.1 row.2
+    row-keeps (Some value) next row =
+        line-keeps before n (words_of text) row.0 next keeps row.1 row.2
 
 -- ---- Run files
 
@@ -138,7 +166,8 @@ all-places P [] all k d within = absurd (omega arith)
 all-places P (item ∷ items) all zero d within = all.0
 all-places P (item ∷ items) all (suc k) d within = all-places P items all.1 k d (omega arith)
 
-file-runnable : (file : RunFile) → KeepsRules file → Keeps file.frames file.owners file.schedule.pokes → IsRunnable file
+file-runnable : (file : RunFile) → KeepsRules file
+    → Keeps file.frames file.owners file.schedule.pokes → IsRunnable file
 file-runnable file rules keeps = record {
   boot = rules.draft.numbers.booted;
   frames_least = rules.draft.numbers.frames_least;
@@ -156,6 +185,9 @@ file-runnable file rules keeps = record {
 }
 
 -- what is read can be run
-pub read-runnable : (text : List ℕ) (IsBad : ℕ → Type 0) (read : Result RunFile TextFault) → AnswersText (IsRunFile text) IsBad read → IfOk read KeepsRules → IfOk read IsRunnable
-read-runnable text IsBad (Ok file) answers rules = let is = answers.found in file-runnable file rules (reads-keep progress.Start 1 (lines_of text) is.0 (progress.Whole file) tt is.1)
+pub read-runnable : (text : List ℕ) (IsBad : ℕ → Type 0) (read : Result RunFile TextFault)
+    → AnswersText (IsRunFile text) IsBad read → IfOk read KeepsRules → IfOk read IsRunnable
+read-runnable text IsBad (Ok file) answers rules =
+    let is = answers.found in file-runnable file rules (reads-keep progress.Start 1 (lines_of text)
+    is.0 (progress.Whole file) tt is.1)
 read-runnable text IsBad (Err fault) answers rules = tt

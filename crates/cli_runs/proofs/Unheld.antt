@@ -1,4 +1,5 @@
--- What is read of a run where one name isn't held any more: the same, or that this name can't be read.
+-- What is read of a run where one name isn't held any more: the same, or that this name can't be
+-- read.
 use Rattle.std.proofs.Common.{◌≡◌, inl, ℕ, ◌+◌, List, ◌∷◌, Option, Some, None, Result, Ok, Err, refl}
 use Rattle.xom_owners.specs.declared.owner.Owner.{Owner}
 use Rattle.xom_script.specs.declared.run_file.GuestFile.{GuestFile}
@@ -16,13 +17,17 @@ use Rattle.cli_runs.proofs.Steps.{bind-without}
 
 -- ---- Run files
 
-pub run_file-without : (held : Held) (name n : List ℕ) → SameOrUnread name (run_file_of held n) (run_file_of (without name held) n)
+pub run_file-without : (held : Held) (name n : List ℕ)
+    → SameOrUnread name (run_file_of held n) (run_file_of (without name held) n)
 unfolding run_file_of
 run_file-without held name n = input-without _ _ held name n
 
-pub built_run-without : (held : Held) (name n : List ℕ) → SameOrUnread name (built_run_of held n) (built_run_of (without name held) n)
+pub built_run-without : (held : Held) (name n : List ℕ)
+    → SameOrUnread name (built_run_of held n) (built_run_of (without name held) n)
 unfolding built_run_of
-built_run-without held name n = bind-without name (run_file_of held n) (run_file_of (without name held) n) _ _ (run_file-without held name n) (λ file. inl refl)
+built_run-without held name n =
+    bind-without name (run_file_of held n) (run_file_of (without name held) n) _ _
+    (run_file-without held name n) (λ file. inl refl)
 
 -- ---- Owners
 
@@ -36,45 +41,63 @@ one_owner held s line = image_of held line.plain >>= (λ image. Ok (owner_with l
 abbrev pub same_state : Unit {0} → Owner → Unit {0}
 same_state s owner = s
 
-owner-without : (held : Held) (name : List ℕ) (line : OwnerFile) → SameOrUnread name (one_owner held tt line) (one_owner (without name held) tt line)
-owner-without held name line = bind-without name (image_of held line.plain) (image_of (without name held) line.plain) _ _ (image-without held name line.plain) (λ image. inl refl)
+owner-without : (held : Held) (name : List ℕ) (line : OwnerFile)
+    → SameOrUnread name (one_owner held tt line) (one_owner (without name held) tt line)
+owner-without held name line =
+    bind-without name (image_of held line.plain) (image_of (without name held) line.plain) _ _
+    (image-without held name line.plain) (λ image. inl refl)
 
 -- an owner is made of the image
-made-then : {A B C : Type 0} (read : Result A Refusal) (make : A → B) (f : B → Result C Refusal) → (read >>= (λ x. f (make x))) ≡ ((read >>= (λ x. Ok (make x))) >>= f)
+made-then : {A B C : Type 0} (read : Result A Refusal) (make : A → B) (f : B → Result C Refusal)
+    → (read >>= (λ x. f (make x))) ≡ ((read >>= (λ x. Ok (make x))) >>= f)
 made-then (Ok x) make f = refl
 made-then (Err e) make f = refl
 
 pub owners-each : IsEach all_owners one_owner same_state
 owners-each = record {
   none = λ held s. refl;
-  more = λ held s line lines. made-then (image_of held line.plain) (owner_with line) (λ owner. owners_of held lines >>= (λ owners. Ok (owner ∷ owners)));
+  more = λ held s line lines. made-then (image_of held line.plain) (owner_with line)
+      (λ owner. owners_of held lines >>= (λ owners. Ok (owner ∷ owners)));
   less = λ held name s line. owner-without held name line;
 }
 
-pub owners-without : (held : Held) (name : List ℕ) (lines : List OwnerFile) → SameOrUnread name (owners_of held lines) (owners_of (without name held) lines)
-owners-without held name lines = each-without all_owners one_owner same_state owners-each held name tt lines
+pub owners-without : (held : Held) (name : List ℕ) (lines : List OwnerFile)
+    → SameOrUnread name (owners_of held lines) (owners_of (without name held) lines)
+owners-without held name lines =
+    each-without all_owners one_owner same_state owners-each held name tt lines
 
 -- ---- Guests
 
-guest_image-without : (held : Held) (name n : List ℕ) → SameOrUnread name (guest_image_of held n) (guest_image_of (without name held) n)
+guest_image-without : (held : Held) (name n : List ℕ)
+    → SameOrUnread name (guest_image_of held n) (guest_image_of (without name held) n)
 unfolding guest_image_of
 guest_image-without held name n = input-without _ _ held name n
 
-read_input-without : (held : Held) (name : List ℕ) (input : Option (List ℕ)) → SameOrUnread name (read_input held input) (read_input (without name held) input)
+read_input-without : (held : Held) (name : List ℕ) (input : Option (List ℕ))
+    → SameOrUnread name (read_input held input) (read_input (without name held) input)
 read_input-without held name None = inl refl
 read_input-without held name (Some n) = input-without input_limit (λ bytes. Ok tt) held name n
 
 module _ (run : List ℕ) (frames : ℕ) where
-  pub placed_guest-without : (held : Held) (name : List ℕ) (frame : ℕ) (line : GuestFile) → SameOrUnread name (placed_guest_of held run frames frame line) (placed_guest_of (without name held) run frames frame line)
+  pub placed_guest-without : (held : Held) (name : List ℕ) (frame : ℕ) (line : GuestFile)
+      → SameOrUnread name (placed_guest_of held run frames frame line)
+      (placed_guest_of (without name held) run frames frame line)
   unfolding placed_guest_of
   placed_guest-without held name frame line =
-      bind-without name (guest_image_of held line.sealed) (guest_image_of (without name held) line.sealed) _ _ (guest_image-without held name line.sealed) (λ image. inl refl)
+      bind-without name (guest_image_of held line.sealed) (guest_image_of (without name held)
+      line.sealed) _ _ (guest_image-without held name line.sealed) (λ image. inl refl)
 
-  guest-without : (held : Held) (name : List ℕ) (frame : ℕ) (line : GuestFile) → SameOrUnread name (guest_of held run frames frame line) (guest_of (without name held) run frames frame line)
+  guest-without : (held : Held) (name : List ℕ) (frame : ℕ) (line : GuestFile)
+      → SameOrUnread name (guest_of held run frames frame line)
+      (guest_of (without name held) run frames frame line)
   unfolding guest_of
   guest-without held name frame line =
-      bind-without name (placed_guest_of held run frames frame line) (placed_guest_of (without name held) run frames frame line) _ _ (placed_guest-without held name frame line)
-      (λ image. bind-without name (read_input held line.input) (read_input (without name held) line.input) _ _ (read_input-without held name line.input) (λ input. inl refl))
+      bind-without name (placed_guest_of held run frames frame line)
+      (placed_guest_of (without name held) run frames frame line)
+      _ _ (placed_guest-without held name frame line)
+      (λ image. bind-without name (read_input held line.input)
+      (read_input (without name held) line.input) _ _ (read_input-without held name line.input)
+      (λ input. inl refl))
 
   -- guests are read line by line, each from the frame behind the one before
   abbrev pub all_guests : Held → ℕ → List GuestFile → Result (List GuestImage) Refusal
@@ -90,5 +113,9 @@ module _ (run : List ℕ) (frames : ℕ) where
     less = λ held name frame line. guest-without held name frame line;
   }
 
-  pub guests-without : (held : Held) (name : List ℕ) (frame : ℕ) (lines : List GuestFile) → SameOrUnread name (guests_of held run frames frame lines) (guests_of (without name held) run frames frame lines)
-  guests-without held name frame lines = each-without all_guests one_guest (λ frame image. frame + frames_of image) guests-each held name frame lines
+  pub guests-without : (held : Held) (name : List ℕ) (frame : ℕ) (lines : List GuestFile)
+      → SameOrUnread name (guests_of held run frames frame lines) (guests_of (without name held) run
+      frames frame lines)
+  guests-without held name frame lines =
+      each-without all_guests one_guest (λ frame image. frame + frames_of image) guests-each held
+      name frame lines

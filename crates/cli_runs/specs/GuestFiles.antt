@@ -30,9 +30,11 @@ guest_image_of = input_of sealed_limit guest_image_at
 
 -- ---- Guests
 
--- the guest of this line of the run file, where it lies in a RAM of so many frames, from this frame on
+-- the guest of this line of the run file, where it lies in a RAM of so many frames, from this frame
+-- on
 abbrev pub placed_at : ℕ → ℕ → ℕ → GuestImage → Result GuestImage InputFault
-placed_at frames frame line image = if fits_from frames frame image then Ok image else Err (BadLine line)
+placed_at frames frame line image =
+    if fits_from frames frame image then Ok image else Err (BadLine line)
 
 -- at most so many bytes are in an input file, and they may be any
 abbrev pub input_limit : ℕ
@@ -58,7 +60,8 @@ guest_of held run frames frame line = do
   input ← read_input held line.input
   Ok image
 
--- The images of the guests of these lines, one after the other, in a RAM of so many frames. The first stands from this frame on, and
+-- The images of the guests of these lines, one after the other, in a RAM of so many frames. The
+-- first stands from this frame on, and
 -- each other one right behind the guest before it.
 abbrev pub guests_of : Held → List ℕ → ℕ → ℕ → List GuestFile → Result (List GuestImage) Refusal
 guests_of held run frames frame [] = Ok []

@@ -27,7 +27,8 @@ script_of = input_of script_limit (λ text. in_lines (script_at text))
 
 -- the image of a kernel that this line of the run file names, where RAM has room for it
 abbrev pub kernel_image_at : ℕ → ℕ → PlainImage → Result PlainImage InputFault
-kernel_image_at frames line image = if kernel_fits frames image then Ok image else Err (BadLine line)
+kernel_image_at frames line image =
+    if kernel_fits frames image then Ok image else Err (BadLine line)
 
 unfoldable pub kernel_image_of : Held → List ℕ → ℕ → ℕ → List ℕ → Result PlainImage Refusal
 kernel_image_of held run frames number name = do
@@ -36,7 +37,8 @@ kernel_image_of held run frames number name = do
 
 -- ---- Kernels
 
--- The kernel that the line of this number of the run file names, in a RAM of so many frames. The built-in one is refused before.
+-- The kernel that the line of this number of the run file names, in a RAM of so many frames. The
+-- built-in one is refused before.
 unfoldable pub kernel_of : Held → List ℕ → ℕ → ℕ → KernelLine → Result KernelFile Refusal
 kernel_of held run frames number (line.Script name) = do
   script ← script_of held name
@@ -49,4 +51,5 @@ kernel_of held run frames number (line.Xomos pages) = Err (Bad run NotBuilt)
 -- what the machine wants of a kernel: its image lies in a RAM of so many frames
 abbrev pub FitsKernel : ℕ → KernelFile → Type 0
 FitsKernel frames (kernel.Script script) = Unit {0}
-FitsKernel frames (kernel.Image image) = (length image.bytes ≤ kernel_limit) × (length image.bytes ≤ frames * frame_size)
+FitsKernel frames (kernel.Image image) =
+    (length image.bytes ≤ kernel_limit) × (length image.bytes ≤ frames * frame_size)

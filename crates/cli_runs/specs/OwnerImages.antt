@@ -22,7 +22,8 @@ owners_of held (line ∷ lines) = do
 -- the owners have the keys and the ids of these lines, one after the other
 abbrev pub AreOwnersOf : List OwnerFile → List Owner → Type 0
 AreOwnersOf [] [] = Unit {0}
-AreOwnersOf (line ∷ lines) (owner ∷ owners) = (owner.key ≡ line.key) × (owner.id ≡ line.id) × AreOwnersOf lines owners
+AreOwnersOf (line ∷ lines) (owner ∷ owners) =
+    (owner.key ≡ line.key) × (owner.id ≡ line.id) × AreOwnersOf lines owners
 AreOwnersOf [] (owner ∷ owners) = ⊥
 AreOwnersOf (line ∷ lines) [] = ⊥
 

@@ -24,7 +24,8 @@ parts_of held run = do
   file ← built_run_of held run
   parts_named held run file
 
--- what the machine wants of the parts of a run: all that it is made of keeps the rules, and lies in RAM
+-- what the machine wants of the parts of a run: all that it is made of keeps the rules, and lies in
+-- RAM
 pub record CanRun (parts : Parts) : Type 0 where
   pub file : IsRunnable parts.file
   pub owners : AreWhole parts.owners

@@ -16,7 +16,8 @@ page_lines = 128
 abbrev pub first_frame : ℕ
 first_frame = 16
 
--- one frame for the envelope, and one for each page of the image, of which the last may be begun alone
+-- one frame for the envelope, and one for each page of the image, of which the last may be begun
+-- alone
 abbrev pub frames_of : GuestImage → ℕ
 frames_of image = 1 + (length image.lines + 127) / page_lines
 
@@ -27,7 +28,8 @@ fits_from frames frame image = nat_le (frame + frames_of image) frames
 -- all guests, of which the first stands from this frame on, lie in a RAM of so many
 abbrev pub FitsAll : ℕ → ℕ → List GuestImage → Type 0
 FitsAll frames frame [] = Unit {0}
-FitsAll frames frame (image ∷ images) = (frame + frames_of image ≤ frames) × FitsAll frames (frame + frames_of image) images
+FitsAll frames frame (image ∷ images) =
+    (frame + frames_of image ≤ frames) × FitsAll frames (frame + frames_of image) images
 
 -- the frame behind all guests, of which the first stands from this frame on
 abbrev pub frame_behind : ℕ → List GuestImage → ℕ
@@ -41,4 +43,5 @@ abbrev pub kernel_limit : ℕ
 kernel_limit = 131072
 
 abbrev pub kernel_fits : ℕ → PlainImage → Bool
-kernel_fits frames image = nat_le (length image.bytes) kernel_limit && nat_le (length image.bytes) (frames * frame_size)
+kernel_fits frames image =
+    nat_le (length image.bytes) kernel_limit && nat_le (length image.bytes) (frames * frame_size)

@@ -45,7 +45,8 @@ pub record IsOwnerLine (line : OwnerFile) : Type 0 where
   pub key : length line.key.0 ≡ 32
   pub id : length line.id.0 ≡ 16
 
--- what the machine wants of a run file: its numbers are in their ranges, no two owners have one id, and its schedule keeps
+-- what the machine wants of a run file: its numbers are in their ranges, no two owners have one id,
+-- and its schedule keeps
 -- the rules
 pub record IsRunnable (file : RunFile) : Type 0 where
   pub boot : file.boot < 2 ^ 63

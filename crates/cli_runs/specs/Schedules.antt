@@ -6,7 +6,8 @@ use Rattle.xom_base.specs.declared.schedule.Schedule.{Schedule}
 use Rattle.xom_script.specs.RunOrder.{FitsRam}
 use Rattle.xom_script.specs.RunRules.{KeepsInterrupts}
 
--- a write of the bus comes at some event, has bytes, no more than a page, and lies in a RAM of so many frames
+-- a write of the bus comes at some event, has bytes, no more than a page, and lies in a RAM of so
+-- many frames
 pub record IsPokeOf (frames : ℕ) (poke : Poke) : Type 0 where
   pub event : 1 ≤ poke.event
   pub some : 1 ≤ length poke.bytes

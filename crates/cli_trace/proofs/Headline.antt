@@ -27,7 +27,8 @@ use Rattle.power_on.proofs.ShippedLaw.{shipped_law}
 use Rattle.cli_trace.specs.Trace.{GuestsFollow, RunFollows, last_by, last_record}
 use Rattle.cli_trace.proofs.Runnable.{are_owners, is_schedule}
 
-module _ (file : RunFile) (runnable : IsRunnable file) (guests : List GuestImage) (code : Option PlainImage) where
+module _ (file : RunFile) (runnable : IsRunnable file) (guests : List GuestImage)
+    (code : Option PlainImage) where
   abbrev first : Record
   first = first_record shipped file.machine file.boot file.frames code guests
 
@@ -35,9 +36,11 @@ module _ (file : RunFile) (runnable : IsRunnable file) (guests : List GuestImage
   low = let booted : file.boot < 2 ^ 63 = runnable.boot in omega arith
 
   -- the last record of a run comes from power-on by events that may come
-  from_run : {K : Type 0} (told : K → View → Option (Turn × (List ℕ × K))) (k : K) (last : Option Record)
+  from_run : {K : Type 0} (told : K → View → Option (Turn × (List ℕ × K))) (k : K)
+      (last : Option Record)
       → run_from shipped told file.schedule file.budget 0 first k ≡ last
-      → IsBounded (unwrap_or last first).core.entries → CameFromPowerOn shipped file.machine (unwrap_or last first)
+      → IsBounded (unwrap_or last first).core.entries
+      → CameFromPowerOn shipped file.machine (unwrap_or last first)
   from_run told k None is few = record {
     boot = file.boot;
     ram = ram_at_start file.frames code guests;
@@ -49,7 +52,8 @@ module _ (file : RunFile) (runnable : IsRunnable file) (guests : List GuestImage
     room = few;
   }
   from_run told k (Some last) is few =
-      let run = run-IsRunOf shipped told file.schedule (is_schedule file.frames file.schedule runnable.schedule) file.budget 0 first k last is in
+      let run = run-IsRunOf shipped told file.schedule (is_schedule file.frames file.schedule
+      runnable.schedule) file.budget 0 first k last is in
       record {
         boot = file.boot;
         ram = ram_at_start file.frames code guests;
@@ -62,16 +66,25 @@ module _ (file : RunFile) (runnable : IsRunnable file) (guests : List GuestImage
       }
 
 from_kernel : (file : RunFile) → IsRunnable file → (guests : List GuestImage) (k : KernelFile)
-    → IsBounded (last_by file guests k).core.entries → CameFromPowerOn shipped file.machine (last_by file guests k)
-from_kernel file runnable guests (kernel.Script script) few = from_run file runnable guests None script_told script.lines _ refl few
-from_kernel file runnable guests (kernel.Image image) few = from_run file runnable guests (Some image) image_told tt _ refl few
+    → IsBounded (last_by file guests k).core.entries
+    → CameFromPowerOn shipped file.machine (last_by file guests k)
+from_kernel file runnable guests (kernel.Script script) few =
+    from_run file runnable guests None script_told script.lines _ refl few
+from_kernel file runnable guests (kernel.Image image) few =
+    from_run file runnable guests (Some image) image_told tt _ refl few
 
-pub guests_follow : (parts : Parts) → CanRun parts → IsBounded (last_record parts).core.entries → GuestsFollow parts
+pub guests_follow : (parts : Parts) → CanRun parts → IsBounded (last_record parts).core.entries
+    → GuestsFollow parts
 unfolding last_record
 guests_follow parts can few =
-    runs-judged shipped ShippedStands shipped_law parts.owners (are_owners parts.owners can.owners) parts.file.machine
-    (last_by parts.file parts.guests parts.kernel) (from_kernel parts.file can.file parts.guests parts.kernel few)
+    runs-judged shipped ShippedStands shipped_law parts.owners (are_owners parts.owners can.owners)
+    parts.file.machine
+    (last_by parts.file parts.guests parts.kernel) (from_kernel parts.file can.file parts.guests
+    parts.kernel few)
 
 -- what is so of the parts that were read is so of the run file
-pub run_follows : (told : Told) (run : List ℕ) (parts : Parts) → ((held : Held) → told ≡ Some held → parts_of held run ≡ Ok parts) → GuestsFollow parts → RunFollows told run
-run_follows told run parts read follow held is other also = subst GuestsFollow (same_Ok parts other (sym (read held is) ∙ also)) follow
+pub run_follows : (told : Told) (run : List ℕ) (parts : Parts)
+    → ((held : Held) → told ≡ Some held → parts_of held run ≡ Ok parts) → GuestsFollow parts
+    → RunFollows told run
+run_follows told run parts read follow held is other also =
+    subst GuestsFollow (same_Ok parts other (sym (read held is) ∙ also)) follow

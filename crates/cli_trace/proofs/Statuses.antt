@@ -25,7 +25,9 @@ chosen false true n done = inr (inr (inr (inl refl)))
 chosen false false n done = done
 
 trace_status-done : (report : Report) (r : Record) → IsDone (trace_status report r)
-trace_status-done report r = chosen (is_suspect report) (list_any is_stop r.core.entries) (ending_status r.halted r.fault) (ended r.halted r.fault)
+trace_status-done report r =
+    chosen (is_suspect report) (list_any is_stop r.core.entries) (ending_status r.halted r.fault)
+    (ended r.halted r.fault)
 
 pub traced-done : (journal : Option (List ℕ)) (parts : Parts) → IsDone (traced journal parts).status
 unfolding traced
@@ -36,7 +38,9 @@ unfolding console_run
 console_run-done parts = trace_status-done (report_of parts) (last_record parts)
 
 -- no guest that follows is doubted
-none_doubted : (lines : List GuestLine) → All (λ (line : GuestLine). (steps : ℕ) × (line.verdict ≡ Follows steps)) lines → list_any (λ (line : GuestLine). is_doubted line.verdict) lines ≡ false
+none_doubted : (lines : List GuestLine)
+    → All (λ (line : GuestLine). (steps : ℕ) × (line.verdict ≡ Follows steps)) lines
+    → list_any (λ (line : GuestLine). is_doubted line.verdict) lines ≡ false
 none_doubted [] follows = refl
 none_doubted (line ∷ lines) follows =
     let first : (steps : ℕ) × (line.verdict ≡ Follows steps) = follows 0 line (omega arith) in
@@ -49,23 +53,29 @@ not_nine true None is = omega arith
 not_nine true (Some fault) is = omega arith
 not_nine false fault is = omega arith
 
-nine-suspect : (suspect stop halted : Bool) (fault : Option (ℕ × NullFault)) → cond suspect 9 (cond stop 8 (ending_status halted fault)) ≡ 9 → suspect ≡ true
+nine-suspect : (suspect stop halted : Bool) (fault : Option (ℕ × NullFault))
+    → cond suspect 9 (cond stop 8 (ending_status halted fault)) ≡ 9 → suspect ≡ true
 nine-suspect true stop halted fault nine = refl
 nine-suspect false true halted fault nine = absurd (omega arith)
 nine-suspect false false halted fault nine = absurd (not_nine halted fault nine)
 
 -- a suspect report names a finding, where none of its guests is doubted that names none
-suspect-names : (report : Report) (forged : Option ℕ) (collision : Option (ℕ × ℕ)) → report.forged ≡ forged → report.collision ≡ collision
+suspect-names : (report : Report) (forged : Option ℕ) (collision : Option (ℕ × ℕ))
+    → report.forged ≡ forged → report.collision ≡ collision
     → (NamesNothing report → AllFollow report) → is_suspect report ≡ true → NamesFinding report
 suspect-names report (Some e) collision is also follows suspect = inl (ap is_some is)
 suspect-names report None (Some pair) is also follows suspect = inr (ap is_some also)
 suspect-names report None None is also follows suspect =
     let calm = none_doubted report.guests (follows record { forged = is; collision = also }) in
-    let said : (is_some report.forged || (is_some report.collision || list_any (λ (line : GuestLine). is_doubted line.verdict) report.guests)) ≡ true = suspect in
+    let said : (is_some report.forged || (is_some report.collision || list_any
+    (λ (line : GuestLine). is_doubted line.verdict) report.guests)) ≡ true = suspect in
     absurd (let none : false ≡ true = rw (is, also, calm) at said in cc)
 
 -- of a run
-pub nine-names : (parts : Parts) → GuestsFollow parts → trace_status (report_of parts) (last_record parts) ≡ 9 → NamesFinding (report_of parts)
+pub nine-names : (parts : Parts) → GuestsFollow parts
+    → trace_status (report_of parts) (last_record parts) ≡ 9 → NamesFinding (report_of parts)
 nine-names parts follows nine =
-    suspect-names (report_of parts) (report_of parts).forged (report_of parts).collision refl refl follows
-    (nine-suspect (is_suspect (report_of parts)) (list_any is_stop (last_record parts).core.entries) (last_record parts).halted (last_record parts).fault nine)
+    suspect-names (report_of parts) (report_of parts).forged (report_of parts).collision refl refl
+    follows
+    (nine-suspect (is_suspect (report_of parts)) (list_any is_stop (last_record parts).core.entries)
+    (last_record parts).halted (last_record parts).fault nine)

@@ -20,7 +20,8 @@ byte_in (entry.Out byte) = Some byte
 abbrev pub console_of : List Entry → List ℕ
 console_of entries = filter_map byte_in entries
 
--- the line end that a console still wants behind its last byte: none where it has no byte, or ends with one
+-- the line end that a console still wants behind its last byte: none where it has no byte, or ends
+-- with one
 abbrev pub line_end_behind : Option ℕ → List ℕ
 line_end_behind None = []
 line_end_behind (Some last) = if last == 10 then [] else 10 ∷ []

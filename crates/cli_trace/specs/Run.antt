@@ -11,7 +11,12 @@ use Rattle.cli_trace.specs.Trace.{last_record, report_of, trace_status}
 -- the console alone, with the status of the trace
 unfoldable pub console_run : Parts → Answer
 console_run parts =
-    record { text = console_of (last_record parts).core.entries; file = None; status = trace_status (report_of parts) (last_record parts) }
+    record {
+      text = console_of (last_record parts).core.entries;
+      file = None;
+      status =
+          trace_status (report_of parts) (last_record parts);
+    }
 
 -- the answer of the command
 unfoldable pub run_of : Held → List ℕ → Result Answer Refusal

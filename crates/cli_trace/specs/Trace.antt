@@ -1,4 +1,5 @@
--- `trace RUN` and `trace RUN JOURNAL`: the run that a run file tells, and the judgement of the journal that it made.
+-- `trace RUN` and `trace RUN JOURNAL`: the run that a run file tells, and the judgement of the
+-- journal that it made.
 use Rattle.std.specs.Prelude.{◌≡◌, ℕ, ◌⊎◌, Bool, true, false, List, ◌++◌, Option, Some, None, Result, Ok, codes, unwrap_or, is_some, if◌then◌else◌}
 use Rattle.std.specs.Fmt.{decimal}
 use Rattle.std.specs.List.{list_any}
@@ -44,13 +45,18 @@ code_of (kernel.Image image) = Some image
 abbrev pub first_of : RunFile → List GuestImage → KernelFile → Record
 first_of file guests k = first_record shipped file.machine file.boot file.frames (code_of k) guests
 
--- the machine after the run of a kernel that tells its turns, under the schedule and within the budget of a run file
-abbrev pub last_under : {K : Type 0} → (K → View → Option (Turn × (List ℕ × K))) → K → RunFile → Record → Record
-last_under told k file first = unwrap_or (run_from shipped told file.schedule file.budget 0 first k) first
+-- the machine after the run of a kernel that tells its turns, under the schedule and within the
+-- budget of a run file
+abbrev pub last_under : {K : Type 0} → (K → View → Option (Turn × (List ℕ × K))) → K → RunFile
+    → Record → Record
+last_under told k file first =
+    unwrap_or (run_from shipped told file.schedule file.budget 0 first k) first
 
 abbrev pub last_by : RunFile → List GuestImage → KernelFile → Record
-last_by file guests (kernel.Script script) = last_under script_told script.lines file (first_of file guests (kernel.Script script))
-last_by file guests (kernel.Image image) = last_under image_told tt file (first_of file guests (kernel.Image image))
+last_by file guests (kernel.Script script) =
+    last_under script_told script.lines file (first_of file guests (kernel.Script script))
+last_by file guests (kernel.Image image) =
+    last_under image_told tt file (first_of file guests (kernel.Image image))
 
 unfoldable pub last_record : Parts → Record
 last_record parts = last_by parts.file parts.guests parts.kernel
@@ -76,7 +82,8 @@ kind_text why = codes " " ++ (fault_word why ++ codes "\n")
 abbrev pub fault_text : ℕ → NullFault → List ℕ
 fault_text at why = codes " kernel fault at " ++ (hex8 at ++ kind_text why)
 
--- how a run ended: by Halt, by a fault of the null instruction at an address, or since the budget was reached
+-- how a run ended: by Halt, by a fault of the null instruction at an address, or since the budget
+-- was reached
 abbrev pub stop_text : Option (ℕ × NullFault) → List ℕ
 stop_text None = codes " halted\n"
 stop_text (Some (at, why)) = fault_text at why
@@ -100,13 +107,17 @@ abbrev pub ending_status : Bool → Option (ℕ × NullFault) → ℕ
 ending_status true fault = stop_status fault
 ending_status false fault = 6
 
--- the first of these that holds: the report is suspect, a guest was stopped, the run ended by a fault or by its budget
+-- the first of these that holds: the report is suspect, a guest was stopped, the run ended by a
+-- fault or by its budget
 abbrev pub trace_status : Report → Record → ℕ
-trace_status report r = if is_suspect report then 9 else (if list_any is_stop r.core.entries then 8 else ending_status r.halted r.fault)
+trace_status report r =
+    if is_suspect report then 9 else (if list_any is_stop r.core.entries then 8 else ending_status
+    r.halted r.fault)
 
 -- the console in whole lines, the report, and the line on events
 abbrev pub trace_text : Report → Record → List ℕ
-trace_text report r = (console_lines (console_of r.core.entries) ++ report_text report) ++ events_line r
+trace_text report r =
+    (console_lines (console_of r.core.entries) ++ report_text report) ++ events_line r
 
 -- the text of the journal as a file, where one is named
 abbrev pub journal_file : Option (List ℕ) → List Entry → Option OutputFile
@@ -116,7 +127,12 @@ journal_file (Some name) entries = Some (record { name = name; bytes = journal_t
 -- that text, with the journal's file and the status
 abbrev pub answer_of : Option (List ℕ) → Report → Record → Answer
 answer_of journal report r =
-    record { text = trace_text report r; file = journal_file journal r.core.entries; status = trace_status report r }
+    record {
+      text = trace_text report r;
+      file = journal_file journal r.core.entries;
+      status =
+          trace_status report r;
+    }
 
 unfoldable pub traced : Option (List ℕ) → Parts → Answer
 traced journal parts = answer_of journal (report_of parts) (last_record parts)
@@ -133,10 +149,13 @@ trace_of held run journal = do
 abbrev pub NamesFinding : Report → Type 0
 NamesFinding report = (is_some report.forged ≡ true) ⊎ (is_some report.collision ≡ true)
 
--- The owners' claim: unless the report names a forged entry or a collision, the guest of each of its lines follows: none departs, and each has an owner.
+-- The owners' claim: unless the report names a forged entry or a collision, the guest of each of
+-- its lines follows: none departs, and each has an owner.
 abbrev pub GuestsFollow : Parts → Type 0
 GuestsFollow parts = IsJudgedWell parts.file.machine parts.owners (last_record parts).core.entries
 
 -- so it is of the run that this run file tells, where files tell what they hold
 abbrev pub RunFollows : Told → List ℕ → Type 0
-RunFollows told run = (held : Held) → told ≡ Some held → (parts : Parts) → parts_of held run ≡ Ok parts → GuestsFollow parts
+RunFollows told run =
+    (held : Held) → told ≡ Some held → (parts : Parts) → parts_of held run ≡ Ok parts
+    → GuestsFollow parts

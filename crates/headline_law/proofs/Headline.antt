@@ -30,15 +30,19 @@ use Rattle.headline_law.specs.Headline.{AllFollow, IsJudgedWell, KeptIsJudgedWel
 -- ---- Entries that install
 
 -- an Install entry installs
-install-at : (entries : List Entry) (i n slot : ℕ) (id : ImageId) (place at lines : ℕ) → slice_get entries i ≡ Some (entry.Install n slot id place at lines) → IsInstalled entries n id
+install-at : (entries : List Entry) (i n slot : ℕ) (id : ImageId) (place at lines : ℕ)
+    → slice_get entries i ≡ Some (entry.Install n slot id place at lines) → IsInstalled entries n id
 install-at [] i n slot id place at lines is = absurd (cc)
 install-at (first ∷ entries) zero n slot id place at lines is =
     let here : first ≡ entry.Install n slot id place at lines = cc in
     inl (subst (λ e. Installs e n id) (sym here) (refl, refl))
-install-at (first ∷ entries) (suc i) n slot id place at lines is = inr (install-at entries i n slot id place at lines is)
+install-at (first ∷ entries) (suc i) n slot id place at lines is =
+    inr (install-at entries i n slot id place at lines is)
 
 -- each entry of a journal in which each installed guest is alone
-run-at : (owners : List Owner) (entries : List Entry) → ((n : ℕ) (id : ImageId) → IsInstalled entries n id → IsAlone owners entries n id) → (e : Entry) (i : ℕ) → slice_get entries i ≡ Some e → IsRun owners entries e
+run-at : (owners : List Owner) (entries : List Entry)
+    → ((n : ℕ) (id : ImageId) → IsInstalled entries n id → IsAlone owners entries n id)
+    → (e : Entry) (i : ℕ) → slice_get entries i ≡ Some e → IsRun owners entries e
 run-at owners entries alone (entry.Install n slot id place at lines) i is =
     let found = alone n id (install-at entries i n slot id place at lines is) in
     (found.0, found.1, found.2.whose, found.2.reaches)
@@ -52,41 +56,72 @@ run-at owners entries alone (entry.Kill n) i is = tt
 run-at owners entries alone (entry.Out byte) i is = tt
 
 -- where what the machine keeps holds, all follow
-pub holds-AllFollow : (Stands : StandsFor) (owners : List Owner) (core : CoreState) (machine : Key256) → Holds Stands owners core → AllFollow (judgement machine owners core.entries)
+pub holds-AllFollow : (Stands : StandsFor) (owners : List Owner) (core : CoreState)
+    (machine : Key256)
+    → Holds Stands owners core → AllFollow (judgement machine owners core.entries)
 holds-AllFollow Stands owners core machine holds =
-    let follows = Follows-lines owners core.entries (All-of_gets (IsRun owners core.entries) core.entries (λ i e is. run-at owners core.entries holds.slots.alone e i is)) in
+    let follows = Follows-lines owners core.entries (All-of_gets (IsRun owners core.entries)
+    core.entries (λ i e is. run-at owners core.entries holds.slots.alone e i is)) in
     λ k d within. (length (steps_of _ core.entries), follows k d within)
 
 -- ---- Reports that name nothing
 
 -- a journal of which the report names nothing is honest
-pub named-IsHonest : (machine : Key256) (owners : List Owner) (entries : List Entry) → NamesNothing (judgement machine owners entries) → IsHonest (sealed_by machine owners) entries
+pub named-IsHonest : (machine : Key256) (owners : List Owner) (entries : List Entry)
+    → NamesNothing (judgement machine owners entries) → IsHonest (sealed_by machine owners) entries
 named-IsHonest machine owners entries none =
-    record { forgery = no_forgery_found (sealed_by machine owners) entries none.forged; collision = no_collision_found entries none.collision }
+    record {
+      forgery = no_forgery_found (sealed_by machine owners) entries none.forged;
+      collision =
+          no_collision_found entries none.collision;
+    }
 
 pub kept-judged : (Stands : StandsFor) → KeptIsJudgedWell Stands
-kept-judged Stands owners core kept none = holds-AllFollow Stands owners core core.machine (kept (named-IsHonest core.machine owners core.entries none))
+kept-judged Stands owners core kept none =
+    holds-AllFollow Stands owners core core.machine
+    (kept (named-IsHonest core.machine owners core.entries none))
 
 -- ---- Whole runs
 
 pub runs-judged : (v : Versions) (Stands : StandsFor) → RunsAreJudgedWell v Stands
 runs-judged v Stands law owners are machine last came none =
     let start = power_on v machine came.boot came.ram came.pc in
-    let entries-are : last.core.entries ≡ (after_all v start came.events).core.entries = ap (λ (r : Record). r.core.entries) came.made in
+    let entries-are : last.core.entries ≡ (after_all v start came.events).core.entries =
+    ap (λ (r : Record). r.core.entries) came.made in
     let honest = named-IsHonest machine owners last.core.entries none in
-    let holds = (runs_hold v Stands law owners are machine came.boot came.ram came.pc came.low came.events came.fit
-    (subst IsBounded entries-are came.room) (subst (IsHonest (sealed_by machine owners)) entries-are honest)).holds in
-    subst (λ es. AllFollow (judgement machine owners es)) (sym entries-are) (holds-AllFollow Stands owners (after_all v start came.events).core machine holds)
+    let holds = (runs_hold v Stands law owners are machine came.boot came.ram came.pc came.low
+    came.events came.fit
+    (subst IsBounded entries-are came.room) (subst (IsHonest (sealed_by machine owners)) entries-are
+    honest)).holds in
+    subst (λ es. AllFollow (judgement machine owners es)) (sym entries-are)
+    (holds-AllFollow Stands owners (after_all v start came.events).core machine holds)
 
 -- of a run under any kernel that tells its turns, whatever its state is
-pub kernel-judged : (v : Versions) (Stands : StandsFor) → VersionLaw v Stands → (owners : List Owner) → AreOwners owners → (machine : Key256) (boot : ℕ) (ram : List ℕ) (pc : ℕ) → boot < 2 ^ 64
-    → {K : Type 0} (told : K → View → Option (Turn × (List ℕ × K))) (schedule : Schedule) → IsSchedule schedule
-    → (n : ℕ) (k : K) (last : Record) → run_from v told schedule n 0 (power_on v machine boot ram pc) k ≡ Some last → IsBounded last.core.entries
+pub kernel-judged : (v : Versions) (Stands : StandsFor) → VersionLaw v Stands
+    → (owners : List Owner) → AreOwners owners
+    → (machine : Key256) (boot : ℕ) (ram : List ℕ) (pc : ℕ) → boot < 2 ^ 64
+    → {K : Type 0} (told : K → View → Option (Turn × (List ℕ × K))) (schedule : Schedule)
+    → IsSchedule schedule
+    → (n : ℕ) (k : K) (last : Record)
+    → run_from v told schedule n 0 (power_on v machine boot ram pc) k ≡ Some last
+    → IsBounded last.core.entries
     → IsJudgedWell machine owners last.core.entries
 kernel-judged v Stands law owners are machine boot ram pc low told schedule keeps n k last is room =
     let run = run-IsRunOf v told schedule keeps n 0 (power_on v machine boot ram pc) k last is in
-    runs-judged v Stands law owners are machine last (record { boot = boot; ram = ram; pc = pc; events = run.events; low = low; fit = run.fit; made = run.made; room = room })
+    runs-judged v Stands law owners are machine last
+    (record {
+      boot = boot;
+      ram = ram;
+      pc = pc;
+      events = run.events;
+      low = low;
+      fit =
+          run.fit;
+      made = run.made;
+      room = room;
+    })
 
 pub kernels-judged : (v : Versions) (Stands : StandsFor) → KernelsAreJudgedWell v Stands
 kernels-judged v Stands law owners are machine boot ram pc low told schedule keeps n last is room =
-    kernel-judged v Stands law owners are machine boot ram pc low told schedule keeps n [] last is room
+    kernel-judged v Stands law owners are machine boot ram pc low told schedule keeps n [] last is
+    room

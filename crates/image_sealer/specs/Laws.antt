@@ -1,4 +1,5 @@
--- What an owner may rely on: the machine that an image was sealed for finds in it what the owner put there, and each tag is that of a message of the owner's sealing.
+-- What an owner may rely on: the machine that an image was sealed for finds in it what the owner
+-- put there, and each tag is that of a message of the owner's sealing.
 use Rattle.std.specs.Prelude.{ℕ, ◌≡◌, List, ◌∷◌, Some, length, map, slice_get}
 use Rattle.keyed_mac.specs.Hmac.{hmac_sha256}
 use Rattle.xom_base.specs.declared.key.Key256.{Key256}
@@ -19,20 +20,25 @@ pub record IsOwner (owner : Owner) : Type 0 where
 -- the envelope opens to the image's id, entry, number of lines and key
 abbrev pub EnvelopesOpen : Type 0
 EnvelopesOpen =
-    (machine : Key256) (owner : Owner) (sealed : SealedImage) → IsOwner owner → IsSealedFor machine owner sealed
+    (machine : Key256) (owner : Owner) (sealed : SealedImage) → IsOwner owner → IsSealedFor machine
+    owner sealed
     → unwrapped machine sealed.envelope ≡ Some (contents_of owner)
 
--- there are as many sealed lines as lines, and each opens, under its number, to the line of that number
+-- there are as many sealed lines as lines, and each opens, under its number, to the line of that
+-- number
 abbrev pub LinesOpen : Type 0
 LinesOpen =
     (machine : Key256) (owner : Owner) (sealed : SealedImage) → IsSealedFor machine owner sealed
     → (length sealed.lines ≡ length (lines_of owner.plain.bytes))
-    × ((i : ℕ) (line : SealedLine) (plain : List ℕ) → slice_get sealed.lines i ≡ Some line → slice_get (lines_of owner.plain.bytes) i ≡ Some plain
+    × ((i : ℕ) (line : SealedLine) (plain : List ℕ) → slice_get sealed.lines i ≡ Some line
+    → slice_get (lines_of owner.plain.bytes) i ≡ Some plain
     → unsealed_line (Image owner.id i) (image_keys owner.key owner.id) line ≡ Some plain)
 
 -- the tags of the envelope and of the lines are those of the owner's sealing, one by one
 abbrev pub TagsAreOfTheSealing : Type 0
 TagsAreOfTheSealing =
-    (machine : Key256) (owner : Owner) (sealed : SealedImage) → IsOwner owner → IsSealedFor machine owner sealed
+    (machine : Key256) (owner : Owner) (sealed : SealedImage) → IsOwner owner → IsSealedFor machine
+    owner sealed
     → tag_in sealed.envelope ∷ map (λ (line : SealedLine). line.tag) sealed.lines
-    ≡ map (λ (sealing : List ℕ × List ℕ). hmac_sha256 sealing.0 sealing.1) (sealing_of machine owner)
+    ≡ map (λ (sealing : List ℕ × List ℕ). hmac_sha256 sealing.0 sealing.1)
+    (sealing_of machine owner)

@@ -1,4 +1,5 @@
--- Whether a key with a message is of an owner's sealing: read from the message, which names its line.
+-- Whether a key with a message is of an owner's sealing: read from the message, which names its
+-- line.
 use Rattle.std.specs.Prelude.{ℕ, ◌≡◌, ◌==◌, ◌&&◌, ◌||◌, Bool, List, length, nat_lt}
 use Rattle.std.specs.List.{list_any}
 use Rattle.std.specs.Str.{bytes_eq}
@@ -29,7 +30,8 @@ line_message_size = 53
 abbrev pub is_line_message : Owner → List ℕ → Bool
 is_line_message owner message =
     (length message == line_message_size)
-    && (nat_lt (line_in message) (line_count owner.plain.bytes) && bytes_eq message (line_sealing_of owner (line_in message)).1)
+    && (nat_lt (line_in message) (line_count owner.plain.bytes) && bytes_eq message
+    (line_sealing_of owner (line_in message)).1)
 
 -- the machine key with the message of the envelope, or the image key with the message of a line
 abbrev pub is_own_sealing : Key256 → Owner → List ℕ → List ℕ → Bool

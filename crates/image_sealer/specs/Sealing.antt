@@ -1,4 +1,5 @@
--- How an owner seals an image for one machine: each line of 32 bytes under its place in the image, and an envelope that tells that machine the image's key. The form is this project's own.
+-- How an owner seals an image for one machine: each line of 32 bytes under its place in the image,
+-- and an envelope that tells that machine the image's key. The form is this project's own.
 use Rattle.std.specs.Prelude.{ℕ, ◌≡◌, ◌+◌, ◌*◌, ◌/◌, List, ◌∷◌, drop, length, map, take}
 use Rattle.std.specs.List.{range_with_len}
 use Rattle.xom_base.specs.Padded.{filled}
@@ -44,7 +45,9 @@ envelope_of machine owner = wrapped machine (contents_of owner)
 
 -- a line under its number in the image
 unfoldable pub sealed_line_of : Owner → ℕ → SealedLine
-sealed_line_of owner line = sealed_line (Image owner.id line) (image_keys owner.key owner.id) (line_of owner.plain.bytes line)
+sealed_line_of owner line =
+    sealed_line (Image owner.id line) (image_keys owner.key owner.id)
+    (line_of owner.plain.bytes line)
 
 -- all lines of the image
 abbrev pub sealed_lines_of : Owner → List SealedLine
@@ -59,9 +62,11 @@ pub record IsSealedFor (machine : Key256) (owner : Owner) (sealed : SealedImage)
 
 -- the image key and the message of a line
 abbrev pub line_sealing_of : Owner → ℕ → List ℕ × List ℕ
-line_sealing_of owner line = (owner.key.0, line_message (Image owner.id line) ((sealed_line_of owner line).ct))
+line_sealing_of owner line =
+    (owner.key.0, line_message (Image owner.id line) ((sealed_line_of owner line).ct))
 
--- each key with a message: the machine key with that of the envelope, then the image key with that of each line
+-- each key with a message: the machine key with that of the envelope, then the image key with that
+-- of each line
 unfoldable pub sealing_of : Key256 → Owner → List (List ℕ × List ℕ)
 sealing_of machine owner =
     (machine.0, envelope_message (envelope_of machine owner))

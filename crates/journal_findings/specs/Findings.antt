@@ -24,20 +24,24 @@ seal_in other = None
 
 -- ---- Forgeries
 
--- the number of the entry behind these, if it accepts what is neither sealed by an owner nor by an earlier entry
+-- the number of the entry behind these, if it accepts what is neither sealed by an owner nor by an
+-- earlier entry
 abbrev pub forgery_at : List (List ℕ × List ℕ) → List Entry → Entry → Option ℕ
 forgery_at sealed before (entry.Accept key message place) =
-    if is_sealed key message (sealed ++ filter_map seal_in before) then None else Some (length before + 1)
+    if is_sealed key message (sealed ++ filter_map seal_in before) then None
+    else Some (length before + 1)
 forgery_at sealed before other = None
 
 -- ---- Collisions
 
 -- the entry has the same digest for another text
 abbrev pub collides : List ℕ → List ℕ → Entry → Bool
-collides preimage digest (entry.Hash other same) = bytes_eq digest same && not (bytes_eq preimage other)
+collides preimage digest (entry.Hash other same) =
+    bytes_eq digest same && not (bytes_eq preimage other)
 collides preimage digest other = false
 
--- the numbers of the first entry that collides with the one behind these, and of that one, if any does
+-- the numbers of the first entry that collides with the one behind these, and of that one, if any
+-- does
 abbrev pub collision_at : List Entry → Entry → Option (ℕ × ℕ)
 collision_at before (entry.Hash preimage digest) =
     option_map (λ i. (i + 1, length before + 1)) (position (collides preimage digest) before)
@@ -46,14 +50,17 @@ collision_at before other = None
 -- ---- The searches
 
 -- what is found first, going through the entries, where each is looked at with those before it
-abbrev pub first_found : {A : Type 0} → (List Entry → Entry → Option A) → List Entry → List Entry → Option A
+abbrev pub first_found : {A : Type 0} → (List Entry → Entry → Option A) → List Entry → List Entry
+    → Option A
 first_found find before [] = None
-first_found find before (entry ∷ entries) = option_or (find before entry) (first_found find (before ++ entry ∷ []) entries)
+first_found find before (entry ∷ entries) =
+    option_or (find before entry) (first_found find (before ++ entry ∷ []) entries)
 
 -- the number of the first forged Accept, where owners sealed these
 abbrev pub forged : List (List ℕ × List ℕ) → List Entry → Option ℕ
 forged sealed entries = first_found (forgery_at sealed) [] entries
 
--- the numbers of the first Hash that collides with an earlier one and of the least such earlier one, that one first
+-- the numbers of the first Hash that collides with an earlier one and of the least such earlier
+-- one, that one first
 abbrev pub collision : List Entry → Option (ℕ × ℕ)
 collision entries = first_found collision_at [] entries

@@ -60,21 +60,28 @@ use Rattle.journal_laws.proofs.ShortEffects.{IsShortEffect, IsShortSeen, IsShort
 
 -- ---- Cells
 
-tagged-short : (slot : ℕ) (cells : List Cell) (w : Writes) → KeepsWrites w → All IsShortCell cells → All IsShortCell (with_writes slot cells w)
+tagged-short : (slot : ℕ) (cells : List Cell) (w : Writes) → KeepsWrites w → All IsShortCell cells
+    → All IsShortCell (with_writes slot cells w)
 tagged-short slot cells writes.Nothing keeps short = short
-tagged-short slot cells (writes.One reg value) keeps short = All-set IsShortCell cells reg (record { value = value; tag = slot }) keeps.2 short
+tagged-short slot cells (writes.One reg value) keeps short =
+    All-set IsShortCell cells reg (record { value = value; tag = slot }) keeps.2 short
 tagged-short slot cells (writes.Pair hi lo) keeps short =
-    All-set IsShortCell (set cells 32 (record { value = hi; tag = slot })) 33 (record { value = lo; tag = slot }) keeps.1
+    All-set IsShortCell (set cells 32 (record { value = hi; tag = slot })) 33
+    (record { value = lo; tag = slot }) keeps.1
     (All-set IsShortCell cells 32 (record { value = hi; tag = slot }) keeps.0 short)
 
-untagged-short : (cells : List Cell) (out : Released) → KeepsReleased out → All IsShortCell cells → All IsShortCell (with_release cells out)
+untagged-short : (cells : List Cell) (out : Released) → KeepsReleased out → All IsShortCell cells
+    → All IsShortCell (with_release cells out)
 untagged-short cells released.Nothing keeps short = short
-untagged-short cells (released.Cell reg value) keeps short = All-set IsShortCell cells reg (record { value = value; tag = 0 }) keeps.2 short
+untagged-short cells (released.Cell reg value) keeps short =
+    All-set IsShortCell cells reg (record { value = value; tag = 0 }) keeps.2 short
 untagged-short cells (released.Null address value) keeps short = short
 
-cells_after-short : (slot : ℕ) (cells : List Cell) (step : Step) → KeepsStep step → All IsShortCell cells → All IsShortCell (cells_after slot cells step)
+cells_after-short : (slot : ℕ) (cells : List Cell) (step : Step) → KeepsStep step
+    → All IsShortCell cells → All IsShortCell (cells_after slot cells step)
 cells_after-short slot cells step keeps short =
-    untagged-short (with_writes slot cells step.writes) step.released keeps.5 (tagged-short slot cells step.writes keeps.2 short)
+    untagged-short (with_writes slot cells step.writes) step.released keeps.5
+    (tagged-short slot cells step.writes keeps.2 short)
 
 -- ---- RAM
 
@@ -82,18 +89,25 @@ given_out-bytes : (ram : List ℕ) (out : Released) → IsBytes ram → IsBytes 
 given_out-bytes ram released.Nothing bytes = bytes
 given_out-bytes ram (released.Cell reg value) bytes = bytes
 given_out-bytes ram (released.Null address value) bytes =
-    cond_both (holds ram address 4) _ ram IsBytes (λ _. bytes-written ram address (to_be_bytes w32 value) bytes (bytes-number value)) (λ _. bytes)
+    cond_both (holds ram address 4) _ ram IsBytes
+    (λ _. bytes-written ram address (to_be_bytes w32 value) bytes (bytes-number value))
+    (λ _. bytes)
 
 null_word-short : (ram : List ℕ) (address : ℕ) → IsBytes ram → Is32Bit (null_word ram address)
-null_word-short ram address bytes = cond_both (holds ram address 4) (word_at ram address) 0 Is32Bit (λ _. word_at-short ram address bytes) (λ _. lit< tt)
+null_word-short ram address bytes =
+    cond_both (holds ram address 4) (word_at ram address) 0 Is32Bit
+    (λ _. word_at-short ram address bytes) (λ _. lit< tt)
 
 -- ---- What a step is made of
 
 -- what comes from outside
-received_by-short : (core : CoreState) (wished : Wish) → RulesHold core → Is32Bit (received_by core.cells core.ram wished)
+received_by-short : (core : CoreState) (wished : Wish) → RulesHold core
+    → Is32Bit (received_by core.cells core.ram wished)
 received_by-short core (wish.Receive reg from) rules =
-    cond_both ((cell_at core.cells from).tag == 0) (cell_at core.cells from).value 0 Is32Bit (λ _. cell-short core rules from) (λ _. lit< tt)
-received_by-short core (wish.NullLoad reg address) rules = null_word-short core.ram address rules.ram
+    cond_both ((cell_at core.cells from).tag == 0) (cell_at core.cells from).value 0 Is32Bit
+    (λ _. cell-short core rules from) (λ _. lit< tt)
+received_by-short core (wish.NullLoad reg address) rules =
+    null_word-short core.ram address rules.ram
 received_by-short core wish.Nothing rules = lit< tt
 received_by-short core (wish.Load reg address how old) rules = lit< tt
 received_by-short core (wish.Store address count value) rules = lit< tt
@@ -106,13 +120,17 @@ received_by-short core (wish.Call code) rules = lit< tt
 received_by-short core (wish.Do operation) rules = lit< tt
 received_by-short core (wish.Ask reg what) rules = lit< tt
 
-seen_by-short : (core : CoreState) (slot : ℕ) → RulesHold core → (reg : ℕ) → IsShortSeen (seen_by slot core.cells reg)
+seen_by-short : (core : CoreState) (slot : ℕ) → RulesHold core → (reg : ℕ)
+    → IsShortSeen (seen_by slot core.cells reg)
 seen_by-short core slot rules reg =
     cond_both (reg == 0) _ _ IsShortSeen (λ _. lit< tt)
-    (λ _. cond_both ((cell_at core.cells reg).tag == slot) _ _ IsShortSeen (λ _. cell-short core rules reg) (λ _. tt))
+    (λ _. cond_both ((cell_at core.cells reg).tag == slot) _ _ IsShortSeen
+    (λ _. cell-short core rules reg) (λ _. tt))
 
-word_loaded-short : (bytes : List ℕ) (wished : Wish) → IsBytes bytes → Is32Bit (word_loaded bytes wished)
-word_loaded-short bytes (wish.Load reg address how old) each = word_at-short bytes ((address - address % 4) % 32) each
+word_loaded-short : (bytes : List ℕ) (wished : Wish) → IsBytes bytes
+    → Is32Bit (word_loaded bytes wished)
+word_loaded-short bytes (wish.Load reg address how old) each =
+    word_at-short bytes ((address - address % 4) % 32) each
 word_loaded-short bytes wish.Nothing each = lit< tt
 word_loaded-short bytes (wish.Store address count value) each = lit< tt
 word_loaded-short bytes (wish.NullLoad reg address) each = lit< tt
@@ -127,7 +145,8 @@ word_loaded-short bytes (wish.Do operation) each = lit< tt
 word_loaded-short bytes (wish.Ask reg what) each = lit< tt
 
 -- the handler and the kept pair after it
-handler_after-short : (handler : ℕ) (wished : Wish) → Is32Bit handler → IsShortWish wished → Is32Bit (handler_after handler wished)
+handler_after-short : (handler : ℕ) (wished : Wish) → Is32Bit handler → IsShortWish wished
+    → Is32Bit (handler_after handler wished)
 handler_after-short handler (wish.Hand address) short wished_short = wished_short
 handler_after-short handler wish.Nothing short wished_short = short
 handler_after-short handler (wish.Load reg address how old) short wished_short = short
@@ -142,7 +161,8 @@ handler_after-short handler (wish.Call code) short wished_short = short
 handler_after-short handler (wish.Do operation) short wished_short = short
 handler_after-short handler (wish.Ask reg what) short wished_short = short
 
-kept_after-short : (kept : Option (ℕ × ℕ)) (wished : Wish) → IfSome kept IsShortPair → IfSome (kept_after kept wished) IsShortPair
+kept_after-short : (kept : Option (ℕ × ℕ)) (wished : Wish) → IfSome kept IsShortPair
+    → IfSome (kept_after kept wished) IsShortPair
 kept_after-short kept wish.SigRet short = tt
 kept_after-short kept (wish.Hand address) short = short
 kept_after-short kept wish.Nothing short = short
@@ -158,9 +178,13 @@ kept_after-short kept (wish.Do operation) short = short
 kept_after-short kept (wish.Ask reg what) short = short
 
 -- what a step stores is in its line
-made-StoresIn : (core : CoreState) (slot place pc npc : ℕ) (written : Writes) (wished : Wish) (word got : ℕ) → ((address : ℕ) → address_in wished ≡ Some address → ((way_at core.ways place).slot ≡ slot) ⊎ (length core.ways ≤ place))
+made-StoresIn : (core : CoreState) (slot place pc npc : ℕ) (written : Writes) (wished : Wish)
+    (word got : ℕ)
+    → ((address : ℕ) → address_in wished ≡ Some address → ((way_at core.ways place).slot ≡ slot)
+    ⊎ (length core.ways ≤ place))
     → StoresIn core slot place (step_of_wish pc npc written wished word got).stored
-made-StoresIn core slot place pc npc written (wish.Store address count value) word got own = own address refl
+made-StoresIn core slot place pc npc written (wish.Store address count value) word got own =
+    own address refl
 made-StoresIn core slot place pc npc written (wish.Load reg at how old) word got own = tt
 made-StoresIn core slot place pc npc written wish.Nothing word got own = tt
 made-StoresIn core slot place pc npc written (wish.NullLoad reg at) word got own = tt
@@ -174,15 +198,23 @@ made-StoresIn core slot place pc npc written (wish.Call code) word got own = tt
 made-StoresIn core slot place pc npc written (wish.Do operation) word got own = tt
 made-StoresIn core slot place pc npc written (wish.Ask reg what) word got own = tt
 
-step-StoresIn : (core : CoreState) (slot place pc npc : ℕ) (effect : Effect) (word got : ℕ) → ((address : ℕ) → address_in effect.wish ≡ Some address → ((way_at core.ways place).slot ≡ slot) ⊎ (length core.ways ≤ place))
+step-StoresIn : (core : CoreState) (slot place pc npc : ℕ) (effect : Effect) (word got : ℕ)
+    → ((address : ℕ) → address_in effect.wish ≡ Some address
+    → ((way_at core.ways place).slot ≡ slot) ⊎ (length core.ways ≤ place))
     → StoresIn core slot place (step_made pc npc effect word got).stored
 unfolding step_made
-step-StoresIn core slot place pc npc effect word got own = made-StoresIn core slot place pc npc effect.writes effect.wish word got own
+step-StoresIn core slot place pc npc effect word got own =
+    made-StoresIn core slot place pc npc effect.writes effect.wish word got own
 
 -- a private address is of a line that a guest has
-address-low : (wished : Wish) (address : ℕ) → IsInRange wished → address_in wished ≡ Some address → address / 32 < line_limit
-address-low (wish.Load reg at how old) address range is = let same : at ≡ address = cc in let word : at - at % 4 + 4 ≤ 2 ^ 20 = range.word in omega arith
-address-low (wish.Store at count value) address range is = let same : at ≡ address = cc in let some : 1 ≤ count = range.some in let private : at + count ≤ 2 ^ 20 = range.private in omega arith
+address-low : (wished : Wish) (address : ℕ) → IsInRange wished → address_in wished ≡ Some address
+    → address / 32 < line_limit
+address-low (wish.Load reg at how old) address range is =
+    let same : at ≡ address = cc in let word : at - at % 4 + 4 ≤ 2 ^ 20 = range.word in omega arith
+address-low (wish.Store at count value) address range is =
+    let same : at
+    ≡ address = cc in let some : 1 ≤ count = range.some in let private : at + count ≤ 2 ^ 20 =
+    range.private in omega arith
 address-low wish.Nothing address range is = absurd (cc)
 address-low (wish.NullLoad reg at) address range is = absurd (cc)
 address-low (wish.NullStore at value) address range is = absurd (cc)
@@ -197,21 +229,25 @@ address-low (wish.Ask reg what) address range is = absurd (cc)
 
 code-low : (pc : ℕ) → is_code pc ≡ true → pc / 32 < line_limit
 code-low pc is = elim (eqb_tells (pc % 4) 0) [
-  | inl whole ↦ let low : nat_lt pc private_size ≡ true = rw whole.0 at is in let size = private_size_is in let below : pc < private_size = grind (arith, nat_tests) in omega arith
+  | inl whole ↦ let low : nat_lt pc private_size ≡ true = rw whole.0 at is in let size =
+      private_size_is in let below : pc < private_size = grind (arith, nat_tests) in omega arith
   | inr part ↦ absurd (let no = rw part.0 at is in cc)
 ]
 
 -- ---- A step
 
 module _ (core : CoreState) (slot : ℕ) (live : IsLive core slot) (rules : RulesHold core) where
-  stored-sound : (place : ℕ) (kept : Stored) → StoresIn core slot place kept → (k : ℕ) → IsSoundWay core.sessions (way_at (stored_at core.ways place kept) k)
+  stored-sound : (place : ℕ) (kept : Stored) → StoresIn core slot place kept → (k : ℕ)
+      → IsSoundWay core.sessions (way_at (stored_at core.ways place kept) k)
   stored-sound place stored.Nothing own k = rules.ways k
   stored-sound place (stored.Bytes address count value) own k =
       let way = way_at core.ways place in
       let sound = rules.ways place in
-      set-each (IsSoundWay core.sessions) core.ways place (stored_way way address (low_bytes count value)) free_way
+      set-each (IsSoundWay core.sessions) core.ways place
+      (stored_way way address (low_bytes count value)) free_way
       (λ within. record {
-        bytes = bytes-written way.bytes (address % 32) (low_bytes count value) sound.bytes (bytes-low count value);
+        bytes = bytes-written way.bytes (address % 32) (low_bytes count value) sound.bytes
+            (bytes-low count value);
         line = sound.line;
         live = λ dirty. elim own [
           | inl its ↦ subst (λ j. is_live (session_of core j).state ≡ true) (sym its) live
@@ -219,18 +255,26 @@ module _ (core : CoreState) (slot : ℕ) (live : IsLive core slot) (rules : Rule
         ];
       }) rules.ways k
 
-  pub stepped-holds : (place : ℕ) (session : Session) (step : Step) → KeepsStep step → IsSoundSession core.installs session → is_live session.state ≡ true → StoresIn core slot place step.stored
+  pub stepped-holds : (place : ℕ) (session : Session) (step : Step) → KeepsStep step
+      → IsSoundSession core.installs session → is_live session.state ≡ true
+      → StoresIn core slot place step.stored
       → RulesHold (core_after_step core slot place session step)
   stepped-holds place session step keeps sound alive own =
       let cells = cells_after slot core.cells step in
       let ways = stored_at core.ways place step.stored in
       let ram = given_out core.ram step.released in
-      let first = with_cells-holds core rules cells (cells_after-short slot core.cells step keeps rules.cells) in
-      let second = ways-hold (with_cells core cells) first ways core.pointers (stored-sound place step.stored own) in
+      let first = with_cells-holds core rules cells (cells_after-short slot core.cells step keeps
+      rules.cells) in
+      let second = ways-hold (with_cells core cells) first ways core.pointers
+      (stored-sound place step.stored own) in
       let base = record core { cells = cells; ways = ways } in
-      let third = with_ram-holds base second ram (given_out-bytes core.ram step.released rules.ram) (length-given_out core.ram step.released) in
-      let fourth = with_session-holds (record base { ram = ram }) third slot session sound (λ _. alive) in
-      noted-holds (with_session (record base { ram = ram }) slot session) fourth (entry.Step (session_of core slot).install step) (live-came core rules slot live, keeps) refl
+      let third = with_ram-holds base second ram (given_out-bytes core.ram step.released rules.ram)
+      (length-given_out core.ram step.released) in
+      let fourth = with_session-holds (record base { ram = ram }) third slot session sound
+      (λ _. alive) in
+      noted-holds (with_session (record base { ram = ram }) slot session) fourth
+      (entry.Step (session_of core slot).install step) (live-came core rules slot live, keeps)
+      refl
 
   trapped-holds : (why : Cause) → KeepsCause why → RulesHold (after_trap core slot why).0
   trapped-holds why keeps =
@@ -255,8 +299,11 @@ module _ (core : CoreState) (slot : ℕ) (live : IsLive core slot) (rules : Rule
 abbrev pub GoesWell : CoreState × Option Cause → Type 0
 GoesWell result = RulesHold result.0 × IfSome result.1 (λ why. Is32Bit (cause_argument why))
 
-trapped-well : (core : CoreState) (slot : ℕ) (why : Cause) → KeepsCause why → Is32Bit (cause_argument why) → IsLive core slot → RulesHold core → GoesWell (after_trap core slot why)
-trapped-well core slot why keeps short live rules = (trapped-holds core slot live rules why keeps, short)
+trapped-well : (core : CoreState) (slot : ℕ) (why : Cause) → KeepsCause why
+    → Is32Bit (cause_argument why) → IsLive core slot → RulesHold core
+    → GoesWell (after_trap core slot why)
+trapped-well core slot why keeps short live rules =
+    (trapped-holds core slot live rules why keeps, short)
 
 rule-short : (why : Rule) → Is32Bit (cause_argument (cause.Stopped why))
 rule-short (rule.LineTag line) = lit< tt
@@ -271,16 +318,24 @@ fault-short own_fault.Overflow = lit< tt
 fault-short own_fault.Address = lit< tt
 fault-short own_fault.Break = lit< tt
 
-after_step-well : (core : CoreState) (slot : ℕ) (interrupt : Bool) (step : Step) → KeepsStep step → IsLive core slot → RulesHold core → (end : StepEnd) → step.end ≡ end → GoesWell (after_step core slot interrupt end)
+after_step-well : (core : CoreState) (slot : ℕ) (interrupt : Bool) (step : Step) → KeepsStep step
+    → IsLive core slot → RulesHold core → (end : StepEnd) → step.end ≡ end
+    → GoesWell (after_step core slot interrupt end)
 after_step-well core slot interrupt step keeps live rules (ended.Call code) is =
-    let low : Is32Bit code = (let all = keeps.6 in rw is at all) in trapped-well core slot (cause.Call code) low low live rules
-after_step-well core slot interrupt step keeps live rules ended.Exit is = (gone-holds core slot state.Ended live rules, lit< tt)
-after_step-well core slot true step keeps live rules ended.Goes is = trapped-well core slot cause.Interrupt tt (lit< tt) live rules
+    let low : Is32Bit code = (let all = keeps.6 in rw is at all) in trapped-well core slot
+    (cause.Call code) low low live rules
+after_step-well core slot interrupt step keeps live rules ended.Exit is =
+    (gone-holds core slot state.Ended live rules, lit< tt)
+after_step-well core slot true step keeps live rules ended.Goes is =
+    trapped-well core slot cause.Interrupt tt (lit< tt) live rules
 after_step-well core slot false step keeps live rules ended.Goes is = (rules, tt)
 
-module _ (core : CoreState) (slot : ℕ) (interrupt : Bool) (live : IsLive core slot) (rules : RulesHold core) (effect : Effect) (short : IsShortEffect effect) (word place : ℕ) where
+module _ (core : CoreState) (slot : ℕ) (interrupt : Bool) (live : IsLive core slot)
+    (rules : RulesHold core) (effect : Effect) (short : IsShortEffect effect) (word place : ℕ) where
   abbrev made_step : Step
-  made_step = step_made (session_of core slot).pc (session_of core slot).npc effect word (received_by core.cells core.ram effect.wish)
+  made_step =
+      step_made (session_of core slot).pc (session_of core slot).npc effect word
+      (received_by core.cells core.ram effect.wish)
 
   abbrev its : Session
   its = session_after_step (session_of core slot) effect made_step
@@ -292,7 +347,8 @@ module _ (core : CoreState) (slot : ℕ) (interrupt : Bool) (live : IsLive core 
         entry = sound.entry;
         pc = short.pc;
         npc = short.npc;
-        handler = handler_after-short (session_of core slot).handler effect.wish sound.handler short.wish;
+        handler = handler_after-short (session_of core slot).handler effect.wish sound.handler
+            short.wish;
         saved = kept_after-short (session_of core slot).saved effect.wish sound.saved;
         id = sound.id;
         id_length = sound.id_length;
@@ -300,15 +356,23 @@ module _ (core : CoreState) (slot : ℕ) (interrupt : Bool) (live : IsLive core 
         install = λ _. live-came core rules slot live;
       }
 
-  retires-well : KeepsStep made_step → ((address : ℕ) → address_in effect.wish ≡ Some address → ((way_at core.ways place).slot ≡ slot) ⊎ (length core.ways ≤ place)) → GoesWell (retirement core slot interrupt effect word place)
+  retires-well : KeepsStep made_step
+      → ((address : ℕ) → address_in effect.wish ≡ Some address
+      → ((way_at core.ways place).slot ≡ slot) ⊎ (length core.ways ≤ place))
+      → GoesWell (retirement core slot interrupt effect word place)
   retires-well keeps own =
       let after = after_retirement core slot place effect made_step in
-      let now : IsLive after slot = ap (λ (t : Session). is_live t.state) (get_or-set_same core.sessions slot its free (live-within core.sessions slot live)) ∙ live in
+      let now : IsLive after slot = ap (λ (t : Session). is_live t.state)
+      (get_or-set_same core.sessions slot its free (live-within core.sessions slot live))
+      ∙ live in
       after_step-well after slot interrupt made_step keeps now
-      (stepped-holds core slot live rules place its made_step keeps moved-sound live (step-StoresIn core slot place (session_of core slot).pc (session_of core slot).npc effect word (received_by core.cells core.ram effect.wish) own))
+      (stepped-holds core slot live rules place its made_step keeps moved-sound live
+      (step-StoresIn core slot place (session_of core slot).pc (session_of core slot).npc effect
+      word (received_by core.cells core.ram effect.wish) own))
       made_step.end refl
 
-module _ (v : Versions) (Stands : StandsFor) (law : VersionLaw v Stands) (hashes : StoresKeepRules v) (slot : ℕ) (interrupt : Bool) where
+module _ (v : Versions) (Stands : StandsFor) (law : VersionLaw v Stands)
+    (hashes : StoresKeepRules v) (slot : ℕ) (interrupt : Bool) where
   -- an access leaves the session of a slot whose line is ready
   no_parts : Parts v slot (λ core new. Unit {0})
   no_parts = record {
@@ -324,50 +388,71 @@ module _ (v : Versions) (Stands : StandsFor) (law : VersionLaw v Stands) (hashes
     step = λ core place session step runs goes stores. tt;
   }
 
-  reached : (core : CoreState) (line : ℕ) → IsRunning core slot → Reached core slot (access v core slot line).0 (access v core slot line).1
+  reached : (core : CoreState) (line : ℕ) → IsRunning core slot
+      → Reached core slot (access v core slot line).0 (access v core slot line).1
   reached core line runs = (walk_access v slot (λ core new. Unit {0}) no_parts core line runs).1
 
-  data-well : (core : CoreState) (effect : Effect) (result : CoreState × Reach) → IsRunning core slot → IsShortEffect effect → Ranged effect
+  data-well : (core : CoreState) (effect : Effect) (result : CoreState × Reach)
+      → IsRunning core slot → IsShortEffect effect → Ranged effect
       → Is32Bit (session_of core slot).pc → Is32Bit (session_of core slot).npc
-      → Reached core slot result.0 result.1 → Answers result → GoesWell (data_reached slot interrupt effect result)
+      → Reached core slot result.0 result.1 → Answers result
+      → GoesWell (data_reached slot interrupt effect result)
   data-well core effect (new, reach.PageFault page) runs short ranged pc npc came answers =
-      trapped-well new slot (cause.Page page) answers.1 answers.1 (rw (subst (λ c. IsRunning c slot) (sym came) runs) refl) answers.0
-  data-well core effect (new, reach.Stopped why) runs short ranged pc npc came answers = (answers.0, rule-short why)
+      trapped-well new slot (cause.Page page) answers.1 answers.1
+      (rw (subst (λ c. IsRunning c slot) (sym came) runs) refl) answers.0
+  data-well core effect (new, reach.Stopped why) runs short ranged pc npc came answers =
+      (answers.0, rule-short why)
   data-well core effect (new, reach.Ready place) runs short ranged pc npc came answers =
       let now : IsRunning new slot = ap (λ (s : Session). s.state) came.0 ∙ runs in
       let word = word_loaded (way_at new.ways place).bytes effect.wish in
       let got = received_by new.cells new.ram effect.wish in
       let sound = session-sound new answers.0 slot in
       retires-well new slot interrupt (rw now refl) answers.0 effect short word place
-      (step_made-KeepsStep (session_of new slot).pc (session_of new slot).npc word got sound.pc sound.npc (word_loaded-short (way_at new.ways place).bytes effect.wish (answers.0.ways place).bytes) (received_by-short new effect.wish answers.0) effect ranged short)
+      (step_made-KeepsStep (session_of new slot).pc (session_of new slot).npc word got sound.pc
+      sound.npc (word_loaded-short (way_at new.ways place).bytes effect.wish
+      (answers.0.ways place).bytes) (received_by-short new effect.wish answers.0) effect ranged
+      short)
       (λ address is. came.1)
 
-  data_of-well : (core : CoreState) (effect : Effect) (address : Option ℕ) → address_in effect.wish ≡ address → IsRunning core slot → IsShortEffect effect → Ranged effect → RulesHold core
+  data_of-well : (core : CoreState) (effect : Effect) (address : Option ℕ)
+      → address_in effect.wish ≡ address → IsRunning core slot → IsShortEffect effect
+      → Ranged effect → RulesHold core
       → GoesWell (data_of v core slot interrupt effect address)
   data_of-well core effect None is runs short ranged rules =
       let sound = session-sound core rules slot in
       retires-well core slot interrupt (rw runs refl) rules effect short 0 0
-      (step_made-KeepsStep (session_of core slot).pc (session_of core slot).npc 0 (received_by core.cells core.ram effect.wish) sound.pc sound.npc (lit< tt) (received_by-short core effect.wish rules) effect ranged short)
+      (step_made-KeepsStep (session_of core slot).pc (session_of core slot).npc 0
+      (received_by core.cells core.ram effect.wish) sound.pc sound.npc (lit< tt)
+      (received_by-short core effect.wish rules) effect ranged short)
       (λ address some. absurd (cc))
   data_of-well core effect (Some address) is runs short ranged rules =
       let sound = session-sound core rules slot in
-      data-well core effect (access v core slot (address / 32)) runs short ranged sound.pc sound.npc (reached core (address / 32) runs)
-      (access-holds v Stands law hashes core slot (address / 32) (address-low effect.wish address ranged.wish is) (rw runs refl) rules)
+      data-well core effect (access v core slot (address / 32)) runs short ranged sound.pc sound.npc
+      (reached core (address / 32) runs)
+      (access-holds v Stands law hashes core slot (address / 32)
+      (address-low effect.wish address ranged.wish is) (rw runs refl) rules)
 
-  ran-well : (core : CoreState) (word : ℕ) (result : Result Effect OwnFault) → word_tried v core slot word ≡ result → IsRunning core slot → RulesHold core → GoesWell (after_effect v core slot interrupt result)
-  ran-well core word (Err why) is runs rules = trapped-well core slot (cause.Fault why) tt (fault-short why) (rw runs refl) rules
+  ran-well : (core : CoreState) (word : ℕ) (result : Result Effect OwnFault)
+      → word_tried v core slot word ≡ result → IsRunning core slot → RulesHold core
+      → GoesWell (after_effect v core slot interrupt result)
+  ran-well core word (Err why) is runs rules =
+      trapped-well core slot (cause.Fault why) tt (fault-short why) (rw runs refl) rules
   ran-well core word (Ok effect) is runs rules =
       let s = session_of core slot in
       let sound = session-sound core rules slot in
       let found = instruction_or_fault (read word) in
       let fits = known-Fits word in
-      let short = tried-IsShortEffect (seen_by slot core.cells) s.saved found s.pc s.npc effect fits (seen_by-short core slot rules) sound.saved sound.npc is in
+      let short = tried-IsShortEffect (seen_by slot core.cells) s.saved found s.pc s.npc effect fits
+      (seen_by-short core slot rules) sound.saved sound.npc is in
       let ranged = tried-Ranged (seen_by slot core.cells) s.saved found s.pc s.npc effect fits is in
       data_of-well core effect (address_in effect.wish) refl runs short ranged rules
 
-  code-well : (core : CoreState) (result : CoreState × Reach) → IsRunning core slot → Reached core slot result.0 result.1 → Answers result → GoesWell (code_reached v slot interrupt result)
+  code-well : (core : CoreState) (result : CoreState × Reach) → IsRunning core slot
+      → Reached core slot result.0 result.1 → Answers result
+      → GoesWell (code_reached v slot interrupt result)
   code-well core (new, reach.PageFault page) runs came answers =
-      trapped-well new slot (cause.Page page) answers.1 answers.1 (rw (subst (λ c. IsRunning c slot) (sym came) runs) refl) answers.0
+      trapped-well new slot (cause.Page page) answers.1 answers.1
+      (rw (subst (λ c. IsRunning c slot) (sym came) runs) refl) answers.0
   code-well core (new, reach.Stopped why) runs came answers = (answers.0, rule-short why)
   code-well core (new, reach.Ready place) runs came answers =
       let now : IsRunning new slot = ap (λ (s : Session). s.state) came.0 ∙ runs in
@@ -375,10 +460,15 @@ module _ (v : Versions) (Stands : StandsFor) (law : VersionLaw v Stands) (hashes
       ran-well new word (word_tried v new slot word) refl now answers.0
 
   -- the event of the running guest
-  pub guest-well : (core : CoreState) → IsRunning core slot → RulesHold core → GoesWell (guest v core slot interrupt)
+  pub guest-well : (core : CoreState) → IsRunning core slot → RulesHold core
+      → GoesWell (guest v core slot interrupt)
   unfolding guest
   guest-well core runs rules =
       let pc = (session_of core slot).pc in
-      cond_both (is_code pc) (code_reached v slot interrupt (access v core slot (pc / 32))) (after_trap core slot (cause.Fault own_fault.Address)) GoesWell
-      (λ is. code-well core (access v core slot (pc / 32)) runs (reached core (pc / 32) runs) (access-holds v Stands law hashes core slot (pc / 32) (code-low pc is) (rw runs refl) rules))
-      (λ _. trapped-well core slot (cause.Fault own_fault.Address) tt (lit< tt) (rw runs refl) rules)
+      cond_both (is_code pc) (code_reached v slot interrupt (access v core slot (pc / 32)))
+      (after_trap core slot (cause.Fault own_fault.Address)) GoesWell
+      (λ is. code-well core (access v core slot (pc / 32)) runs (reached core (pc / 32) runs)
+      (access-holds v Stands law hashes core slot (pc / 32) (code-low pc is) (rw runs refl)
+      rules))
+      (λ _. trapped-well core slot (cause.Fault own_fault.Address) tt (lit< tt) (rw runs refl)
+      rules)

@@ -1,4 +1,5 @@
--- An instruction of null code leaves cells and RAM as they should be, and asks for an operation whose numbers have 32 bits.
+-- An instruction of null code leaves cells and RAM as they should be, and asks for an operation
+-- whose numbers have 32 bits.
 use Rattle.std.proofs.Common.{◌≡◌, ℕ, ◌-◌, ◌%◌, ◌==◌, Bool, true, false, cond, List, All, Option, Some, None, Result, Ok, Err, set, lit<, refl}
 use Rattle.std.proofs.lemmas.Bool.{cond_both}
 use Rattle.std.proofs.lemmas.List.Elements.{All-set}
@@ -74,50 +75,88 @@ answer_of-short told asked.Who short = short.who
 
 -- ---- What it sees
 
-seen_open-short : (cells : List Cell) (reg : ℕ) → All IsShortCell cells → IsShortSeen (seen_open cells reg)
+seen_open-short : (cells : List Cell) (reg : ℕ) → All IsShortCell cells
+    → IsShortSeen (seen_open cells reg)
 seen_open-short cells reg short =
     cond_both (reg == 0) _ _ IsShortSeen (λ _. lit< tt)
-    (λ _. cond_both ((cell_at cells reg).tag == 0) _ _ IsShortSeen (λ _. All-at IsShortCell cells reg empty (lit< tt) short) (λ _. tt))
+    (λ _. cond_both ((cell_at cells reg).tag == 0) _ _ IsShortSeen
+    (λ _. All-at IsShortCell cells reg empty (lit< tt) short) (λ _. tt))
 
 fetched_open-Fits : (ram : List ℕ) (pc : ℕ) (ins : Ins) → fetched_open ram pc ≡ Ok ins → Fits ins
 unfolding fetched_open
 fetched_open-Fits ram pc ins is = by_test _ is
   where
-    by_test : (b : Bool) → cond b (instruction_or_fault (read (word_at ram pc))) (Err fault.Address) ≡ Ok ins → Fits ins
+    by_test : (b : Bool)
+        → cond b (instruction_or_fault (read (word_at ram pc))) (Err fault.Address) ≡ Ok ins
+        → Fits ins
     by_test true its = known-Fits (word_at ram pc) ins its
     by_test false its = absurd (cc)
 
 -- ---- What it does
 
-opened-short : (cells : List Cell) (written : Writes) → AreShortWrites written → All IsShortCell cells → All IsShortCell (with_null_writes cells written)
+opened-short : (cells : List Cell) (written : Writes) → AreShortWrites written
+    → All IsShortCell cells → All IsShortCell (with_null_writes cells written)
 opened-short cells writes.Nothing keeps short = short
-opened-short cells (writes.One reg value) keeps short = All-set IsShortCell cells reg (record { value = value; tag = 0 }) keeps short
+opened-short cells (writes.One reg value) keeps short =
+    All-set IsShortCell cells reg (record { value = value; tag = 0 }) keeps short
 opened-short cells (writes.Pair hi lo) keeps short =
-    All-set IsShortCell (set cells 32 (record { value = hi; tag = 0 })) 33 (record { value = lo; tag = 0 }) keeps.1
+    All-set IsShortCell (set cells 32 (record { value = hi; tag = 0 })) 33
+    (record { value = lo; tag = 0 }) keeps.1
     (All-set IsShortCell cells 32 (record { value = hi; tag = 0 }) keeps.0 short)
 
 module _ (told : Told) (s : Open) (short_told : IsShortTold told) (sound : IsOpenPart s) where
-  passed-open : (effect : Effect) (written : Writes) → IsShortEffect effect → AreShortWrites written → IsOpenPart (open_after s effect written)
-  passed-open effect written short keeps = record { cells = opened-short s.cells written keeps sound.cells; ram = sound.ram; npc = short.npc }
+  passed-open : (effect : Effect) (written : Writes) → IsShortEffect effect → AreShortWrites written
+      → IsOpenPart (open_after s effect written)
+  passed-open effect written short keeps =
+      record {
+        cells = opened-short s.cells written keeps sound.cells;
+        ram = sound.ram;
+        npc =
+            short.npc;
+      }
 
   stopped-open : (why : NullFault) → GoesOpen (stopped_by s why)
   stopped-open why = (sound, tt)
 
-  granted-open : (effect : Effect) (wished : Wish) → effect.wish ≡ wished → IsShortEffect effect → GoesOpen (wish_answer told s effect wished)
-  granted-open effect wish.Nothing is short = (passed-open effect effect.writes short short.writes, tt)
+  granted-open : (effect : Effect) (wished : Wish) → effect.wish ≡ wished → IsShortEffect effect
+      → GoesOpen (wish_answer told s effect wished)
+  granted-open effect wish.Nothing is short =
+      (passed-open effect effect.writes short short.writes, tt)
   granted-open effect (wish.Load reg address how old) is short =
       let low : Is32Bit old = (let all = short.wish in rw is at all) in
-      let value = merge_of-short how old address (word_at s.ram (address - address % 4)) low (word_at-short s.ram (address - address % 4) sound.ram) in
-      cond_both (holds s.ram (address - address % 4) 4) (done_answer (open_after s effect (set_register reg (loaded_open s.ram how old address)))) (stopped_by s null.Address) GoesOpen
-      (λ _. (passed-open effect (set_register reg (loaded_open s.ram how old address)) short (set-short reg (loaded_open s.ram how old address) value), tt)) (λ _. stopped-open null.Address)
+      let value = merge_of-short how old address (word_at s.ram (address - address % 4)) low
+      (word_at-short s.ram (address - address % 4) sound.ram) in
+      cond_both (holds s.ram (address - address % 4) 4)
+      (done_answer (open_after s effect (set_register reg (loaded_open s.ram how old address))))
+      (stopped_by s null.Address) GoesOpen
+      (λ _. (
+        passed-open effect (set_register reg (loaded_open s.ram how old address)) short
+            (set-short reg (loaded_open s.ram how old address) value),
+        tt,
+      ))
+      (λ _. stopped-open null.Address)
   granted-open effect (wish.Store address count value) is short =
       let next = passed-open effect effect.writes short short.writes in
-      cond_both (holds s.ram address count) (done_answer (stored_open (open_after s effect effect.writes) address (low_bytes count value))) (stopped_by s null.Address) GoesOpen
-      (λ _. (record { cells = next.cells; ram = bytes-written s.ram address (low_bytes count value) sound.ram (bytes-low count value); npc = next.npc }, tt)) (λ _. stopped-open null.Address)
+      cond_both (holds s.ram address count)
+      (done_answer (stored_open (open_after s effect effect.writes) address
+      (low_bytes count value))) (stopped_by s null.Address) GoesOpen
+      (λ _. (
+        record {
+          cells = next.cells;
+          ram = bytes-written s.ram address (low_bytes count value)
+              sound.ram (bytes-low count value);
+          npc = next.npc;
+        },
+        tt,
+      )) (λ _. stopped-open null.Address)
   granted-open effect (wish.Call code) is short = stopped-open null.Call
-  granted-open effect (wish.Do operation) is short = (passed-open effect effect.writes short short.writes, let all = short.wish in rw is at all)
-  granted-open effect (wish.Ask reg what) is short =
-      (passed-open effect (set_register reg (answer_of told what)) short (set-short reg (answer_of told what) (answer_of-short told what short_told)), tt)
+  granted-open effect (wish.Do operation) is short =
+      (passed-open effect effect.writes short short.writes, let all = short.wish in rw is at all)
+  granted-open effect (wish.Ask reg what) is short = (
+    passed-open effect (set_register reg (answer_of told what)) short
+        (set-short reg (answer_of told what) (answer_of-short told what short_told)),
+    tt,
+  )
   granted-open effect (wish.Release reg value) is short = stopped-open null.Reserved
   granted-open effect (wish.Receive reg from) is short = stopped-open null.Reserved
   granted-open effect (wish.NullLoad reg address) is short = stopped-open null.Reserved
@@ -126,15 +165,24 @@ module _ (told : Told) (s : Open) (short_told : IsShortTold told) (sound : IsOpe
   granted-open effect wish.SigRet is short = stopped-open null.Reserved
   granted-open effect wish.Exit is short = stopped-open null.Reserved
 
-  tried-short : (found : Result Ins OwnFault) (effect : Effect) → ((ins : Ins) → found ≡ Ok ins → Fits ins) → tried_open (seen_open s.cells) found s.pc s.npc ≡ Ok effect → IsShortEffect effect
+  tried-short : (found : Result Ins OwnFault) (effect : Effect)
+      → ((ins : Ins) → found ≡ Ok ins → Fits ins)
+      → tried_open (seen_open s.cells) found s.pc s.npc ≡ Ok effect → IsShortEffect effect
   tried-short (Err why) effect fits is = absurd (cc)
   tried-short (Ok ins) effect fits is =
-      effect_of-IsShortEffect ins Null _ _ _ s.pc s.npc effect (fits ins refl) (seen_open-short s.cells _ sound.cells) (seen_open-short s.cells _ sound.cells) (seen_open-short s.cells _ sound.cells) sound.npc is
+      effect_of-IsShortEffect ins Null _ _ _ s.pc s.npc effect (fits ins refl)
+      (seen_open-short s.cells _ sound.cells) (seen_open-short s.cells _ sound.cells)
+      (seen_open-short s.cells _ sound.cells) sound.npc is
 
-  ran-open : (found : Result Effect OwnFault) → ((effect : Effect) → found ≡ Ok effect → IsShortEffect effect) → GoesOpen (ran_open told s found)
+  ran-open : (found : Result Effect OwnFault)
+      → ((effect : Effect) → found ≡ Ok effect → IsShortEffect effect)
+      → GoesOpen (ran_open told s found)
   ran-open (Err why) short = (sound, tt)
   ran-open (Ok effect) short = granted-open effect effect.wish refl (short effect refl)
 
   pub null-open : GoesOpen (null_step told s)
   unfolding null_step
-  null-open = ran-open _ (λ effect is. tried-short (fetched_open s.ram s.pc) effect (fetched_open-Fits s.ram s.pc) is)
+  null-open =
+      ran-open _
+      (λ effect is. tried-short (fetched_open s.ram s.pc) effect (fetched_open-Fits s.ram s.pc)
+      is)

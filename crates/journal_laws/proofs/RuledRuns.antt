@@ -22,7 +22,8 @@ onward-grows core new onward =
     let same : new.entries ≡ core.entries ++ onward.more.0 = onward.more.1 in
     rw same (omega arith)
 
-all-grow : (v : Versions) (r : Record) (events : List (Event × List ℕ)) → length r.core.entries ≤ length (after_all v r events).core.entries
+all-grow : (v : Versions) (r : Record) (events : List (Event × List ℕ))
+    → length r.core.entries ≤ length (after_all v r events).core.entries
 all-grow v r [] = omega arith
 all-grow v r (first ∷ events) =
     let next = (on v r first.0 first.1).0 in
@@ -30,20 +31,26 @@ all-grow v r (first ∷ events) =
     let others = all-grow v next events in
     omega arith
 
-module _ (v : Versions) (Stands : StandsFor) (law : VersionLaw v Stands) (hashes : StoresKeepRules v) where
-  pub all-keep : (r : Record) (events : List (Event × List ℕ)) → All IsPlainEvent events → IsBounded (after_all v r events).core.entries → RecordKeepsRules r → RecordKeepsRules (after_all v r events)
+module _ (v : Versions) (Stands : StandsFor) (law : VersionLaw v Stands)
+    (hashes : StoresKeepRules v) where
+  pub all-keep : (r : Record) (events : List (Event × List ℕ)) → All IsPlainEvent events
+      → IsBounded (after_all v r events).core.entries → RecordKeepsRules r
+      → RecordKeepsRules (after_all v r events)
   all-keep r [] plain room rules = rules
   all-keep r (first ∷ events) plain room rules =
       let next = (on v r first.0 first.1).0 in
       let few : length (after_all v next events).core.entries < 2 ^ 63 = room in
       let long = all-grow v r (first ∷ events) in
       all-keep next events (All-tail IsPlainEvent first events plain) room
-      (events_keep_rules v Stands law hashes r first.0 first.1 (All-head IsPlainEvent first events plain) (omega arith) rules)
+      (events_keep_rules v Stands law hashes r first.0 first.1 (All-head IsPlainEvent first events
+      plain) (omega arith) rules)
 
 pub journals_keep_rules : (v : Versions) (Stands : StandsFor) → JournalsKeepRules v Stands
 journals_keep_rules v Stands law hashes machine boot ram pc start events plain room =
-    (all-keep v Stands law hashes (power_on v machine boot ram pc) events plain room (start_keeps_rules v hashes machine boot ram pc start)).core.journal
+    (all-keep v Stands law hashes (power_on v machine boot ram pc) events plain room
+    (start_keeps_rules v hashes machine boot ram pc start)).core.journal
 
 pub journals_are_read_again : (v : Versions) (Stands : StandsFor) → JournalsAreReadAgain v Stands
 journals_are_read_again v Stands law hashes machine boot ram pc start events plain room =
-    printed_is_read (after_all v (power_on v machine boot ram pc) events).core.entries (journals_keep_rules v Stands law hashes machine boot ram pc start events plain room)
+    printed_is_read (after_all v (power_on v machine boot ram pc) events).core.entries
+    (journals_keep_rules v Stands law hashes machine boot ram pc start events plain room)

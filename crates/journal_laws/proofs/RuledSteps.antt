@@ -26,7 +26,9 @@ use Rattle.journal_laws.proofs.ShortEffects.{AreShortWrites, IsShortEffect, IsSh
 
 -- the word of bytes at a place
 pub word_at-short : (bytes : List ℕ) (address : ℕ) → IsBytes bytes → Is32Bit (word_at bytes address)
-word_at-short bytes address each = from_be_bytes-short (take 4 (drop address bytes)) (bytes-take 4 (drop address bytes) (bytes-drop address bytes each))
+word_at-short bytes address each =
+    from_be_bytes-short (take 4 (drop address bytes))
+    (bytes-take 4 (drop address bytes) (bytes-drop address bytes each))
 
 -- ---- loads
 
@@ -77,13 +79,22 @@ KeepsWrites-set reg value instruction_or_fault short =
     cond_both (reg == 0) _ _ KeepsWrites (λ _. tt) (λ some. let differs =
     eqb-false reg 0 some in (omega arith, omega arith, short))
 
-module _ (pc npc word got : ℕ) (short_pc : Is32Bit pc) (short_npc : Is32Bit npc) (short_word : Is32Bit word) (short_got : Is32Bit got) where
+module _ (pc npc word got : ℕ) (short_pc : Is32Bit pc) (short_npc : Is32Bit npc)
+    (short_word : Is32Bit word) (short_got : Is32Bit got) where
   made-KeepsStep : (written : Writes) (wished : Wish) → KeepsWrites written → IsInRange wished
       → IsShortWish wished → KeepsStep (step_of_wish pc npc written wished word got)
   made-KeepsStep written wish.Nothing keeps range short =
       (short_pc, short_npc, keeps, tt, tt, tt, tt)
-  made-KeepsStep written (wish.Load reg address how old) keeps range short =
-      (short_pc, short_npc, KeepsWrites-set reg _ range.register (merge_of-short how old address word short short_word), tt, tt, tt, tt)
+  made-KeepsStep written (wish.Load reg address how old) keeps range short = (
+    short_pc,
+    short_npc,
+    KeepsWrites-set reg _ range.register
+        (merge_of-short how old address word short short_word),
+    tt,
+    tt,
+    tt,
+    tt,
+  )
   made-KeepsStep written (wish.Store address count value) keeps range short =
       let some : 1 ≤ count = range.some in
       let few : count ≤ 4 = range.few in
@@ -97,8 +108,20 @@ module _ (pc npc word got : ℕ) (short_pc : Is32Bit pc) (short_npc : Is32Bit np
       (short_pc, short_npc, keeps, tt, tt, tt, tt)
   made-KeepsStep written wish.SigRet keeps range short =
       (short_pc, short_npc, keeps, tt, tt, tt, tt)
-  made-KeepsStep written (wish.Release reg value) keeps range short =
-      (short_pc, short_npc, keeps, tt, tt, (range.0, let low : reg < 32 = range.1 in omega arith, short), tt)
+  made-KeepsStep written (wish.Release reg value) keeps range short = (
+    short_pc,
+    short_npc,
+    keeps,
+    tt,
+    tt,
+    (
+      range.0,
+      let low : reg < 32 = range.1 in
+          omega arith,
+      short,
+    ),
+    tt,
+  )
   made-KeepsStep written (wish.Receive reg from) keeps range short =
       (short_pc, short_npc, KeepsWrites-set reg got range.0.1 short_got, tt, short_got, tt, tt)
   made-KeepsStep written wish.Exit keeps range short = (short_pc, short_npc, keeps, tt, tt, tt, tt)
@@ -114,13 +137,15 @@ module _ (pc npc word got : ℕ) (short_pc : Is32Bit pc) (short_npc : Is32Bit np
       → KeepsStep (step_made pc npc effect word got)
   unfolding step_made
   step_made-KeepsStep effect ranged short =
-      made-KeepsStep effect.writes effect.wish (KeepsWrites-of effect.writes ranged.writes short.writes) ranged.wish short.wish
+      made-KeepsStep effect.writes effect.wish (KeepsWrites-of effect.writes ranged.writes
+      short.writes) ranged.wish short.wish
 
 -- an instruction that is read has its operands in their ranges
 pub known-Fits : (word : ℕ) (ins : Ins) → instruction_or_fault (read word) ≡ Ok ins → Fits ins
 known-Fits word ins is = by_found (read word) refl is
   where
-    by_found : (found : Option Ins) → read word ≡ found → instruction_or_fault found ≡ Ok ins → Fits ins
+    by_found : (found : Option Ins) → read word ≡ found → instruction_or_fault found ≡ Ok ins
+        → Fits ins
     by_found None has its = absurd (cc)
     by_found (Some i) has its = let same : i ≡ ins = cc in subst Fits same (read-Fits i word has)
 
@@ -130,34 +155,54 @@ known-Fits word ins is = by_found (read word) refl is
 abbrev fine : Effect → Result Effect OwnFault
 fine effect = Ok effect
 
-ok_short : (before effect : Effect) → IsShortEffect before → fine before ≡ fine effect → IsShortEffect effect
+ok_short : (before effect : Effect) → IsShortEffect before → fine before ≡ fine effect
+    → IsShortEffect effect
 ok_short before effect short is = let same : before ≡ effect = cc in subst IsShortEffect same short
 
-returned-short_at : (kept : Option (ℕ × ℕ)) (before effect : Effect) (wished : Wish) → IfSome kept IsShortPair → IsShortEffect before → with_return kept before wished ≡ Ok effect → IsShortEffect effect
+returned-short_at : (kept : Option (ℕ × ℕ)) (before effect : Effect) (wished : Wish)
+    → IfSome kept IsShortPair → IsShortEffect before → with_return kept before wished ≡ Ok effect
+    → IsShortEffect effect
 returned-short_at None before effect wish.SigRet pair short is = absurd (cc)
 returned-short_at (Some kept) before effect wish.SigRet pair short is =
-    ok_short (record before { pc = kept.0; npc = kept.1 }) effect (record { writes = short.writes; wish = short.wish; pc = pair.0; npc = pair.1 }) is
+    ok_short (record before { pc = kept.0; npc = kept.1 }) effect
+    (record { writes = short.writes; wish = short.wish; pc = pair.0; npc = pair.1 }) is
 returned-short_at kept before effect wish.Nothing pair short is = ok_short before effect short is
-returned-short_at kept before effect (wish.Load reg address how old) pair short is = ok_short before effect short is
-returned-short_at kept before effect (wish.Store address count value) pair short is = ok_short before effect short is
-returned-short_at kept before effect (wish.NullLoad reg address) pair short is = ok_short before effect short is
-returned-short_at kept before effect (wish.NullStore address value) pair short is = ok_short before effect short is
-returned-short_at kept before effect (wish.Hand address) pair short is = ok_short before effect short is
-returned-short_at kept before effect (wish.Release reg value) pair short is = ok_short before effect short is
-returned-short_at kept before effect (wish.Receive reg from) pair short is = ok_short before effect short is
+returned-short_at kept before effect (wish.Load reg address how old) pair short is =
+    ok_short before effect short is
+returned-short_at kept before effect (wish.Store address count value) pair short is =
+    ok_short before effect short is
+returned-short_at kept before effect (wish.NullLoad reg address) pair short is =
+    ok_short before effect short is
+returned-short_at kept before effect (wish.NullStore address value) pair short is =
+    ok_short before effect short is
+returned-short_at kept before effect (wish.Hand address) pair short is =
+    ok_short before effect short is
+returned-short_at kept before effect (wish.Release reg value) pair short is =
+    ok_short before effect short is
+returned-short_at kept before effect (wish.Receive reg from) pair short is =
+    ok_short before effect short is
 returned-short_at kept before effect wish.Exit pair short is = ok_short before effect short is
-returned-short_at kept before effect (wish.Call code) pair short is = ok_short before effect short is
-returned-short_at kept before effect (wish.Do operation) pair short is = ok_short before effect short is
-returned-short_at kept before effect (wish.Ask reg what) pair short is = ok_short before effect short is
+returned-short_at kept before effect (wish.Call code) pair short is =
+    ok_short before effect short is
+returned-short_at kept before effect (wish.Do operation) pair short is =
+    ok_short before effect short is
+returned-short_at kept before effect (wish.Ask reg what) pair short is =
+    ok_short before effect short is
 
-returned-short : (kept : Option (ℕ × ℕ)) (found : Result Effect OwnFault) (effect : Effect) → IfSome kept IsShortPair → ((before : Effect) → found ≡ Ok before → IsShortEffect before) → with_kept_pair kept found ≡ Ok effect → IsShortEffect effect
+returned-short : (kept : Option (ℕ × ℕ)) (found : Result Effect OwnFault) (effect : Effect)
+    → IfSome kept IsShortPair → ((before : Effect) → found ≡ Ok before → IsShortEffect before)
+    → with_kept_pair kept found ≡ Ok effect → IsShortEffect effect
 returned-short kept (Err fault) effect pair short is = absurd (cc)
-returned-short kept (Ok before) effect pair short is = returned-short_at kept before effect before.wish pair (short before refl) is
+returned-short kept (Ok before) effect pair short is =
+    returned-short_at kept before effect before.wish pair (short before refl) is
 
 -- an effect that is tried is short where what is seen is, and the pair that a signal kept
-pub tried-IsShortEffect : (see : ℕ → Seen) (kept : Option (ℕ × ℕ)) (found : Result Ins OwnFault) (pc npc : ℕ) (effect : Effect)
-    → ((ins : Ins) → found ≡ Ok ins → Fits ins) → ((reg : ℕ) → IsShortSeen (see reg)) → IfSome kept IsShortPair → Is32Bit npc
+pub tried-IsShortEffect : (see : ℕ → Seen) (kept : Option (ℕ × ℕ)) (found : Result Ins OwnFault)
+    (pc npc : ℕ) (effect : Effect)
+    → ((ins : Ins) → found ≡ Ok ins → Fits ins) → ((reg : ℕ) → IsShortSeen (see reg))
+    → IfSome kept IsShortPair → Is32Bit npc
     → effect_at see kept found pc npc ≡ Ok effect → IsShortEffect effect
 tried-IsShortEffect see kept (Err fault) pc npc effect fits short pair short_npc is = absurd (cc)
 tried-IsShortEffect see kept (Ok ins) pc npc effect fits short pair short_npc is =
-    returned-short kept _ effect pair (λ before found. effect_of-IsShortEffect ins Guest _ _ _ pc npc before (fits ins refl) (short _) (short _) (short _) short_npc found) is
+    returned-short kept _ effect pair (λ before found. effect_of-IsShortEffect ins Guest _ _ _ pc
+    npc before (fits ins refl) (short _) (short _) (short _) short_npc found) is

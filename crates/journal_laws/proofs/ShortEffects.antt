@@ -1,4 +1,5 @@
--- The values of an effect have 32 bits where those that are seen do, of a guest's instruction and of null code alike.
+-- The values of an effect have 32 bits where those that are seen do, of a guest's instruction and
+-- of null code alike.
 use Rattle.std.proofs.Common.{◌≡◌, ℕ, zero, suc, ◌+◌, ◌*◌, ◌-◌, ◌/◌, ◌%◌, ◌^◌, ◌<◌, ◌≤◌, ◌==◌, ℤ, pos, negsuc, ◌+ℤ◌, ◌-ℤ◌, Bool, true, false, Some, None, Ok, Err, IfOk, lit<, arith}
 use Rattle.std.proofs.lemmas.Bool.{cond_both}
 use Rattle.std.proofs.Math.Nat.{div-le_self, mod-le}
@@ -100,11 +101,13 @@ halves-short n low = (omega arith, omega arith)
 
 divided-short : (s t : ℕ) → Is32Bit s → AreShortWrites (divided s t)
 divided-short s t short =
-    cond_both (t == 0) _ _ AreShortWrites (λ _. (short, lit< tt)) (λ _. (reduced-short _, reduced-short _))
+    cond_both (t == 0) _ _ AreShortWrites (λ _. (short, lit< tt))
+    (λ _. (reduced-short _, reduced-short _))
 
 divided_unsigned-short : (s t : ℕ) → Is32Bit s → AreShortWrites (divided_unsigned s t)
 divided_unsigned-short s t short =
-    cond_both (t == 0) _ _ AreShortWrites (λ _. (short, lit< tt)) (λ _. (let low : s % t ≤ s = mod-le s t in omega arith, div-short s t short))
+    cond_both (t == 0) _ _ AreShortWrites (λ _. (short, lit< tt))
+    (λ _. (let low : s % t ≤ s = mod-le s t in omega arith, div-short s t short))
 
 pub set-short : (reg value : ℕ) → Is32Bit value → AreShortWrites (set reg value)
 set-short reg value short = cond_both (reg == 0) _ _ AreShortWrites (λ _. tt) (λ _. short)
@@ -120,7 +123,8 @@ left-low (suc (suc (suc (suc place)))) value low short = absurd (omega arith)
 
 -- ---- the instructions, of values that are short
 
-module _ (mode : Mode) (s t d following : ℕ) (short_s : Is32Bit s) (short_t : Is32Bit t) (short_d : Is32Bit d) (short_following : Is32Bit following) where
+module _ (mode : Mode) (s t d following : ℕ) (short_s : Is32Bit s) (short_t : Is32Bit t)
+    (short_d : Is32Bit d) (short_following : Is32Bit following) where
   goes_on-short : (written : Writes) (wished : Wish) → AreShortWrites written → IsShortWish wished
       → IfOk (goes_on written wished following) IsShortEffect
   goes_on-short written wished short_writes short_wish =
@@ -139,7 +143,8 @@ module _ (mode : Mode) (s t d following : ℕ) (short_s : Is32Bit s) (short_t : 
 
   in_32-short : (reg : ℕ) (z : ℤ) → IfOk (sets_or_overflows reg (in_32 z) following) IsShortEffect
   in_32-short reg z =
-      cond_both _ (Some (reduced z)) None (λ o. IfOk (sets_or_overflows reg o following) IsShortEffect) (λ _. sets-short reg _ (reduced-short z)) (λ _. tt)
+      cond_both _ (Some (reduced z)) None (λ o. IfOk (sets_or_overflows reg o following)
+      IsShortEffect) (λ _. sets-short reg _ (reduced-short z)) (λ _. tt)
 
   jumps-short : (written : Writes) (to : ℕ) → AreShortWrites written → Is32Bit to
       → IfOk (jumps written to following) IsShortEffect
@@ -153,32 +158,38 @@ module _ (mode : Mode) (s t d following : ℕ) (short_s : Is32Bit s) (short_t : 
   loads-short : (how : LoadKind) (reg address old : ℕ) → Is32Bit old
       → IfOk (loads mode how reg address old following) IsShortEffect
   loads-short how reg address old short =
-      cond_both (is_open mode (size_of how) address) _ _ (λ r. IfOk r IsShortEffect) (λ _. wishes-short (wish.Load reg address how old) short) (λ _. tt)
+      cond_both (is_open mode (size_of how) address) _ _ (λ r. IfOk r IsShortEffect)
+      (λ _. wishes-short (wish.Load reg address how old) short) (λ _. tt)
 
   stores-short : (count address value : ℕ) → value < 2 ^ (8 * count)
       → IfOk (stores mode count address value following) IsShortEffect
   stores-short count address value short =
-      cond_both (is_open mode count address) _ _ (λ r. IfOk r IsShortEffect) (λ _. wishes-short (wish.Store address count value) short) (λ _. tt)
+      cond_both (is_open mode count address) _ _ (λ r. IfOk r IsShortEffect)
+      (λ _. wishes-short (wish.Store address count value) short) (λ _. tt)
 
   part-short : (address first count value : ℕ) → value < 2 ^ (8 * count)
       → IfOk (stores_part mode address (wish.Store first count value) following) IsShortEffect
   part-short address first count value short =
-      cond_both (is_open mode 1 address) _ _ (λ r. IfOk r IsShortEffect) (λ _. wishes-short (wish.Store first count value) short) (λ _. tt)
+      cond_both (is_open mode 1 address) _ _ (λ r. IfOk r IsShortEffect)
+      (λ _. wishes-short (wish.Store first count value) short) (λ _. tt)
 
   stores_left-short : (address value : ℕ) → Is32Bit value
       → IfOk (stores_left mode address value following) IsShortEffect
   stores_left-short address value short =
-      part-short address address (4 - address % 4) _ (left-low (address % 4) value (omega arith) short)
+      part-short address address (4 - address % 4) _ (left-low (address % 4) value (omega arith)
+      short)
 
   stores_right-short : (address value : ℕ)
       → IfOk (stores_right mode address value following) IsShortEffect
   stores_right-short address value =
-      part-short address (address - address % 4) (address % 4 + 1) _ (mod_below value (2 ^ (8 * (address % 4 + 1))) (pow_pos (8 * (address % 4 + 1))))
+      part-short address (address - address % 4) (address % 4 + 1)
+      _ (mod_below value (2 ^ (8 * (address % 4 + 1))) (pow_pos (8 * (address % 4 + 1))))
 
   at_word-short : (address : ℕ) (wished : Wish) → IsShortWish wished
       → IfOk (at_word address wished following) IsShortEffect
   at_word-short address wished short =
-      cond_both (address % 4 == 0) _ _ (λ r. IfOk r IsShortEffect) (λ _. wishes-short wished short) (λ _. tt)
+      cond_both (address % 4 == 0) _ _ (λ r. IfOk r IsShortEffect) (λ _. wishes-short wished short)
+      (λ _. tt)
 
   act-short : (i : Ins) → Fits i → IfOk (act i mode s t d following) IsShortEffect
   unfolding act
@@ -221,7 +232,8 @@ module _ (mode : Mode) (s t d following : ℕ) (short_s : Is32Bit s) (short_t : 
   act-short (J index) fits =
       jumps-short writes.Nothing _ tt (jump_target-short following index short_following fits)
   act-short (Jal index) fits =
-      jumps-short (set 31 (after following)) _ (set-short 31 _ (mod-short _)) (jump_target-short following index short_following fits)
+      jumps-short (set 31 (after following)) _ (set-short 31 _ (mod-short _))
+      (jump_target-short following index short_following fits)
   act-short (Beq rs rt imm) fits = jumps-short writes.Nothing _ tt (way-short _ imm)
   act-short (Bne rs rt imm) fits = jumps-short writes.Nothing _ tt (way-short _ imm)
   act-short (Blez rs imm) fits = jumps-short writes.Nothing _ tt (way-short _ imm)
@@ -249,17 +261,21 @@ module _ (mode : Mode) (s t d following : ℕ) (short_s : Is32Bit s) (short_t : 
   act-short (Xlwn rt imm rs) fits =
       at_word-short (plus_signed s imm) (wish.NullLoad rt (plus_signed s imm)) (reduced-short _)
   act-short (Xswn rt imm rs) fits =
-      at_word-short (plus_signed s imm) (wish.NullStore (plus_signed s imm) t) (reduced-short _, short_t)
+      at_word-short (plus_signed s imm) (wish.NullStore (plus_signed s imm) t)
+      (reduced-short _, short_t)
   act-short (Xmvtn rs) fits = wishes-short (wish.Release rs s) short_s
   act-short (Xmvfn rd rs) fits = wishes-short (wish.Receive rd rs) tt
   act-short Xexit fits = wishes-short wish.Exit tt
   act-short (Xhand rs) fits = wishes-short (wish.Hand s) short_s
   act-short Xsigret fits = wishes-short wish.SigRet tt
-  act-short (Xinstall rs rt rd) fits = wishes-short (wish.Do (op.Install s t d)) (short_s, short_t, short_d)
+  act-short (Xinstall rs rt rd) fits =
+      wishes-short (wish.Do (op.Install s t d)) (short_s, short_t, short_d)
   act-short (Xenter rs) fits = wishes-short (wish.Do (op.Enter s)) short_s
   act-short (Xresume rs rt) fits = wishes-short (wish.Do (op.Resume s t)) (short_s, short_t)
-  act-short (Xsave rs rt rd) fits = wishes-short (wish.Do (op.Save s t d)) (short_s, short_t, short_d)
-  act-short (Xrestore rs rt rd) fits = wishes-short (wish.Do (op.Restore s t d)) (short_s, short_t, short_d)
+  act-short (Xsave rs rt rd) fits =
+      wishes-short (wish.Do (op.Save s t d)) (short_s, short_t, short_d)
+  act-short (Xrestore rs rt rd) fits =
+      wishes-short (wish.Do (op.Restore s t d)) (short_s, short_t, short_d)
   act-short (Xmap rs rt rd) fits = wishes-short (wish.Do (op.Map s t d)) (short_s, short_t, short_d)
   act-short (Xunmap rs rt) fits = wishes-short (wish.Do (op.Unmap s t)) (short_s, short_t)
   act-short (Xkill rs) fits = wishes-short (wish.Do (op.Kill s)) short_s
@@ -277,23 +293,32 @@ number_of-short Foreign short = lit< tt
 seen_at-short : (cell : ℕ) (v : Seen) → IsShortSeen v → IsShortSeen (seen_at cell v)
 seen_at-short cell v short = cond_both (cell == 0) _ _ IsShortSeen (λ _. lit< tt) (λ _. short)
 
-judged-short : (i : Ins) (mode : Mode) (a b c : Seen) (following : ℕ) → Fits i → IsShortSeen a → IsShortSeen b → IsShortSeen c
+judged-short : (i : Ins) (mode : Mode) (a b c : Seen) (following : ℕ) → Fits i → IsShortSeen a
+    → IsShortSeen b → IsShortSeen c
     → Is32Bit following → IfOk (judged i mode a b c following) IsShortEffect
 judged-short i mode a b c following fits short_a short_b short_c short =
     cond_both (is_reserved mode i) (Err fault.Reserved) _ (λ r. IfOk r IsShortEffect) (λ _. tt)
-    (λ _. cond_both (is_barred mode i a b c) (Err fault.Foreign) _ (λ r. IfOk r IsShortEffect) (λ _. tt)
-    (λ _. act-short mode (number_of a) (number_of b) (number_of c) following (number_of-short a short_a) (number_of-short b short_b) (number_of-short c short_c) short i fits))
+    (λ _. cond_both (is_barred mode i a b c) (Err fault.Foreign) _ (λ r. IfOk r IsShortEffect)
+    (λ _. tt)
+    (λ _. act-short mode (number_of a) (number_of b) (number_of c) following
+    (number_of-short a short_a) (number_of-short b short_b) (number_of-short c short_c) short i
+    fits))
 
 -- an effect is short where what it sees is
-effect_of-short : (i : Ins) (mode : Mode) (a b c : Seen) (pc npc : ℕ) → Fits i → IsShortSeen a → IsShortSeen b → IsShortSeen c
+effect_of-short : (i : Ins) (mode : Mode) (a b c : Seen) (pc npc : ℕ) → Fits i → IsShortSeen a
+    → IsShortSeen b → IsShortSeen c
     → Is32Bit npc → IfOk (effect_of i mode a b c pc npc) IsShortEffect
 unfolding effect_of
 effect_of-short i mode a b c pc npc fits short_a short_b short_c short =
-    judged-short i mode (seen_at (sources_of i).0 a) (seen_at (sources_of i).1 b) (seen_at (sources_of i).2 c) npc fits (seen_at-short _ a short_a) (seen_at-short _ b short_b) (seen_at-short _ c short_c) short
+    judged-short i mode (seen_at (sources_of i).0 a) (seen_at (sources_of i).1 b)
+    (seen_at (sources_of i).2 c) npc fits (seen_at-short _ a short_a) (seen_at-short _ b short_b)
+    (seen_at-short _ c short_c) short
 
 -- the same of an effect that is told
-pub effect_of-IsShortEffect : (i : Ins) (mode : Mode) (a b c : Seen) (pc npc : ℕ) (e : Effect) → Fits i
-    → IsShortSeen a → IsShortSeen b → IsShortSeen c → Is32Bit npc → effect_of i mode a b c pc npc ≡ Ok e
+pub effect_of-IsShortEffect : (i : Ins) (mode : Mode) (a b c : Seen) (pc npc : ℕ) (e : Effect)
+    → Fits i
+    → IsShortSeen a → IsShortSeen b → IsShortSeen c → Is32Bit npc
+    → effect_of i mode a b c pc npc ≡ Ok e
     → IsShortEffect e
 effect_of-IsShortEffect i mode a b c pc npc e fits short_a short_b short_c short is =
     let all = effect_of-short i mode a b c pc npc fits short_a short_b short_c short in rw is at all

@@ -1,4 +1,5 @@
--- A machine's journal and the rules of its text: what holds at power-on, what each event keeps, and what follows for whole runs.
+-- A machine's journal and the rules of its text: what holds at power-on, what each event keeps, and
+-- what follows for whole runs.
 use Rattle.std.specs.Prelude.{◌≡◌, ℕ, ◌^◌, ◌≤◌, List, [], All, Some, IfSome, length}
 use Rattle.hex.specs.Hex.{IsBytes}
 use Rattle.xom_base.specs.declared.event.Event.{Event}
@@ -62,22 +63,28 @@ JournalsAreReadAgain v Stands = VersionLaw v Stands → StoresKeepRules v
     → (machine : Key256) (boot : ℕ) (ram : List ℕ) (pc : ℕ) → IsPlainStart machine ram
     → (events : List (Event × List ℕ)) → All IsPlainEvent events
     → IsBounded (after_all v (power_on v machine boot ram pc) events).core.entries
-    → IsJournal (journal_text (after_all v (power_on v machine boot ram pc) events).core.entries) (after_all v (power_on v machine boot ram pc) events).core.entries
+    → IsJournal (journal_text (after_all v (power_on v machine boot ram pc) events).core.entries)
+    (after_all v (power_on v machine boot ram pc) events).core.entries
 
 -- ---- Runs under a kernel
 
 -- each turn that the kernel tells has short numbers, and a chunk of bytes
 abbrev pub TellsPlainly : Teller → Type 0
-TellsPlainly told = (views : List View) (view : View) → IfSome (told views view) (λ answer. IsPlainEvent (event_of answer.0, answer.1.0))
+TellsPlainly told =
+    (views : List View) (view : View)
+    → IfSome (told views view) (λ answer. IsPlainEvent (event_of answer.0, answer.1.0))
 
 -- a write of the bus has bytes
 abbrev pub IsPlainPoke : Poke → Type 0
 IsPlainPoke poke = IsBytes poke.bytes
 
--- what a run under such a kernel and such writes of the bus has recorded is read again from its print
+-- what a run under such a kernel and such writes of the bus has recorded is read again from its
+-- print
 abbrev pub KernelsAreReadAgain : Versions → StandsFor → Type 0
 KernelsAreReadAgain v Stands = VersionLaw v Stands → StoresKeepRules v
     → (machine : Key256) (boot : ℕ) (ram : List ℕ) (pc : ℕ) → IsPlainStart machine ram
     → (told : Teller) → TellsPlainly told → (schedule : Schedule) → All IsPlainPoke schedule.pokes
-    → (n : ℕ) (last : Record) → run_from v told schedule n 0 (power_on v machine boot ram pc) [] ≡ Some last → IsBounded last.core.entries
+    → (n : ℕ) (last : Record)
+    → run_from v told schedule n 0 (power_on v machine boot ram pc) [] ≡ Some last
+    → IsBounded last.core.entries
     → IsJournal (journal_text last.core.entries) last.core.entries

@@ -1,4 +1,5 @@
--- What is true of the whole machine at every moment between events, so that each entry that comes next keeps the rules of the journal's text.
+-- What is true of the whole machine at every moment between events, so that each entry that comes
+-- next keeps the rules of the journal's text.
 use Rattle.std.specs.Prelude.{◌≡◌, ℕ, ◌<◌, ◌≤◌, ◌^◌, true, false, List, [], ◌∷◌, All, IfSome, Err, length}
 use Rattle.hex.specs.Hex.{IsBytes}
 use Rattle.xom_base.specs.declared.entry.Entry.{Entry}
@@ -37,15 +38,23 @@ IsShortOp Halt = Unit {0}
 
 -- ---- Version stores
 
--- A kind of version store hashes only texts that may stand in a journal, leaves bytes in RAM, and names the level of a torn block by a byte.
+-- A kind of version store hashes only texts that may stand in a journal, leaves bytes in RAM, and
+-- names the level of a torn block by a byte.
 pub record StoresKeepRules (v : Versions) : Type 0 where
-  pub texts_of_build : (area lines : ℕ) (ram : List ℕ) → IsBytes ram → All (KeepsPayload 260) (v.texts_of_build area lines ram)
-  pub texts_of_version : (store : Store) (line : ℕ) (ram : List ℕ) → IsBytes ram → All (KeepsPayload 260) (v.texts_of_version store line ram)
-  pub texts_of_raise : (store : Store) (line : ℕ) (ram : List ℕ) → IsBytes ram → All (KeepsPayload 260) (v.texts_of_raise store line ram)
-  pub ram_after_build : (area lines : ℕ) (ram : List ℕ) → IsBytes ram → IsBytes (v.ram_after_build area lines ram)
-  pub ram_after_raise : (store : Store) (line : ℕ) (ram : List ℕ) → IsBytes ram → IsBytes (v.ram_after_raise store line ram)
-  pub level_of_version : (store : Store) (line : ℕ) (ram : List ℕ) (torn : Torn) → v.answer_of_version store line ram ≡ Err torn → torn.level < 2 ^ 8
-  pub level_of_raise : (store : Store) (line : ℕ) (ram : List ℕ) (torn : Torn) → v.answer_of_raise store line ram ≡ Err torn → torn.level < 2 ^ 8
+  pub texts_of_build : (area lines : ℕ) (ram : List ℕ) → IsBytes ram
+      → All (KeepsPayload 260) (v.texts_of_build area lines ram)
+  pub texts_of_version : (store : Store) (line : ℕ) (ram : List ℕ) → IsBytes ram
+      → All (KeepsPayload 260) (v.texts_of_version store line ram)
+  pub texts_of_raise : (store : Store) (line : ℕ) (ram : List ℕ) → IsBytes ram
+      → All (KeepsPayload 260) (v.texts_of_raise store line ram)
+  pub ram_after_build : (area lines : ℕ) (ram : List ℕ) → IsBytes ram
+      → IsBytes (v.ram_after_build area lines ram)
+  pub ram_after_raise : (store : Store) (line : ℕ) (ram : List ℕ) → IsBytes ram
+      → IsBytes (v.ram_after_raise store line ram)
+  pub level_of_version : (store : Store) (line : ℕ) (ram : List ℕ) (torn : Torn)
+      → v.answer_of_version store line ram ≡ Err torn → torn.level < 2 ^ 8
+  pub level_of_raise : (store : Store) (line : ℕ) (ram : List ℕ) (torn : Torn)
+      → v.answer_of_raise store line ram ≡ Err torn → torn.level < 2 ^ 8
   -- before any guest no area is taken
   pub no_area : (ram : List ℕ) → HoldsArea ram v.blank_store
 
@@ -64,7 +73,8 @@ last_install entries = last_install_behind 0 entries
 abbrev pub IsShortPair : ℕ × ℕ → Type 0
 IsShortPair pair = Is32Bit pair.0 × Is32Bit pair.1
 
--- a session's addresses have 32 bits, its id and key have bytes, and the install of a slot that isn't free was made, where the last one has this number
+-- a session's addresses have 32 bits, its id and key have bytes, and the install of a slot that
+-- isn't free was made, where the last one has this number
 pub record IsSoundSession (last : ℕ) (s : Session) : Type 0 where
   pub entry : Is32Bit s.entry
   pub pc : Is32Bit s.pc
@@ -80,7 +90,8 @@ pub record IsSoundSession (last : ℕ) (s : Session) : Type 0 where
 abbrev pub IsShortCell : Cell → Type 0
 IsShortCell cell = Is32Bit cell.value
 
--- a way of the cache has bytes, of a line that a guest has, and what is still to be written back is of a live slot
+-- a way of the cache has bytes, of a line that a guest has, and what is still to be written back is
+-- of a live slot
 pub record IsSoundWay (sessions : List Session) (way : Way) : Type 0 where
   pub bytes : IsBytes way.bytes
   pub line : way.line < line_limit

@@ -1,4 +1,5 @@
--- The lines of a journal's text: one entry a line, with a rule on the install numbers of the lines before. This project's own format.
+-- The lines of a journal's text: one entry a line, with a rule on the install numbers of the lines
+-- before. This project's own format.
 use Rattle.std.specs.Prelude.{◌≡◌, ℕ, ◌+◌, ◌^◌, ◌<◌, ◌≤◌, ◌==◌, ◌&&◌, nat_le, if◌then◌else◌, List, [], ◌∷◌, length, codes, Option, Some, None, option_map}
 use Rattle.std.specs.Str.{bytes_eq}
 use Rattle.sha2.specs.Sha256.{sha256}
@@ -26,28 +27,36 @@ IsInstalled last word n = IsDecimal word n × (1 ≤ n) × (n ≤ last)
 
 -- RULE and DETAIL
 abbrev pub IsRule : List (List ℕ) → Rule → Type 0
-IsRule words (rule.LineTag n) = (d : List ℕ) × (words ≡ codes "LineTag" ∷ d ∷ []) × Writes (2 ^ 32) d n
-IsRule words (rule.TreeNode n) = (d : List ℕ) × (words ≡ codes "TreeNode" ∷ d ∷ []) × Writes (2 ^ 8) d n
-IsRule words (rule.RegisterTag n) = (d : List ℕ) × (words ≡ codes "RegisterTag" ∷ d ∷ []) × Writes (2 ^ 8) d n
-IsRule words (rule.RegisterMissing n) = (d : List ℕ) × (words ≡ codes "RegisterMissing" ∷ d ∷ []) × Writes (2 ^ 8) d n
+IsRule words (rule.LineTag n) =
+    (d : List ℕ) × (words ≡ codes "LineTag" ∷ d ∷ []) × Writes (2 ^ 32) d n
+IsRule words (rule.TreeNode n) =
+    (d : List ℕ) × (words ≡ codes "TreeNode" ∷ d ∷ []) × Writes (2 ^ 8) d n
+IsRule words (rule.RegisterTag n) =
+    (d : List ℕ) × (words ≡ codes "RegisterTag" ∷ d ∷ []) × Writes (2 ^ 8) d n
+IsRule words (rule.RegisterMissing n) =
+    (d : List ℕ) × (words ≡ codes "RegisterMissing" ∷ d ∷ []) × Writes (2 ^ 8) d n
 
 -- the words behind `trap N`
 abbrev pub IsCause : List (List ℕ) → Cause → Type 0
 IsCause words cause.Interrupt = words ≡ codes "interrupt" ∷ []
-IsCause words (cause.Call code) = (c : List ℕ) × (words ≡ codes "call" ∷ c ∷ []) × Writes (2 ^ 32) c code
-IsCause words (cause.Page page) = (p : List ℕ) × (words ≡ codes "page" ∷ p ∷ []) × Writes (2 ^ 32) p page
+IsCause words (cause.Call code) =
+    (c : List ℕ) × (words ≡ codes "call" ∷ c ∷ []) × Writes (2 ^ 32) c code
+IsCause words (cause.Page page) =
+    (p : List ℕ) × (words ≡ codes "page" ∷ p ∷ []) × Writes (2 ^ 32) p page
 IsCause words (cause.Fault kind) = (k : List ℕ) × (words ≡ codes "fault" ∷ k ∷ []) × IsFault k kind
 IsCause words cause.Nothing = ⊥
 IsCause words cause.Exit = ⊥
 IsCause words (cause.Stopped why) = ⊥
 
--- The words of a line write this entry, where the last install before had this number; behind the line
+-- The words of a line write this entry, where the last install before had this number; behind the
+-- line
 -- the last install has the next number.
 abbrev pub IsRow : ℕ → List (List ℕ) → Entry → ℕ → Type 0
 IsRow last words (entry.Install n slot id place begin lines) next =
     (a s i p b l : List ℕ) × (words ≡ codes "install" ∷ a ∷ s ∷ i ∷ p ∷ b ∷ l ∷ [])
     × IsDecimal a n × (n ≡ last + 1) × Writes 17 s slot × (1 ≤ slot) × IsHex 16 i id.0
-    × WritesDecimal (2 ^ 32) p place × WritesDecimal (2 ^ 32) b begin × WritesDecimal (2 ^ 32) l lines × (next ≡ n)
+    × WritesDecimal (2 ^ 32) p place × WritesDecimal (2 ^ 32) b begin × WritesDecimal (2 ^ 32) l
+    lines × (next ≡ n)
 IsRow last words (entry.Step n step) next =
     (a : List ℕ) × (fields : List (List ℕ)) × (words ≡ codes "step" ∷ a ∷ fields)
     × IsInstalled last a n × IsStep fields step × (next ≡ last)
@@ -55,7 +64,8 @@ IsRow last words (entry.Trap n why) next =
     (a : List ℕ) × (causes : List (List ℕ)) × (words ≡ codes "trap" ∷ a ∷ causes)
     × IsInstalled last a n × IsCause causes why × (next ≡ last)
 IsRow last words (entry.Seal key message) next =
-    (k m : List ℕ) × (words ≡ codes "seal" ∷ k ∷ m ∷ []) × IsPayload 96 k key × IsPayload 96 m message × (next ≡ last)
+    (k m : List ℕ) × (words ≡ codes "seal" ∷ k ∷ m ∷ []) × IsPayload 96 k key
+    × IsPayload 96 m message × (next ≡ last)
 IsRow last words (entry.Accept key message place) next =
     (k m p : List ℕ) × (words ≡ codes "accept" ∷ k ∷ m ∷ p ∷ [])
     × IsPayload 96 k key × IsPayload 96 m message × WritesDecimal (2 ^ 32) p place × (next ≡ last)
@@ -65,8 +75,10 @@ IsRow last words (entry.Hash preimage digest) next =
 IsRow last words (entry.Stop n why) next =
     (a : List ℕ) × (rules : List (List ℕ)) × (words ≡ codes "stop" ∷ a ∷ rules)
     × IsInstalled last a n × IsRule rules why × (next ≡ last)
-IsRow last words (entry.Kill n) next = (a : List ℕ) × (words ≡ codes "kill" ∷ a ∷ []) × IsInstalled last a n × (next ≡ last)
-IsRow last words (entry.Out byte) next = (b : List ℕ) × (words ≡ codes "out" ∷ b ∷ []) × Writes 256 b byte × (next ≡ last)
+IsRow last words (entry.Kill n) next =
+    (a : List ℕ) × (words ≡ codes "kill" ∷ a ∷ []) × IsInstalled last a n × (next ≡ last)
+IsRow last words (entry.Out byte) next =
+    (b : List ℕ) × (words ≡ codes "out" ∷ b ∷ []) × Writes 256 b byte × (next ≡ last)
 
 -- the format: a line without words is passed over
 abbrev pub JournalLine : Format ℕ Entry
@@ -117,7 +129,8 @@ step_entry_of last [] = None
 unfoldable pub named_cause_of : List ℕ → List ℕ → Option Cause
 named_cause_of name detail =
     if bytes_eq name (codes "call") then option_map cause.Call (number_below_of (2 ^ 32) detail)
-    else (if bytes_eq name (codes "page") then option_map cause.Page (number_below_of (2 ^ 32) detail)
+    else (if bytes_eq name (codes "page") then option_map cause.Page
+    (number_below_of (2 ^ 32) detail)
     else (if bytes_eq name (codes "fault") then option_map cause.Fault (fault_of detail) else None))
 
 unfoldable pub cause_of : List (List ℕ) → Option Cause
@@ -157,10 +170,14 @@ hash_of other = None
 -- a rule by its name
 unfoldable pub named_rule_of : List ℕ → List ℕ → Option Rule
 named_rule_of name detail =
-    if bytes_eq name (codes "LineTag") then option_map rule.LineTag (number_below_of (2 ^ 32) detail)
-    else (if bytes_eq name (codes "TreeNode") then option_map rule.TreeNode (number_below_of (2 ^ 8) detail)
-    else (if bytes_eq name (codes "RegisterTag") then option_map rule.RegisterTag (number_below_of (2 ^ 8) detail)
-    else (if bytes_eq name (codes "RegisterMissing") then option_map rule.RegisterMissing (number_below_of (2 ^ 8) detail) else None)))
+    if bytes_eq name (codes "LineTag") then option_map rule.LineTag
+    (number_below_of (2 ^ 32) detail)
+    else (if bytes_eq name (codes "TreeNode") then option_map rule.TreeNode
+    (number_below_of (2 ^ 8) detail)
+    else (if bytes_eq name (codes "RegisterTag") then option_map rule.RegisterTag
+    (number_below_of (2 ^ 8) detail)
+    else (if bytes_eq name (codes "RegisterMissing") then option_map rule.RegisterMissing
+    (number_below_of (2 ^ 8) detail) else None)))
 
 unfoldable pub rule_of : List (List ℕ) → Option Rule
 rule_of (name ∷ detail ∷ []) = named_rule_of name detail

@@ -1,4 +1,5 @@
--- What is printed of a journal: one entry a line, with one space between words. This project's own format.
+-- What is printed of a journal: one entry a line, with one space between words. This project's own
+-- format.
 use Rattle.std.specs.Prelude.{ℕ, List, [], ◌∷◌, ◌++◌, codes}
 use Rattle.std.specs.Fmt.{decimal}
 use Rattle.hex.specs.Hex.{encode_lower}
@@ -38,10 +39,12 @@ entry_text (entry.Install n slot id place begin lines) =
     ++ (spaced (decimal place) ++ (spaced (decimal begin) ++ spaced (decimal lines))))))
 entry_text (entry.Step n step) = codes "step " ++ (decimal n ++ spaced (step_fields step))
 entry_text (entry.Trap n why) = codes "trap " ++ (decimal n ++ spaced (cause_text why))
-entry_text (entry.Seal key message) = codes "seal " ++ (encode_lower key ++ spaced (encode_lower message))
+entry_text (entry.Seal key message) =
+    codes "seal " ++ (encode_lower key ++ spaced (encode_lower message))
 entry_text (entry.Accept key message place) =
     codes "accept " ++ (encode_lower key ++ spaced (encode_lower message) ++ spaced (decimal place))
-entry_text (entry.Hash preimage digest) = codes "hash " ++ (encode_lower preimage ++ spaced (encode_lower digest))
+entry_text (entry.Hash preimage digest) =
+    codes "hash " ++ (encode_lower preimage ++ spaced (encode_lower digest))
 entry_text (entry.Stop n why) = codes "stop " ++ (decimal n ++ spaced (rule_text why))
 entry_text (entry.Kill n) = codes "kill " ++ decimal n
 entry_text (entry.Out byte) = codes "out " ++ decimal byte

@@ -1,4 +1,5 @@
--- What a reader of a journal's text knows of the lines that it has read, and how it answers of the next one.
+-- What a reader of a journal's text knows of the lines that it has read, and how it answers of the
+-- next one.
 use Rattle.std.specs.Prelude.{◌≡◌, ℕ, ◌+◌, Bool, true, false, List, length, ◌++◌, Option, Some, None, Result, Ok, Err}
 use Rattle.std.specs.Option.{option_to_list}
 use Rattle.xom_base.specs.Lines.{IsFirstBad, IsText, Reads, lines_of}
@@ -38,20 +39,26 @@ pub record Reading : Type 0 where
 -- The reader has read these lines, which gave these entries; or one of them is bad, and the reader
 -- stands at the first bad one.
 abbrev pub ReadOrBad : Bool → Reading → List (List ℕ) → List Entry → Type 0
-ReadOrBad false reading lines entries = Reads JournalLine 0 1 lines entries reading.last × (reading.lines ≡ length lines)
+ReadOrBad false reading lines entries =
+    Reads JournalLine 0 1 lines entries reading.last × (reading.lines ≡ length lines)
 ReadOrBad true reading lines entries = IsBadLine lines reading.lines
 
 abbrev pub HasRead : Reading → List (List ℕ) → List Entry → Type 0
 HasRead reading lines entries = ReadOrBad reading.bad reading lines entries
 
 -- what was answered of the last of these lines, where those before it gave these entries
-abbrev pub AnswersNext : List (List ℕ) → List Entry → Result (Option Entry) BadLine → Reading → Type 0
-AnswersNext lines entries (Ok found) reading = (reading.bad ≡ false) × HasRead reading lines (entries ++ option_to_list found)
-AnswersNext lines entries (Err bad) reading = (reading.bad ≡ true) × IsBadLine lines bad.0 × (reading.lines ≡ bad.0)
+abbrev pub AnswersNext : List (List ℕ) → List Entry → Result (Option Entry) BadLine → Reading
+    → Type 0
+AnswersNext lines entries (Ok found) reading =
+    (reading.bad ≡ false) × HasRead reading lines (entries ++ option_to_list found)
+AnswersNext lines entries (Err bad) reading =
+    (reading.bad ≡ true) × IsBadLine lines bad.0 × (reading.lines ≡ bad.0)
 
 -- what is answered of a line that says this, by a reader that has met no bad one
-abbrev pub AnswersStep : Option (Option Entry × ℕ) → Reading → Result (Option Entry) BadLine → Reading → Type 0
+abbrev pub AnswersStep : Option (Option Entry × ℕ) → Reading → Result (Option Entry) BadLine
+    → Reading → Type 0
 AnswersStep None old result new =
-    (result ≡ Err (record { 0 = old.lines + 1 })) × (new ≡ record { last = old.last; lines = old.lines + 1; bad = true })
+    (result ≡ Err (record { 0 = old.lines + 1 }))
+    × (new ≡ record { last = old.last; lines = old.lines + 1; bad = true })
 AnswersStep (Some read) old result new =
     (result ≡ Ok read.0) × (new ≡ record { last = read.1; lines = old.lines + 1; bad = false })

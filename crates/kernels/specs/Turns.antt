@@ -31,7 +31,8 @@ write_of address bytes = (turn.Write address (min (length bytes) chunk_size), ta
 
 -- a kernel write of at most 8,192 bytes, as they stand in RAM at this turn
 abbrev pub copy_of : View → ℕ → ℕ → ℕ → Told
-copy_of view from to count = (turn.Write to (min count chunk_size), bytes_shown view from (min count chunk_size))
+copy_of view from to count =
+    (turn.Write to (min count chunk_size), bytes_shown view from (min count chunk_size))
 
 -- a kernel write of the byte that stands there at this turn, with the bits of a mask turned over
 abbrev pub flip_of : View → ℕ → ℕ → Told

@@ -6,7 +6,8 @@ use Rattle.std.proofs.lemmas.Nat.{le_or_l, le_or_r}
 -- two numbers whose difference is none are equal
 pub same_from_xor : (a b : ℕ) → bit_xor a b ≡ 0 → a ≡ b
 same_from_xor a b none =
-    sym (xor_zero_r a) ∙ ap (λ n. bit_xor a n) (sym (xor_self b)) ∙ sym (xor_assoc a b b) ∙ ap (λ n. bit_xor n b) none ∙ xor_zero_l b
+    sym (xor_zero_r a) ∙ ap (λ n. bit_xor a n) (sym (xor_self b)) ∙ sym (xor_assoc a b b)
+    ∙ ap (λ n. bit_xor n b) none ∙ xor_zero_l b
 
 -- what is joined to no bits has none
 pub none_in_or : (a b : ℕ) → bit_or a b ≡ 0 → (a ≡ 0) × (b ≡ 0)
@@ -24,7 +25,8 @@ pub none_more : (d i : ℕ) (xs ys : List ℕ) → (d ≡ 0) ↔ SameBefore i xs
     → (bit_or d (bit_xor (get_or xs i 0) (get_or ys i 0)) ≡ 0) ↔ SameBefore (i + 1) xs ys
 none_more d i xs ys before = (
   (λ none. let both = none_in_or d (bit_xor (get_or xs i 0) (get_or ys i 0)) none in
-      below_more (λ k. get_or xs k 0 ≡ get_or ys k 0) i (before.0 both.0) (same_from_xor (get_or xs i 0) (get_or ys i 0) both.1)),
+      below_more (λ k. get_or xs k 0 ≡ get_or ys k 0) i (before.0 both.0)
+      (same_from_xor (get_or xs i 0) (get_or ys i 0) both.1)),
   (λ same.
       let none : d ≡ 0 = before.1 (λ k below. same k (omega arith)) in
       let here : get_or xs i 0 ≡ get_or ys i 0 = same i (omega arith) in

@@ -7,4 +7,5 @@ use Rattle.keyed_mac.specs.Laws.{TagsHaveTheirLength}
 
 pub tags_have_their_length : TagsHaveTheirLength
 unfolding hmac_sha256
-tags_have_their_length key text = length-sha256 (masked opad (block_key key) ++ sha256 (masked ipad (block_key key) ++ text))
+tags_have_their_length key text =
+    length-sha256 (masked opad (block_key key) ++ sha256 (masked ipad (block_key key) ++ text))

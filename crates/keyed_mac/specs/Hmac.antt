@@ -1,4 +1,5 @@
--- The keyed-hash message authentication code HMAC (FIPS 198-1) with SHA-256 (FIPS 180-4) as its hash. Texts are lists of bytes, section numbers are of FIPS 198-1.
+-- The keyed-hash message authentication code HMAC (FIPS 198-1) with SHA-256 (FIPS 180-4) as its
+-- hash. Texts are lists of bytes, section numbers are of FIPS 198-1.
 use Rattle.std.specs.Prelude.{ℕ, ◌-◌, List, ◌++◌, length, map, nat_le, replicate, bit_xor, if◌then◌else◌}
 use Rattle.sha2.specs.Sha256.{sha256}
 
@@ -17,7 +18,8 @@ opad = 0x5c
 abbrev pub zero_padded : List ℕ → List ℕ
 zero_padded text = text ++ replicate (block_size - length text) 0
 
--- K0: the key, or the hash of one that is longer than a block, with zeros behind it (section 4, steps 1 to 3)
+-- K0: the key, or the hash of one that is longer than a block, with zeros behind it (section 4,
+-- steps 1 to 3)
 abbrev pub block_key : List ℕ → List ℕ
 block_key key = zero_padded (if nat_le (length key) block_size then key else sha256 key)
 
@@ -27,4 +29,5 @@ masked pad block = map (λ byte. bit_xor byte pad) block
 
 -- H((K0 xor opad) || H((K0 xor ipad) || text)) (steps 5, 6, 8 and 9)
 unfoldable pub hmac_sha256 : List ℕ → List ℕ → List ℕ
-hmac_sha256 key text = sha256 (masked opad (block_key key) ++ sha256 (masked ipad (block_key key) ++ text))
+hmac_sha256 key text =
+    sha256 (masked opad (block_key key) ++ sha256 (masked ipad (block_key key) ++ text))

@@ -4,7 +4,8 @@ use Rattle.sha2.specs.Hashers.{Holds256}
 use Rattle.sha2.specs.declared.Sha256.{Sha256}
 use Rattle.keyed_mac.specs.Hmac.{block_key, ipad, masked, opad}
 
--- the first state has hashed the block that stands before each text, the second the one before each inner digest
+-- the first state has hashed the block that stands before each text, the second the one before each
+-- inner digest
 pub record IsPrepared (first second : Sha256) (key : List ℕ) : Type 0 where
   pub inner : Holds256 first (masked ipad (block_key key))
   pub outer : Holds256 second (masked opad (block_key key))

@@ -12,14 +12,18 @@ use Rattle.line_cache.proofs.Changes.{Fits, IsCache-set, found-set, line_in-gone
 pub line_in_free : (cache : Cache) (slot line : ℕ) (bytes : List ℕ) (free : ℕ)
     → free_in_set cache.ways line ≡ Some free
     → with_line cache slot line bytes
-    ≡ record { ways = slice_set cache.ways (first_place line + free) (new_way slot line bytes); pointers = cache.pointers }
+    ≡ record {
+      ways = slice_set cache.ways (first_place line + free) (new_way slot line bytes);
+      pointers = cache.pointers;
+    }
 line_in_free cache slot line bytes free is = rw is refl
 
 pub line_in_full : (cache : Cache) (slot line : ℕ) (bytes : List ℕ)
     → free_in_set cache.ways line ≡ None
     → with_line cache slot line bytes
     ≡ record {
-      ways = slice_set cache.ways (first_place line + pointed cache.pointers line) (new_way slot line bytes);
+      ways = slice_set cache.ways (first_place line + pointed cache.pointers line)
+          (new_way slot line bytes);
       pointers = slice_set cache.pointers (line % 32) ((pointed cache.pointers line + 1) % 4);
     }
 line_in_full cache slot line bytes is = rw is refl
@@ -33,7 +37,8 @@ pub victim_of_full : (cache : Cache) (line : ℕ) → free_in_set cache.ways lin
     ≡ Some (victim_of (way_at cache.ways (first_place line + pointed cache.pointers line)))
 victim_of_full cache line is = rw is refl
 
-module _ (cache : Cache) (sound : IsCache cache) (slot line : ℕ) (bytes : List ℕ) (some : slot ≢ 0) (known : slot ≤ 16) (inside : line < 2 ^ 15) (absent : found cache.ways slot line ≡ None) where
+module _ (cache : Cache) (sound : IsCache cache) (slot line : ℕ) (bytes : List ℕ) (some : slot ≢ 0)
+    (known : slot ≤ 16) (inside : line < 2 ^ 15) (absent : found cache.ways slot line ≡ None) where
   abbrev way : Way
   way = new_way slot line bytes
 
@@ -46,7 +51,8 @@ module _ (cache : Cache) (sound : IsCache cache) (slot line : ℕ) (bytes : List
     inside = inside;
   }
 
-  chosen_low : (free : Option ℕ) → free_in_set cache.ways line ≡ free → chosen free (pointed cache.pointers line) < 4
+  chosen_low : (free : Option ℕ) → free_in_set cache.ways line ≡ free
+      → chosen free (pointed cache.pointers line) < 4
   chosen_low (Some free) is = (free-Some cache sound line free is).0
   chosen_low None is = omega arith
 
@@ -67,28 +73,41 @@ module _ (cache : Cache) (sound : IsCache cache) (slot line : ℕ) (bytes : List
   sets = still (free_in_set cache.ways line)
 
   pub with_line_is_cache : IsCache (with_line cache slot line bytes)
-  with_line_is_cache = IsCache-set cache sound place within way (pointers_after cache.ways cache.pointers line) (fits _ low) sets
+  with_line_is_cache =
+      IsCache-set cache sound place within way (pointers_after cache.ways cache.pointers line)
+      (fits _ low) sets
 
   pub with_line_is_found : found (with_line cache slot line bytes).ways slot line ≡ Some place
-  with_line_is_found = found-set cache sound place within way (pointers_after cache.ways cache.pointers line) (fits _ low) sets some
+  with_line_is_found =
+      found-set cache sound place within way (pointers_after cache.ways cache.pointers line)
+      (fits _ low) sets some
 
   not_there : (at : ℕ) → ¬ Holds (way_at cache.ways at) slot line
   not_there at = found-None cache.ways slot line some absent at
 
   handed_out : (free : Option ℕ) → free_in_set cache.ways line ≡ free → (at : ℕ)
       → at ≡ first_place line + chosen free (pointed cache.pointers line) → at ≡ place
-      → IfSome (pushed_out free (way_at cache.ways at)) (HandsOut cache.ways (with_line cache slot line bytes).ways)
+      → IfSome (pushed_out free (way_at cache.ways at))
+      (HandsOut cache.ways (with_line cache slot line bytes).ways)
   handed_out (Some free) is at place_is same = tt
   handed_out None is at place_is same =
       let old = way_at cache.ways at in
-      let filled : IsFilled cache.ways at = subst (λ n. IsFilled cache.ways n) (sym place_is) (free-None cache sound line is (pointed cache.pointers line) (omega arith)) in
+      let filled : IsFilled cache.ways at = subst (λ n. IsFilled cache.ways n) (sym place_is)
+      (free-None cache sound line is (pointed cache.pointers line) (omega arith)) in
       record {
         way = old;
-        before = ap (way_found cache.ways) (found_at cache sound old.slot old.line filled at (record { its_slot = refl; its_line = refl }));
+        before = ap (way_found cache.ways) (found_at cache sound old.slot old.line filled at
+            (record { its_slot = refl; its_line = refl }));
         whole = refl;
-        gone = line_in-gone cache sound place within way (pointers_after cache.ways cache.pointers line) (fits _ low) sets old.slot old.line filled
-            (λ holds. not_there at (record { its_slot = sym holds.its_slot; its_line = sym holds.its_line }))
-            (subst (λ n. Holds (way_at cache.ways n) old.slot old.line) same (record { its_slot = refl; its_line = refl }));
+        gone = line_in-gone cache sound place within way (pointers_after cache.ways cache.pointers
+            line) (fits _ low) sets old.slot old.line filled
+            (λ holds. not_there at (record {
+              its_slot = sym holds.its_slot;
+              its_line =
+                  sym holds.its_line;
+            }))
+            (subst (λ n. Holds (way_at cache.ways n) old.slot old.line) same
+            (record { its_slot = refl; its_line = refl }));
       }
 
   others : (free : Option ℕ) → free_in_set cache.ways line ≡ free → (at : ℕ)
@@ -96,26 +115,32 @@ module _ (cache : Cache) (sound : IsCache cache) (slot line : ℕ) (bytes : List
       → (who other : ℕ) → who ≢ 0 → ¬ IsVictim (pushed_out free (way_at cache.ways at)) who other
       → ¬ Holds (way_at cache.ways at) who other
   others (Some free) is at place_is who other some_who not_victim holds =
-      some_who (sym holds.its_slot ∙ ap (λ n. (way_at cache.ways n).slot) place_is ∙ (free-Some cache sound line free is).1)
-  others None is at place_is who other some_who not_victim holds = not_victim (holds.its_slot, holds.its_line)
+      some_who (sym holds.its_slot ∙ ap (λ n. (way_at cache.ways n).slot) place_is
+      ∙ (free-Some cache sound line free is).1)
+  others None is at place_is who other some_who not_victim holds =
+      not_victim (holds.its_slot, holds.its_line)
 
   in_range : (free : Option ℕ) → free_in_set cache.ways line ≡ free → (at : ℕ)
       → at ≡ first_place line + chosen free (pointed cache.pointers line)
       → IfSome (pushed_out free (way_at cache.ways at)) IsLine
   in_range (Some free) is at place_is = tt
   in_range None is at place_is =
-      let filled : IsFilled cache.ways at = subst (λ n. IsFilled cache.ways n) (sym place_is) (free-None cache sound line is (pointed cache.pointers line) (omega arith)) in
+      let filled : IsFilled cache.ways at = subst (λ n. IsFilled cache.ways n) (sym place_is)
+      (free-None cache sound line is (pointed cache.pointers line) (omega arith)) in
       record { some = omega arith; known = sound.known at; inside = sound.inside at }
 
   pub victim_is_line : IfSome (victim_for cache line) IsLine
   victim_is_line = in_range (free_in_set cache.ways line) refl place refl
 
-  pub with_line_brings_in : BringsIn cache.ways (with_line cache slot line bytes).ways slot line bytes (victim_for cache line)
+  pub with_line_brings_in : BringsIn cache.ways (with_line cache slot line bytes).ways slot line
+      bytes (victim_for cache line)
   with_line_brings_in = record {
-    this_line = line_in-set cache sound place within way (pointers_after cache.ways cache.pointers line) (fits _ low) sets some;
+    this_line = line_in-set cache sound place within way (pointers_after cache.ways cache.pointers
+        line) (fits _ low) sets some;
     victim_line = handed_out (free_in_set cache.ways line) refl place refl refl;
     other_lines = λ who other some_who differs not_victim.
-        line_in-other cache sound place within way (pointers_after cache.ways cache.pointers line) (fits _ low) sets who other some_who
+        line_in-other cache sound place within way (pointers_after cache.ways cache.pointers line)
+        (fits _ low) sets who other some_who
         (λ holds. differs (sym holds.its_slot) (sym holds.its_line))
         (others (free_in_set cache.ways line) refl place refl who other some_who not_victim);
   }
@@ -123,27 +148,35 @@ module _ (cache : Cache) (sound : IsCache cache) (slot line : ℕ) (bytes : List
 -- ---- The two ways of the body
 
 -- all that is owed of the cache after a new line, and of what is handed out
-pub record Placed (cache : Cache) (slot line : ℕ) (bytes : List ℕ) (new : Cache) (victim : Option Victim) : Type 0 where
+pub record Placed (cache : Cache) (slot line : ℕ) (bytes : List ℕ) (new : Cache)
+    (victim : Option Victim) : Type 0 where
   pub is_cache : IsCache new
   pub full : IsSome victim ↔ IsFull cache.ways line
   pub found_there : found new.ways slot line ≡ Some (place_for cache.ways cache.pointers line)
   pub lines : BringsIn cache.ways new.ways slot line bytes victim
   pub range : IfSome victim IsLine
 
-module _ (opened cache : Cache) (same : opened ≡ cache) (sound : IsCache opened) (slot line : ℕ) (bytes : List ℕ) (some : 1 ≤ slot) (known : slot ≤ 16) (inside : line < 2 ^ 15) (absent : found cache.ways slot line ≡ None) (first : ℕ) (way : Way) (first_is : first ≡ first_place line) (way_is : way ≡ new_way slot line bytes) where
+module _ (opened cache : Cache) (same : opened ≡ cache) (sound : IsCache opened) (slot line : ℕ)
+    (bytes : List ℕ) (some : 1 ≤ slot) (known : slot ≤ 16) (inside : line < 2 ^ 15)
+    (absent : found cache.ways slot line ≡ None) (first : ℕ) (way : Way)
+    (first_is : first ≡ first_place line) (way_is : way ≡ new_way slot line bytes) where
   whole : IsCache cache
   whole = subst IsCache same sound
 
   not_null : slot ≢ 0
   not_null none = absurd (omega arith)
 
-  placed_as : (new : Cache) (victim : Option Victim) → with_line cache slot line bytes ≡ new → victim_for cache line ≡ victim
+  placed_as : (new : Cache) (victim : Option Victim) → with_line cache slot line bytes ≡ new
+      → victim_for cache line ≡ victim
       → (IsSome victim ↔ IsFull cache.ways line) → Placed cache slot line bytes new victim
   placed_as new victim new_is victim_is full = record {
-    is_cache = subst IsCache new_is (with_line_is_cache cache whole slot line bytes not_null known inside absent);
+    is_cache = subst IsCache new_is (with_line_is_cache cache whole slot line bytes not_null known
+        inside absent);
     full = full;
-    range = subst (λ v. IfSome v IsLine) victim_is (victim_is_line cache whole slot line bytes not_null known inside absent);
-    found_there = subst (λ c. found c.ways slot line ≡ Some (place_for cache.ways cache.pointers line)) new_is
+    range = subst (λ v. IfSome v IsLine) victim_is (victim_is_line cache whole slot line bytes
+        not_null known inside absent);
+    found_there = subst (λ c. found c.ways slot line ≡ Some (place_for cache.ways cache.pointers
+        line)) new_is
         (with_line_is_found cache whole slot line bytes not_null known inside absent);
     lines = subst (BringsIn cache.ways new.ways slot line bytes) victim_is
         (subst (λ c. BringsIn cache.ways c.ways slot line bytes (victim_for cache line)) new_is
@@ -155,8 +188,11 @@ module _ (opened cache : Cache) (same : opened ≡ cache) (sound : IsCache opene
       (record { ways = slice_set opened.ways (first + free) way; pointers = opened.pointers }) None
   placed_free free is = placed_as _ None
       (rw (same, first_is, way_is) (line_in_free cache slot line bytes free (sym is)))
-      (victim_of_free cache line free (sym is))
-      ((λ some. absurd (let no = some in cc)), λ full. absurd (let none = none_free cache whole line full in let yes = is in cc))
+      (victim_of_free cache line free (sym is)) (
+        (λ some. absurd (let no = some in cc)),
+        λ full. absurd (let none = none_free cache whole line
+            full in let yes = is in cc),
+      )
 
   pub placed_full : (victim : Victim) (pointer : ℕ) → None ≡ free_in_set cache.ways line
       → pointer ≡ pointed opened.pointers line

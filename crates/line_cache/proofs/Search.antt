@@ -78,8 +78,13 @@ module _ (ways : List Way) (slot line : ℕ) (some : slot ≢ 0) where
   pub found-None : found ways slot line ≡ None → (place : ℕ) → ¬ Holds (way_at ways place) slot line
   found-None none place holds =
       let filled : IsFilled ways place = λ free. some (sym holds.its_slot ∙ free) in
-      let fails = none_passes (is_of slot line) ways place free_way none (filled_within ways place filled) in
-      elim (tells slot line (way_at ways place)) [ inl h ↦ (let is = h.1 in cc) | inr n ↦ n.0 holds ]
+      let fails = none_passes (is_of slot line) ways place free_way none
+      (filled_within ways place filled) in
+      elim (tells slot line (way_at ways place)) [
+        | inl h ↦ (let is = h.1 in cc)
+        | inr n ↦
+            n.0 holds
+      ]
 
 -- ---- The four ways of a set
 
@@ -88,7 +93,8 @@ module _ (cache : Cache) (sound : IsCache cache) (line : ℕ) where
   pub way_in_set : (way : ℕ) → way < 4
       → get_or (set_of cache.ways line) way free_way ≡ way_at cache.ways (first_place line + way)
   way_in_set way within =
-      get_or-take (first_place line + 4 - first_place line) (drop (first_place line) cache.ways) way free_way (omega arith)
+      get_or-take (first_place line + 4 - first_place line) (drop (first_place line) cache.ways) way
+      free_way (omega arith)
       ∙ get_or-drop (first_place line) cache.ways way free_way
 
   pub set_size : length (set_of cache.ways line) ≡ 4
@@ -105,8 +111,14 @@ module _ (cache : Cache) (sound : IsCache cache) (line : ℕ) where
       let size = set_size in
       let low : way < 4 = omega arith in
       let free : is_free (way_at cache.ways (first_place line + way)) ≡ true =
-      sym (ap is_free (way_in_set way low)) ∙ at.1 in
-      (low, elim (eqb_tells (way_at cache.ways (first_place line + way)).slot 0) [ inl is ↦ is.1 | inr not ↦ absurd (let no = not.0 in cc) ])
+      sym (ap is_free (way_in_set way low)) ∙ at.1 in (
+        low,
+        elim (eqb_tells (way_at cache.ways (first_place line + way)).slot 0) [
+          | inl is ↦
+              is.1
+          | inr not ↦ absurd (let no = not.0 in cc)
+        ],
+      )
 
   low_way : (free : Option ℕ) → free_in_set cache.ways line ≡ free → IfSome free (λ way. way < 4)
   low_way (Some way) is = (free-Some way is).0
@@ -123,7 +135,11 @@ module _ (cache : Cache) (sound : IsCache cache) (line : ℕ) where
       let size = set_size in
       let fails = none_passes is_free (set_of cache.ways line) way free_way none (omega arith) in
       let same = ap is_free (way_in_set way within) in
-      elim (eqb_tells (way_at cache.ways (first_place line + way)).slot 0) [ inl is ↦ (let yes = is.0 in cc) | inr not ↦ not.1 free ]
+      elim (eqb_tells (way_at cache.ways (first_place line + way)).slot 0) [
+        | inl is ↦
+            (let yes = is.0 in cc)
+        | inr not ↦ not.1 free
+      ]
 
   pub none_free : IsFull cache.ways line → free_in_set cache.ways line ≡ None
   unfolding free_in_set
@@ -131,7 +147,11 @@ module _ (cache : Cache) (sound : IsCache cache) (line : ℕ) where
       let size = set_size in
       let low : way < 4 = omega arith in
       let same = ap is_free (way_in_set way low) in
-      elim (eqb_tells (way_at cache.ways (first_place line + way)).slot 0) [ inl is ↦ absurd (full way low is.1) | inr not ↦ same ∙ not.0 ])
+      elim (eqb_tells (way_at cache.ways (first_place line + way)).slot 0) [
+        | inl is ↦
+            absurd (full way low is.1)
+        | inr not ↦ same ∙ not.0
+      ])
 
 module _ (cache : Cache) (sound : IsCache cache) (slot line : ℕ) (some : slot ≢ 0) where
   -- a place that holds the line is the one that is found
@@ -139,11 +159,21 @@ module _ (cache : Cache) (sound : IsCache cache) (slot line : ℕ) (some : slot 
       → found cache.ways slot line ≡ Some place
   found_at place holds =
       let filled : IsFilled cache.ways place = λ free. some (sym holds.its_slot ∙ free) in
-      position_at (is_of slot line) cache.ways place free_way (filled_within cache.ways place filled)
-      (elim (tells slot line (way_at cache.ways place)) [ inl h ↦ h.1 | inr n ↦ absurd (n.0 holds) ])
+      position_at (is_of slot line) cache.ways place free_way
+      (filled_within cache.ways place filled)
+      (elim (tells slot line (way_at cache.ways place)) [
+        | inl h ↦ h.1
+        | inr n ↦
+            absurd (n.0 holds)
+      ])
       (λ j below. elim (tells slot line (way_at cache.ways j)) [
         | inl h ↦ absurd (
-            let same = sound.once place j filled (record { its_slot = h.0.its_slot ∙ sym holds.its_slot; its_line = h.0.its_line ∙ sym holds.its_line }) in
+            let same = sound.once place j filled
+            (record {
+              its_slot = h.0.its_slot ∙ sym holds.its_slot;
+              its_line = h.0.its_line
+                  ∙ sym holds.its_line;
+            }) in
             omega arith)
         | inr n ↦ n.1
       ])
@@ -153,11 +183,14 @@ module _ (cache : Cache) (sound : IsCache cache) (slot line : ℕ) (some : slot 
       → found cache.ways slot line ≡ None
   none_in_set none = found_none cache.ways slot line some (λ place holds.
       let filled : IsFilled cache.ways place = λ free. some (sym holds.its_slot ∙ free) in
-      let in_set : place / 4 ≡ line % 32 = sound.in_set place filled ∙ ap (λ l. l % 32) holds.its_line in
+      let in_set : place / 4 ≡ line % 32 = sound.in_set place filled ∙ ap (λ l. l % 32)
+      holds.its_line in
       let size = set_size cache sound line in
-      let fails = none_passes (is_of slot line) (set_of cache.ways line) (place % 4) free_way none (omega arith) in
+      let fails = none_passes (is_of slot line) (set_of cache.ways line) (place % 4) free_way none
+      (omega arith) in
       let here : get_or (set_of cache.ways line) (place % 4) free_way ≡ way_at cache.ways place =
-      way_in_set cache sound line (place % 4) (omega arith) ∙ ap (way_at cache.ways) (omega arith) in
+      way_in_set cache sound line (place % 4) (omega arith) ∙ ap (way_at cache.ways)
+      (omega arith) in
       elim (tells slot line (way_at cache.ways place)) [
         | inl h ↦ (let is = h.1 in let same = ap (is_of slot line) here in cc)
         | inr n ↦ n.0 holds
@@ -170,20 +203,27 @@ module _ (cache : Cache) (sound : IsCache cache) (slot line : ℕ) (some : slot 
       let at = position-Some (is_of slot line) (set_of cache.ways line) way free_way is in
       let size = set_size cache sound line in
       found_at (first_place line + way)
-      (is_of-Holds slot line _ (sym (ap (is_of slot line) (way_in_set cache sound line way (omega arith))) ∙ at.1))
+      (is_of-Holds slot line
+      _ (sym (ap (is_of slot line) (way_in_set cache sound line way (omega arith))) ∙ at.1))
 
 -- what the body finds is filled
-pub found_filled : (opened cache : Cache) → opened ≡ cache → IsCache opened → (slot line : ℕ) → 1 ≤ slot
-    → (first : ℕ) → first ≡ first_place line → (ways : List Way) → ways ≡ opened.ways → (found_way : Option ℕ)
-    → found_way ≡ position (is_of slot line) (slice_range ways first (first + 4)) → (way : ℕ) → found_way ≡ Some way
+pub found_filled : (opened cache : Cache) → opened ≡ cache → IsCache opened → (slot line : ℕ)
+    → 1 ≤ slot
+    → (first : ℕ) → first ≡ first_place line → (ways : List Way) → ways ≡ opened.ways
+    → (found_way : Option ℕ)
+    → found_way ≡ position (is_of slot line) (slice_range ways first (first + 4)) → (way : ℕ)
+    → found_way ≡ Some way
     → IsFilled cache.ways (first + way)
-found_filled opened cache same sound slot line some first first_is ways ways_is found_way answer way is =
+found_filled opened cache same sound slot line some first first_is ways ways_is found_way answer way
+    is =
     let not_null : slot ≢ 0 = λ none. absurd (omega arith) in
     let here : position (is_of slot line) (set_of opened.ways line) ≡ Some way =
-    ap (λ w. position (is_of slot line) (slice_range w (first_place line) (first_place line + 4))) (sym ways_is)
+    ap (λ w. position (is_of slot line) (slice_range w (first_place line) (first_place line + 4)))
+    (sym ways_is)
     ∙ ap (λ n. position (is_of slot line) (slice_range ways n (n + 4))) (sym first_is)
     ∙ sym answer ∙ is in
     let place = some_in_set opened sound slot line not_null way here in
     let held = found-Some opened.ways slot line not_null (first_place line + way) place in
-    let filled : IsFilled opened.ways (first_place line + way) = λ free. not_null (sym held.its_slot ∙ free) in
+    let filled : IsFilled opened.ways (first_place line + way) =
+    λ free. not_null (sym held.its_slot ∙ free) in
     rw (first_is, ← same) filled

@@ -9,7 +9,8 @@ all_free : (place : ℕ) → way_at no_ways place ≡ free_way
 unfolding no_ways
 all_free place = elim (cases_lt place 128) [
   | inl within ↦ get_or-replicate 128 place free_way free_way within
-  | inr past ↦ get_or_past (replicate 128 free_way) place free_way (let size = length-replicate 128 free_way in omega arith)
+  | inr past ↦ get_or_past (replicate 128 free_way) place free_way (let size =
+      length-replicate 128 free_way in omega arith)
 ]
 
 pub empty_is_cache : IsCache empty

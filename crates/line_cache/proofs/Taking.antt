@@ -20,18 +20,32 @@ tells_page slot page way = elim (eqb_tells way.slot slot) [
   | inr a ↦ inr (rw a.0 refl, λ h. a.1 h.0)
 ]
 
-in_page : (slot page : ℕ) (way : Way) → is_in_page slot page way ≡ true → (way.slot ≡ slot) × (way.line / 128 ≡ page)
-in_page slot page way is = elim (tells_page slot page way) [ inl t ↦ (t.1, t.2) | inr f ↦ absurd (let no = f.0 in cc) ]
+in_page : (slot page : ℕ) (way : Way) → is_in_page slot page way ≡ true
+    → (way.slot ≡ slot) × (way.line / 128 ≡ page)
+in_page slot page way is = elim (tells_page slot page way) [
+  | inl t ↦ (t.1, t.2)
+  | inr f ↦
+      absurd (let no = f.0 in cc)
+]
 
-of_page : (slot page : ℕ) (way : Way) → way.slot ≡ slot → way.line / 128 ≡ page → is_in_page slot page way ≡ true
-of_page slot page way a b = elim (tells_page slot page way) [ inl t ↦ t.0 | inr f ↦ absurd (f.1 (a, b)) ]
+of_page : (slot page : ℕ) (way : Way) → way.slot ≡ slot → way.line / 128 ≡ page
+    → is_in_page slot page way ≡ true
+of_page slot page way a b = elim (tells_page slot page way) [
+  | inl t ↦ t.0
+  | inr f ↦
+      absurd (f.1 (a, b))
+]
 
 module _ (ways : List Way) (slot page place : ℕ) where
   abbrev its : ℕ → Bool
   its at = is_in_page slot page (way_at ways at)
 
   at_most : (at : ℕ) → at < place + 1 → (at ≡ place) ⊎ (at < place)
-  at_most at low = elim (eqb_tells at place) [ inl is ↦ inl is.1 | inr not ↦ (let differs = not.1 in inr (omega arith)) ]
+  at_most at low = elim (eqb_tells at place) [
+    | inl is ↦ inl is.1
+    | inr not ↦
+        (let differs = not.1 in inr (omega arith))
+  ]
 
   -- a place without a line of the page changes nothing
   pub least_skips : (least : Option ℕ) → IsLeastAmong ways slot page place least → its place ≡ false
@@ -44,10 +58,16 @@ module _ (ways : List Way) (slot page place : ℕ) where
       | inr below ↦ holds.least other below is
     ];
   }
-  least_skips None none not = λ other low. elim (at_most other low) [ inl same ↦ ap its same ∙ not | inr below ↦ none other below ]
+  least_skips None none not =
+      λ other low. elim (at_most other low) [
+        | inl same ↦ ap its same ∙ not
+        | inr below ↦
+            none other below
+      ]
 
   -- the first line of the page is the least so far
-  pub least_begins : IsLeastAmong ways slot page place None → its place ≡ true → HoldsLeast ways slot page (place + 1) place
+  pub least_begins : IsLeastAmong ways slot page place None → its place ≡ true
+      → HoldsLeast ways slot page (place + 1) place
   least_begins none is = record {
     below = omega arith;
     its_page = is;
@@ -58,7 +78,8 @@ module _ (ways : List Way) (slot page place : ℕ) where
   }
 
   -- a line that is as great or greater leaves the least one
-  pub least_stays : (least : ℕ) → HoldsLeast ways slot page place least → (way_at ways least).line ≤ (way_at ways place).line
+  pub least_stays : (least : ℕ) → HoldsLeast ways slot page place least
+      → (way_at ways least).line ≤ (way_at ways place).line
       → HoldsLeast ways slot page (place + 1) least
   least_stays least holds less = record {
     below = let low = holds.below in omega arith;
@@ -70,7 +91,8 @@ module _ (ways : List Way) (slot page place : ℕ) where
   }
 
   -- a smaller one takes its place
-  pub least_moves : (least : ℕ) → HoldsLeast ways slot page place least → its place ≡ true → (way_at ways place).line < (way_at ways least).line
+  pub least_moves : (least : ℕ) → HoldsLeast ways slot page place least → its place ≡ true
+      → (way_at ways place).line < (way_at ways least).line
       → HoldsLeast ways slot page (place + 1) place
   least_moves least holds is less = record {
     below = omega arith;
@@ -97,7 +119,8 @@ module _ (cache : Cache) (sound : IsCache cache) (slot page : ℕ) (some : 1 ≤
   pub none_of_page : IsLeastAmong cache.ways slot page 128 None → HasNoLine cache.ways slot page
   none_of_page none line of = found_none cache.ways slot line not_null (λ at holds.
       let not = none at (cached_within at line holds) in
-      let is = of_page slot page (way_at cache.ways at) holds.its_slot (ap (λ l. l / 128) holds.its_line ∙ of) in
+      let is = of_page slot page (way_at cache.ways at) holds.its_slot
+      (ap (λ l. l / 128) holds.its_line ∙ of) in
       cc)
 
   module _ (place : ℕ) (holds : HoldsLeast cache.ways slot page 128 place) where
@@ -120,7 +143,9 @@ module _ (cache : Cache) (sound : IsCache cache) (slot page : ℕ) (some : 1 ≤
     not_free who line some_who free = some_who (sym free.its_slot)
 
     pub taken_is_cache : IsCache (with_way cache place free_way)
-    taken_is_cache = IsCache-set cache sound place holds.below free_way cache.pointers (free_fits cache place) sound.sets
+    taken_is_cache =
+        IsCache-set cache sound place holds.below free_way cache.pointers (free_fits cache place)
+        sound.sets
 
     pub takes_least : TakesLeast cache (with_way cache place free_way) slot page (victim_of way)
     takes_least = record {
@@ -132,7 +157,8 @@ module _ (cache : Cache) (sound : IsCache cache) (slot page : ℕ) (some : 1 ≤
       slot_is = of_its_page.0;
       page_is = of_its_page.1;
       least = λ line less of. found_none cache.ways slot line not_null (λ at held.
-          let is = of_page slot page (way_at cache.ways at) held.its_slot (ap (λ l. l / 128) held.its_line ∙ of) in
+          let is = of_page slot page (way_at cache.ways at) held.its_slot
+          (ap (λ l. l / 128) held.its_line ∙ of) in
           let more = holds.least at (cached_within at line held) is in
           let line_is = held.its_line in
           absurd (omega arith));
@@ -140,15 +166,20 @@ module _ (cache : Cache) (sound : IsCache cache) (slot page : ℕ) (some : 1 ≤
       place_is = there;
       whole = refl;
       cache = refl;
-      gone = line_in-gone cache sound place holds.below free_way cache.pointers (free_fits cache place) sound.sets slot way.line not_null (not_free slot way.line not_null) own;
+      gone = line_in-gone cache sound place holds.below free_way cache.pointers
+          (free_fits cache place) sound.sets slot way.line not_null (not_free slot way.line not_null)
+          own;
       other_lines = λ who line some_who differs.
-          line_in-other cache sound place holds.below free_way cache.pointers (free_fits cache place) sound.sets who line some_who (not_free who line some_who)
+          line_in-other cache sound place holds.below free_way cache.pointers
+          (free_fits cache place) sound.sets who line some_who (not_free who line some_who)
           (λ held. differs (sym held.its_slot ∙ of_its_page.0) (sym held.its_line));
     }
 
 -- ---- The answers of the body
 
-module _ (opened cache : Cache) (same : opened ≡ cache) (sound : IsCache opened) (slot page : ℕ) (some : 1 ≤ slot) (ways : List Way) (ways_is : ways ≡ opened.ways) (least : Option ℕ) (holds : IsLeastAmong ways slot page (length ways) least) where
+module _ (opened cache : Cache) (same : opened ≡ cache) (sound : IsCache opened) (slot page : ℕ)
+    (some : 1 ≤ slot) (ways : List Way) (ways_is : ways ≡ opened.ways) (least : Option ℕ)
+    (holds : IsLeastAmong ways slot page (length ways) least) where
   whole : IsCache cache
   whole = subst IsCache same sound
 
@@ -159,7 +190,9 @@ module _ (opened cache : Cache) (same : opened ≡ cache) (sound : IsCache opene
       (subst (λ w. IsLeastAmong w slot page (length ways) least) ways_same holds)
 
   pub no_line : least ≡ None → HasNoLine cache.ways slot page
-  no_line is = none_of_page cache whole slot page some (subst (IsLeastAmong cache.ways slot page 128) is among)
+  no_line is =
+      none_of_page cache whole slot page some
+      (subst (IsLeastAmong cache.ways slot page 128) is among)
 
   module _ (place : ℕ) (is : least ≡ Some place) where
     of_the_page : HoldsLeast cache.ways slot page 128 place
@@ -171,6 +204,12 @@ module _ (opened cache : Cache) (same : opened ≡ cache) (sound : IsCache opene
     pub place_within : place < length opened.ways
     place_within = let low = of_the_page.below in let places = sound.places in omega arith
 
-    pub taken_out : (victim : Victim) (free : Way) → victim ≡ victim_of (way_at opened.ways place) → free ≡ free_way
-        → TakesLeast cache (record { ways = slice_set opened.ways place free; pointers = opened.pointers }) slot page victim
-    taken_out victim free victim_is free_is = rw (victim_is, free_is, same) (takes_least cache whole slot page some place of_the_page)
+    pub taken_out : (victim : Victim) (free : Way) → victim ≡ victim_of (way_at opened.ways place)
+        → free ≡ free_way
+        → TakesLeast cache (record {
+          ways = slice_set opened.ways place free;
+          pointers =
+              opened.pointers;
+        }) slot page victim
+    taken_out victim free victim_is free_is =
+        rw (victim_is, free_is, same) (takes_least cache whole slot page some place of_the_page)

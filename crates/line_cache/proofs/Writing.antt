@@ -6,12 +6,14 @@ use Rattle.line_cache.specs.Lines.{IsCache, IsFilled, WritesLine}
 use Rattle.line_cache.proofs.Search.{filled_within}
 use Rattle.line_cache.proofs.Changes.{Fits, IsCache-set, line_in-other, line_in-set}
 
-module _ (cache : Cache) (sound : IsCache cache) (place : ℕ) (filled : IsFilled cache.ways place) (bytes : List ℕ) where
+module _ (cache : Cache) (sound : IsCache cache) (place : ℕ) (filled : IsFilled cache.ways place)
+    (bytes : List ℕ) where
   abbrev way : Way
   way = written (way_at cache.ways place) bytes
 
   within : place < 128
-  within = let low = filled_within cache.ways place filled in let places = sound.places in omega arith
+  within =
+      let low = filled_within cache.ways place filled in let places = sound.places in omega arith
 
   fits : Fits cache place way
   fits = record {
@@ -29,5 +31,6 @@ module _ (cache : Cache) (sound : IsCache cache) (place : ℕ) (filled : IsFille
     this_line = line_in-set cache sound place within way cache.pointers fits sound.sets filled;
     other_lines = λ who other some not_here.
         line_in-other cache sound place within way cache.pointers fits sound.sets who other some
-        (λ holds. not_here (record { its_slot = holds.its_slot; its_line = holds.its_line })) not_here;
+        (λ holds. not_here (record { its_slot = holds.its_slot; its_line = holds.its_line }))
+        not_here;
   }

@@ -19,7 +19,8 @@ pub record IsCache (cache : Cache) : Type 0 where
   pub in_set : (place : ℕ) → IsFilled cache.ways place
       → place / 4 ≡ (way_at cache.ways place).line % 32
   pub once : (place other : ℕ) → IsFilled cache.ways place
-      → Holds (way_at cache.ways other) (way_at cache.ways place).slot (way_at cache.ways place).line
+      → Holds (way_at cache.ways other) (way_at cache.ways place).slot
+      (way_at cache.ways place).line
       → other ≡ place
   pub known : (place : ℕ) → (way_at cache.ways place).slot ≤ 16
   pub inside : (place : ℕ) → (way_at cache.ways place).line < 2 ^ 15
@@ -55,7 +56,8 @@ IsVictim (Some victim) slot line = (victim.slot ≡ slot) × (victim.line ≡ li
 IsVictim None slot line = ⊥
 
 -- the line is cached with its bytes, clean; a victim is handed out; every other line is as before
-pub record BringsIn (old new : List Way) (slot line : ℕ) (bytes : List ℕ) (victim : Option Victim) : Type 0 where
+pub record BringsIn (old new : List Way) (slot line : ℕ) (bytes : List ℕ)
+    (victim : Option Victim) : Type 0 where
   pub this_line : line_in new slot line ≡ Some (new_way slot line bytes)
   pub victim_line : IfSome victim (HandsOut old new)
   pub other_lines : (who other : ℕ) → who ≢ 0 → (who ≡ slot → other ≢ line)

@@ -8,7 +8,8 @@ use Rattle.line_ram.specs.Bytes.{HoldsRange, bytes_at, stored}
 use Rattle.line_ram.proofs.Ranges.{length-stored, take-past}
 
 -- the size is the one that was asked for
-pub length-filled : (size : ℕ) (used : List ℕ) → length used ≤ size → length (filled size used) ≡ size
+pub length-filled : (size : ℕ) (used : List ℕ) → length used ≤ size
+    → length (filled size used) ≡ size
 length-filled size used within =
     length-append used (replicate (size - length used) 0)
     ∙ omega (arith, length-replicate {A = ℕ} (size - length used) 0)
@@ -18,32 +19,40 @@ pub filled-more : (size count : ℕ) (used : List ℕ) → count ≤ size
     → filled size (used ++ replicate (count - length used) 0) ≡ filled size used
 filled-more size count used fits =
     let more = replicate (count - length used) 0 in
-    let long : length (used ++ more) ≡ length used + (count - length used) = simp (length-append, length-replicate) refl in
+    let long : length (used ++ more) ≡ length used + (count - length used) =
+    simp (length-append, length-replicate) refl in
     append_assoc used more (replicate (size - length (used ++ more)) 0)
     ∙ ap (λ zeros. used ++ zeros) (
     replicate-append-replicate (count - length used) (size - length (used ++ more)) 0
-    ∙ ap (λ n. replicate n 0) {x = count - length used + (size - length (used ++ more))} {y = size - length used} (omega (arith, long, fits)))
+    ∙ ap (λ n. replicate n 0) {x = count - length used + (size - length (used ++ more))}
+    {y = size - length used} (omega (arith, long, fits)))
 
 -- what is stored in the used part is stored in RAM
-pub filled-stored : (size address : ℕ) (used bytes : List ℕ) → HoldsRange used address (length bytes)
+pub filled-stored : (size address : ℕ) (used bytes : List ℕ)
+    → HoldsRange used address (length bytes)
     → filled size (stored used address bytes) ≡ stored (filled size used) address bytes
 filled-stored size address used bytes within =
     let zeros : List ℕ = replicate (size - length used) 0 in
     let end = address + length bytes in let front = take address used in let rest = drop end used in
-    ap (λ n. stored used address bytes ++ replicate (size - n) 0) (length-stored used bytes address within)
+    ap (λ n. stored used address bytes ++ replicate (size - n) 0)
+    (length-stored used bytes address within)
     ∙ append_assoc front (bytes ++ rest) zeros
     ∙ same_at_both (λ l r. l ++ r) (sym (take-append-le address used zeros (omega arith)))
-    (append_assoc bytes rest zeros ∙ ap (λ l. bytes ++ l) (sym (drop-append-le end used zeros within)))
+    (append_assoc bytes rest zeros ∙ ap (λ l. bytes ++ l)
+    (sym (drop-append-le end used zeros within)))
 
 -- these bytes over others from an address on, as a `Vec` writes them back
 abbrev over : List ℕ → ℕ → List ℕ → List ℕ
 over more address bytes = take address more ++ (bytes ++ drop (length bytes) (drop address more))
 
--- after zeros were put behind the used bytes and bytes were copied over a range, RAM has them stored
+-- after zeros were put behind the used bytes and bytes were copied over a range, RAM has them
+-- stored
 pub filled-written : (size address len : ℕ) (used more copied bytes : List ℕ)
-    → copied ≡ bytes → len ≡ length more → more ≡ used ++ replicate (address + length bytes - length used) 0
+    → copied ≡ bytes → len ≡ length more
+    → more ≡ used ++ replicate (address + length bytes - length used) 0
     → address + length bytes ≤ size → address + length bytes ≤ len
-    → filled size (refill len more (over more address copied)) ≡ stored (filled size used) address bytes
+    → filled size (refill len more (over more address copied)) ≡ stored (filled size used) address
+    bytes
 filled-written size address len used more copied bytes same long is fits reached =
     let now = stored more address bytes in
     let part : over more address copied ≡ now =
@@ -53,7 +62,8 @@ filled-written size address len used more copied bytes same long is fits reached
     ap (λ p. filled size (refill len more p)) part
     ∙ ap (filled size) (take_at now (drop (length now) more) len (size_of ∙ sym long))
     ∙ filled-stored size address more bytes (omega arith)
-    ∙ ap (λ l. stored l address bytes) (ap (filled size) is ∙ filled-more size (address + length bytes) used fits)
+    ∙ ap (λ l. stored l address bytes) (ap (filled size) is ∙ filled-more size
+    (address + length bytes) used fits)
 
 -- a slice that the bytes don't fill has zeros behind them
 then-zeros : (rest : List ℕ) (count zeros : ℕ) → length rest ≤ count → count ≤ length rest + zeros
@@ -82,7 +92,8 @@ same-zeros rest count zeros others enough enough_too = elim (cases_lt (length re
 
 -- what lies from a place on, in bytes with zeros behind them
 drop-zeros : (address zeros : ℕ) (used : List ℕ)
-    → drop address (used ++ replicate zeros 0) ≡ drop address used ++ replicate (zeros - (address - length used)) 0
+    → drop address (used ++ replicate zeros 0) ≡ drop address used
+    ++ replicate (zeros - (address - length used)) 0
 drop-zeros zero zeros used =
     ap (λ n. used ++ replicate n 0) {x = zeros} {y = zeros - (zero - length used)} (omega arith)
 drop-zeros (suc a) zeros [] =
@@ -90,11 +101,13 @@ drop-zeros (suc a) zeros [] =
     ∙ ap (λ n. replicate n 0) {x = zeros - suc a} {y = zeros - (suc a - zero)} (omega arith)
 drop-zeros (suc a) zeros (x ∷ xs) =
     drop-zeros a zeros xs
-    ∙ ap (λ n. drop a xs ++ replicate n 0) {x = zeros - (a - length xs)} {y = zeros - (suc a - suc (length xs))} (omega arith)
+    ∙ ap (λ n. drop a xs ++ replicate n 0) {x = zeros - (a - length xs)}
+    {y = zeros - (suc a - suc (length xs))} (omega arith)
 
 -- what RAM holds in a range is what is used there and zeros
 pub bytes_filled : (size address count : ℕ) (used : List ℕ) → address + count ≤ size
-    → take count (drop address used ++ replicate count 0) ≡ bytes_at (filled size used) address count
+    → take count (drop address used ++ replicate count 0) ≡ bytes_at (filled size used) address
+    count
 bytes_filled size address count used held =
     let rest = size - length used - (address - length used) in
     let long : length (drop address used) ≡ length used - address = length-drop address used in

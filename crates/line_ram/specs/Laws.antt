@@ -9,21 +9,28 @@ AreApart address count other length = (address + count ≤ other) ⊎ (other + l
 
 -- what was stored is read again
 abbrev pub StoredIsRead : Type 0
-StoredIsRead = (ram bytes : List ℕ) (address : ℕ) → HoldsRange ram address (length bytes) → bytes_at (stored ram address bytes) address (length bytes) ≡ bytes
+StoredIsRead =
+    (ram bytes : List ℕ) (address : ℕ) → HoldsRange ram address (length bytes)
+    → bytes_at (stored ram address bytes) address (length bytes) ≡ bytes
 
 -- a range apart from it is read as before
 abbrev pub OthersStay : Type 0
-OthersStay = (ram bytes : List ℕ) (address other count : ℕ) → HoldsRange ram address (length bytes) → AreApart address (length bytes) other count
+OthersStay = (ram bytes : List ℕ) (address other count : ℕ) → HoldsRange ram address (length bytes)
+    → AreApart address (length bytes) other count
     → bytes_at (stored ram address bytes) other count ≡ bytes_at ram other count
 
 -- the size stays
 abbrev pub SizeStays : Type 0
-SizeStays = (ram bytes : List ℕ) (address : ℕ) → HoldsRange ram address (length bytes) → length (stored ram address bytes) ≡ length ram
+SizeStays =
+    (ram bytes : List ℕ) (address : ℕ) → HoldsRange ram address (length bytes)
+    → length (stored ram address bytes) ≡ length ram
 
 -- a range in which some bytes were stored, put back, is RAM in which they were stored
 abbrev pub StoredInside : Type 0
-StoredInside = (ram bytes : List ℕ) (address count place : ℕ) → HoldsRange ram address count → place + length bytes ≤ count
-    → stored ram address (stored (bytes_at ram address count) place bytes) ≡ stored ram (address + place) bytes
+StoredInside = (ram bytes : List ℕ) (address count place : ℕ) → HoldsRange ram address count
+    → place + length bytes ≤ count
+    → stored ram address (stored (bytes_at ram address count) place bytes) ≡ stored ram
+    (address + place) bytes
 
 -- the bytes of a frame with a ciphertext and a tag at a line
 abbrev pub frame_with_line : List ℕ → ℕ → List ℕ → List ℕ → List ℕ
@@ -33,7 +40,8 @@ frame_with_line bytes index ciphertext tag =
 -- a frame in which a line was written through its two loans, put back, is RAM with that line
 abbrev pub LinesAreLent : Type 0
 LinesAreLent = (ram ciphertext tag : List ℕ) (frame index : ℕ)
-    → HoldsFrame ram frame → index < frame_lines → length ciphertext ≡ line_size → length tag ≡ line_size
+    → HoldsFrame ram frame → index < frame_lines → length ciphertext ≡ line_size
+    → length tag ≡ line_size
     → let bytes = bytes_at ram (frame * frame_size) frame_size in
     stored_through ram (frame * frame_size) (frame_with_line bytes index ciphertext tag)
     ≡ with_line ram frame index ciphertext tag

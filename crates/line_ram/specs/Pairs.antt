@@ -10,4 +10,5 @@ IsPair bytes first second = (first + line_size ≤ second) × HoldsRange bytes s
 -- the places hold the last bytes written through the two loans, and all else is as it was
 abbrev pub LendsPair : MutBor (List ℕ) → ℕ → ℕ → MutBor (List ℕ) × MutBor (List ℕ) → Fml
 LendsPair bytes first second loans =
-    LendsBoth (Array u8 0) (Array u8 0) (Array u8 0) bytes loans (λ one other. stored (stored bytes.now first one) second other)
+    LendsBoth (Array u8 0) (Array u8 0) (Array u8 0) bytes loans
+    (λ one other. stored (stored bytes.now first one) second other)

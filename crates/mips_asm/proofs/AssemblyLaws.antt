@@ -19,37 +19,50 @@ use Rattle.mips_asm.specs.Sources.{IsFaultOf, IsFirst, IsOutOfRange, IsPlacedFau
 abbrev pub Said : (ℕ → AsmFault) → Option ℕ → AsmFault → Type 0
 Said kind found fault = (fault ≡ NoMemory) ⊎ ((n : ℕ) × (found ≡ Some n) × (fault ≡ kind n))
 
-pub overlap_said : (placed : List Placed) (fault : AsmFault) → Said (λ n. Overlap n) (overlap_line placed) fault → OrNoMemory (IsPlacedFault placed) fault
+pub overlap_said : (placed : List Placed) (fault : AsmFault)
+    → Said (λ n. Overlap n) (overlap_line placed) fault → OrNoMemory (IsPlacedFault placed) fault
 overlap_said placed fault (inl none) = inl none
 overlap_said placed fault (inr some) = inr (subst (IsPlacedFault placed) (sym some.2) some.1)
 
-pub unknown_said : (placed : List Placed) (fault : AsmFault) → overlap_line placed ≡ None → Said (λ n. UnknownName n) (unknown_line (labels_of placed) placed) fault → OrNoMemory (IsPlacedFault placed) fault
+pub unknown_said : (placed : List Placed) (fault : AsmFault) → overlap_line placed ≡ None
+    → Said (λ n. UnknownName n) (unknown_line (labels_of placed) placed) fault
+    → OrNoMemory (IsPlacedFault placed) fault
 unknown_said placed fault apart (inl none) = inl none
-unknown_said placed fault apart (inr some) = inr (subst (IsPlacedFault placed) (sym some.2) (apart, some.1))
+unknown_said placed fault apart (inr some) =
+    inr (subst (IsPlacedFault placed) (sym some.2) (apart, some.1))
 
-range_said : (placed : List Placed) (fault : AsmFault) → overlap_line placed ≡ None → unknown_line (labels_of placed) placed ≡ None
-    → (fault ≡ NoMemory) ⊎ ((n : ℕ) × (fault ≡ Range n) × IsFirst line_of (IsOutOfRange (labels_of placed) (bad_entry_of placed)) placed n) → OrNoMemory (IsPlacedFault placed) fault
+range_said : (placed : List Placed) (fault : AsmFault) → overlap_line placed ≡ None
+    → unknown_line (labels_of placed) placed ≡ None
+    → (fault ≡ NoMemory) ⊎ ((n : ℕ) × (fault ≡ Range n) × IsFirst line_of
+    (IsOutOfRange (labels_of placed) (bad_entry_of placed)) placed n)
+    → OrNoMemory (IsPlacedFault placed) fault
 range_said placed fault apart known (inl none) = inl none
-range_said placed fault apart known (inr some) = inr (subst (IsPlacedFault placed) (sym some.1) (apart, known, some.2))
+range_said placed fault apart known (inr some) =
+    inr (subst (IsPlacedFault placed) (sym some.1) (apart, known, some.2))
 
 -- one element, and what is found behind it
-here : {X : Type 0} (P : X → Type 0) (b : Bool) (y x : X) (more : Option X) → P y → (more ≡ Some x → P x) → cond b (Some y) more ≡ Some x → P x
+here : {X : Type 0} (P : X → Type 0) (b : Bool) (y x : X) (more : Option X) → P y
+    → (more ≡ Some x → P x) → cond b (Some y) more ≡ Some x → P x
 here P true y x more this later found = subst P (same_Some y x found) this
 here P false y x more this later found = later found
 
 -- what is found in a list is one of it
-found_in : {X : Type 0} (test : X → Bool) (P : X → Type 0) (xs : List X) (x : X) → All P xs → find test xs ≡ Some x → P x
+found_in : {X : Type 0} (test : X → Bool) (P : X → Type 0) (xs : List X) (x : X) → All P xs
+    → find test xs ≡ Some x → P x
 found_in {X} test P [] x all found = absurd (none-some x found)
 found_in {X} test P (y ∷ xs) x all found =
-    here P (test y) y x (find test xs) (All-head P y xs all) (λ later. found_in test P xs x (All-tail P y xs all) later) found
+    here P (test y) y x (find test xs) (All-head P y xs all)
+    (λ later. found_in test P xs x (All-tail P y xs all) later) found
 
 All-reverse : {X : Type 0} (P : X → Type 0) (xs : List X) → All P xs → All P (reverse xs)
 All-reverse P [] all = All-nil P
 All-reverse P (x ∷ xs) all =
-    subst (All P) (sym (reverse-append (x ∷ []) xs)) (All-push P (reverse xs) x (All-reverse P xs (All-tail P x xs all)) (All-head P x xs all))
+    subst (All P) (sym (reverse-append (x ∷ []) xs))
+    (All-push P (reverse xs) x (All-reverse P xs (All-tail P x xs all)) (All-head P x xs all))
 
 -- where no line is that of a bad last entry, there is none
-pub no_bad_entry : (labels : Labels) (placed : List Placed) (line : ℕ) → All (λ (p : Placed). ¬ (bad_entry labels (last_entry placed) ≡ Some (line_of p))) placed
+pub no_bad_entry : (labels : Labels) (placed : List Placed) (line : ℕ)
+    → All (λ (p : Placed). ¬ (bad_entry labels (last_entry placed) ≡ Some (line_of p))) placed
     → bad_entry labels (last_entry placed) ≡ Some line → ⊥
 no_bad_entry labels placed line all bad = at (last_entry placed) refl bad
   where
@@ -62,22 +75,32 @@ no_bad_entry labels placed line all bad = at (last_entry placed) refl bad
         found_in is_entry P (reverse placed) p (All-reverse P placed all) is
         (ap (bad_entry labels) is ∙ whose (is_none (entry_in labels p.part.content)) bad)
       where
-        whose : (b : Bool) → cond b (Some (line_of p)) None ≡ Some line → cond b (Some (line_of p)) None ≡ Some (line_of p)
+        whose : (b : Bool) → cond b (Some (line_of p)) None ≡ Some line
+            → cond b (Some (line_of p)) None ≡ Some (line_of p)
         whose true h = refl
         whose false h = absurd (none-some line h)
 
 -- ---- sources
 
-pub duplicate_said : (text : List ℕ) (parts : List Part) (fault : AsmFault) → source_of text ≡ Ok parts → Said (λ n. Duplicate n) (duplicate_line parts) fault → OrNoMemory (IsFaultOf text) fault
+pub duplicate_said : (text : List ℕ) (parts : List Part) (fault : AsmFault)
+    → source_of text ≡ Ok parts → Said (λ n. Duplicate n) (duplicate_line parts) fault
+    → OrNoMemory (IsFaultOf text) fault
 duplicate_said text parts fault read (inl none) = inl none
-duplicate_said text parts fault read (inr some) = inr (subst (IsFaultOf text) (sym some.2) (parts, read, some.1))
+duplicate_said text parts fault read (inr some) =
+    inr (subst (IsFaultOf text) (sym some.2) (parts, read, some.1))
 
-pub too_long_said : (text : List ℕ) (parts : List Part) (fault : AsmFault) → source_of text ≡ Ok parts → duplicate_line parts ≡ None → Said (λ n. TooLong n) (too_long_line (layout 0 parts)) fault → OrNoMemory (IsFaultOf text) fault
+pub too_long_said : (text : List ℕ) (parts : List Part) (fault : AsmFault)
+    → source_of text ≡ Ok parts → duplicate_line parts ≡ None
+    → Said (λ n. TooLong n) (too_long_line (layout 0 parts)) fault
+    → OrNoMemory (IsFaultOf text) fault
 too_long_said text parts fault read unique (inl none) = inl none
-too_long_said text parts fault read unique (inr some) = inr (subst (IsFaultOf text) (sym some.2) (parts, read, (unique, some.1)))
+too_long_said text parts fault read unique (inr some) =
+    inr (subst (IsFaultOf text) (sym some.2) (parts, read, (unique, some.1)))
 
 -- a fault at places is one of the source, where no kind before it occurs
-pub placed_fault : (text : List ℕ) (parts : List Part) (fault : AsmFault) → source_of text ≡ Ok parts → duplicate_line parts ≡ None → too_long_line (layout 0 parts) ≡ None
+pub placed_fault : (text : List ℕ) (parts : List Part) (fault : AsmFault)
+    → source_of text ≡ Ok parts → duplicate_line parts ≡ None
+    → too_long_line (layout 0 parts) ≡ None
     → IsPlacedFault (layout 0 parts) fault → IsFaultOf text fault
 placed_fault text parts (Syntax n) read unique short is = absurd is
 placed_fault text parts (Duplicate n) read unique short is = absurd is
@@ -87,32 +110,46 @@ placed_fault text parts (UnknownName n) read unique short is = (parts, read, (un
 placed_fault text parts (Range n) read unique short is = (parts, read, (unique, short, is))
 placed_fault text parts NoMemory read unique short is = absurd is
 
-pub placed_said : (text : List ℕ) (parts : List Part) (fault : AsmFault) → source_of text ≡ Ok parts → duplicate_line parts ≡ None → too_long_line (layout 0 parts) ≡ None
+pub placed_said : (text : List ℕ) (parts : List Part) (fault : AsmFault) → source_of text ≡ Ok parts
+    → duplicate_line parts ≡ None → too_long_line (layout 0 parts) ≡ None
     → OrNoMemory (IsPlacedFault (layout 0 parts)) fault → OrNoMemory (IsFaultOf text) fault
 placed_said text parts fault read unique short (inl none) = inl none
-placed_said text parts fault read unique short (inr is) = inr (placed_fault text parts fault read unique short is)
+placed_said text parts fault read unique short (inr is) =
+    inr (placed_fault text parts fault read unique short is)
 
 -- what is true of an error is true of the answer that hands it on
-pub err_is : {A : Type 0} (r : Result A AsmFault) (fault : AsmFault) → IsErrAnd r (λ e. e ≡ fault) → (P : A → Type 0) (Q : AsmFault → Type 0) → Q fault → MatchResult r P Q
+pub err_is : {A : Type 0} (r : Result A AsmFault) (fault : AsmFault) → IsErrAnd r (λ e. e ≡ fault)
+    → (P : A → Type 0) (Q : AsmFault → Type 0) → Q fault → MatchResult r P Q
 err_is (Ok x) fault is P Q q = absurd is
 err_is (Err e) fault is P Q q = subst Q (sym is) q
 
 -- the line that is handed in is that of a bad last entry
-pub bad_is : (r : Result ℕ ℕ) (told bad : Option ℕ) → MatchResult r (λ entry. bad ≡ None) (λ line. bad ≡ Some line) → told ≡ result_err r → told ≡ bad
+pub bad_is : (r : Result ℕ ℕ) (told bad : Option ℕ)
+    → MatchResult r (λ entry. bad ≡ None) (λ line. bad ≡ Some line) → told ≡ result_err r
+    → told ≡ bad
 bad_is (Ok entry) told bad is given = given ∙ sym is
 bad_is (Err line) told bad is given = given ∙ sym is
 
-pub range_here : (placed : List Placed) (fault : AsmFault) (labels : Labels) (bad : Option ℕ) → labels ≡ labels_of placed → bad ≡ bad_entry_of placed
+pub range_here : (placed : List Placed) (fault : AsmFault) (labels : Labels) (bad : Option ℕ)
+    → labels ≡ labels_of placed → bad ≡ bad_entry_of placed
     → overlap_line placed ≡ None → unknown_line labels placed ≡ None
-    → (fault ≡ NoMemory) ⊎ ((n : ℕ) × (fault ≡ Range n) × IsFirst line_of (IsOutOfRange labels bad) placed n) → OrNoMemory (IsPlacedFault placed) fault
+    → (fault ≡ NoMemory) ⊎ ((n : ℕ) × (fault ≡ Range n) × IsFirst line_of (IsOutOfRange labels bad)
+    placed n)
+    → OrNoMemory (IsPlacedFault placed) fault
 range_here placed fault labels bad named last apart known said =
-    let F : Labels → Option ℕ → Type 0 = λ l b. (fault ≡ NoMemory) ⊎ ((n : ℕ) × (fault ≡ Range n) × IsFirst line_of (IsOutOfRange l b) placed n) in
-    range_said placed fault apart (ap (λ (l : Labels). unknown_line l placed) (sym named) ∙ known) (subst (F (labels_of placed)) last (subst (λ (l : Labels). F l bad) named said))
+    let F : Labels → Option ℕ → Type 0 = λ l b. (fault ≡ NoMemory)
+    ⊎ ((n : ℕ) × (fault ≡ Range n) × IsFirst line_of (IsOutOfRange l b) placed n) in
+    range_said placed fault apart (ap (λ (l : Labels). unknown_line l placed) (sym named) ∙ known)
+    (subst (F (labels_of placed)) last (subst (λ (l : Labels). F l bad) named said))
 
 -- where no statement is out of its range, the entry isn't bad
 pub entry_is_ok : (labels : Labels) (placed : List Placed) (r : Result ℕ ℕ) (told : Option ℕ)
-    → MatchResult r (λ entry. bad_entry labels (last_entry placed) ≡ None) (λ line. bad_entry labels (last_entry placed) ≡ Some line)
-    → told ≡ result_err r → All (λ (p : Placed). ¬ (told ≡ Some (line_of p))) placed → is_ok r ≡ true
+    → MatchResult r (λ entry. bad_entry labels (last_entry placed) ≡ None)
+    (λ line. bad_entry labels (last_entry placed) ≡ Some line)
+    → told ≡ result_err r → All (λ (p : Placed). ¬ (told ≡ Some (line_of p))) placed
+    → is_ok r ≡ true
 entry_is_ok labels placed (Ok entry) told is given all = refl
 entry_is_ok labels placed (Err line) told is given all =
-    absurd (no_bad_entry labels placed line (subst (λ (o : Option ℕ). All (λ (p : Placed). ¬ (o ≡ Some (line_of p))) placed) (given ∙ sym is) all) is)
+    absurd (no_bad_entry labels placed line
+    (subst (λ (o : Option ℕ). All (λ (p : Placed). ¬ (o ≡ Some (line_of p))) placed)
+    (given ∙ sym is) all) is)

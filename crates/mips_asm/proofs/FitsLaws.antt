@@ -24,7 +24,13 @@ below : (n bound : ℕ) → Decided (n < bound)
 below n bound = elim (cases_lt n bound) [ inl is ↦ inl is | inr past ↦ inr (λ is. omega arith) ]
 
 moved : (reg : ℕ) → Decided (IsMoved reg)
-moved reg = both (elim (cases_lt 0 reg) [ inl some ↦ inl (omega arith) | inr none ↦ inr (λ some. omega arith) ]) (below reg 32)
+moved reg =
+    both
+    (elim (cases_lt 0 reg) [
+      | inl some ↦ inl (omega arith)
+      | inr none ↦ inr (λ some. omega arith)
+    ])
+    (below reg 32)
 
 pub Fits-decided : (i : Ins) → Decided (Fits i)
 Fits-decided (Sll rd rt sa) = all_three (below rd 32) (below rt 32) (below sa 32)

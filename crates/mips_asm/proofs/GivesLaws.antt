@@ -43,7 +43,10 @@ AreWords-found (i ∷ is) = elim (Fits-decided i) [
 
 -- code, where there are instructions
 some_code : (place : ℕ) (is : List Ins) → Found (AreWords is) → Found (IsCode place (Some is))
-some_code place is (inr none) = inr (λ bytes code. none bytes (subst (λ (made : List Ins). AreWords made bytes) (sym (same_Some is code.0 code.2)) code.3))
+some_code place is (inr none) =
+    inr
+    (λ bytes code. none bytes (subst (λ (made : List Ins). AreWords made bytes)
+    (sym (same_Some is code.0 code.2)) code.3))
 some_code place is (inl words) = elim (cases_eq (place % 4) 0) [
   | inl at ↦ inl (words.0, (is, at, refl, words.1))
   | inr other ↦ inr (λ bytes code. other code.1)
@@ -61,9 +64,12 @@ IsAligned-found n place = elim (cases_lt 12 n) [
 ]
 
 -- a statement writes bytes, or none are what it writes
-pub Gives-found : (labels : Labels) (place : ℕ) (content : Content) → Found (Gives labels place content)
+pub Gives-found : (labels : Labels) (place : ℕ) (content : Content)
+    → Found (Gives labels place content)
 Gives-found labels place (Label name) = inl ([], refl)
-Gives-found labels place (Words vs) = at_word place (λ bytes. join_some (word_value labels) vs ≡ Some bytes) (held (join_some (word_value labels) vs))
+Gives-found labels place (Words vs) =
+    at_word place (λ bytes. join_some (word_value labels) vs ≡ Some bytes)
+    (held (join_some (word_value labels) vs))
 Gives-found labels place (Bytes ns) = held (map_some byte_value ns)
 Gives-found labels place (Ascii text) = inl (text, refl)
 Gives-found labels place (Space n) = inl (replicate n 0, refl)
@@ -72,4 +78,5 @@ Gives-found labels place (Org n) = inl ([], refl)
 Gives-found labels place (Entry v) = inl ([], refl)
 Gives-found labels place (LoadNumber r n) = IsCode-found place (load_number r n)
 Gives-found labels place (LoadAddress r name) = IsCode-found place (load_address labels r name)
-Gives-found labels place (Instruction name arguments) = IsCode-found place (option_map one_instruction (instruction_at labels place name arguments))
+Gives-found labels place (Instruction name arguments) =
+    IsCode-found place (option_map one_instruction (instruction_at labels place name arguments))

@@ -7,7 +7,8 @@ abbrev pub chunk_at : ℕ → List ℕ → PlacedBytes
 chunk_at place bytes = record { place = place; bytes = bytes }
 
 -- one more chunk's end
-pub chunks_end-push : (xs : List PlacedBytes) (x : PlacedBytes) → chunks_end (xs ++ x ∷ []) ≡ max (chunks_end xs) (chunk_end x)
+pub chunks_end-push : (xs : List PlacedBytes) (x : PlacedBytes)
+    → chunks_end (xs ++ x ∷ []) ≡ max (chunks_end xs) (chunk_end x)
 unfolding chunks_end
 chunks_end-push [] x = grind arith
 chunks_end-push (y ∷ xs) x = rw (chunks_end-push xs x) (grind arith)
@@ -17,10 +18,13 @@ unfolding chunks_end
 chunks_end_none = refl
 
 -- what stands at a place, with one more chunk
-pub byte_over-push : (byte : ℕ) (xs : List PlacedBytes) (x : PlacedBytes) (k : ℕ) → byte_over byte (xs ++ x ∷ []) k ≡ cond (holds x k) (get_or x.bytes (k - x.place) 0) (byte_over byte xs k)
+pub byte_over-push : (byte : ℕ) (xs : List PlacedBytes) (x : PlacedBytes) (k : ℕ)
+    → byte_over byte (xs ++ x ∷ []) k ≡ cond (holds x k) (get_or x.bytes (k - x.place) 0)
+    (byte_over byte xs k)
 unfolding byte_over
 byte_over-push byte [] x k = refl
-byte_over-push byte (y ∷ xs) x k = byte_over-push (cond (holds y k) (get_or y.bytes (k - y.place) 0) byte) xs x k
+byte_over-push byte (y ∷ xs) x k =
+    byte_over-push (cond (holds y k) (get_or y.bytes (k - y.place) 0) byte) xs x k
 
 pub byte_over_nil : (byte k : ℕ) → byte_over byte [] k ≡ byte
 unfolding byte_over

@@ -52,7 +52,8 @@ join_some f (x ∷ xs) = do
 
 -- the four bytes of one value of `.word`: from -2^31 to 2^32 - 1
 abbrev pub word_bytes : Integer → Option (List ℕ)
-word_bytes n = where_holds (in_range 2147483648 4294967295 n) (to_be_bytes w32 (twos_complement 32 n))
+word_bytes n =
+    where_holds (in_range 2147483648 4294967295 n) (to_be_bytes w32 (twos_complement 32 n))
 
 unfoldable pub word_value : Labels → Value → Option (List ℕ)
 word_value labels v = number_of labels v >>= word_bytes
@@ -79,10 +80,12 @@ address_of n = where_holds (in_range 0 4294967295 n && (n.magnitude % 4 == 0)) n
 abbrev pub distance : (pc address : ℕ) → ℕ
 distance pc address = (address + 2 ^ 32 - (pc + 4)) % 2 ^ 32
 
--- A branch reaches 2^17 bytes back and up to 2^17 - 4 forward from there. Its field counts words, with a sign.
+-- A branch reaches 2^17 bytes back and up to 2^17 - 4 forward from there. Its field counts words,
+-- with a sign.
 abbrev pub branch_field : (pc address : ℕ) → Option ℕ
 branch_field pc address =
-    where_holds (nat_lt (distance pc address) (2 ^ 17) || nat_le (2 ^ 32 - 2 ^ 17) (distance pc address)) (distance pc address / 4 % 2 ^ 16)
+    where_holds (nat_lt (distance pc address) (2 ^ 17) || nat_le (2 ^ 32 - 2 ^ 17)
+    (distance pc address)) (distance pc address / 4 % 2 ^ 16)
 
 -- A jump reaches what shares the top 4 bits of the address after its own. Its field counts words.
 abbrev pub jump_field : (pc address : ℕ) → Option ℕ
@@ -110,7 +113,8 @@ operand_of labels pc kind (argument.Offset v r) = number_of labels v >>= offset_
 operand_of labels pc kind (argument.Text bytes) = None
 
 -- the operands of these kinds that are written so
-unfoldable pub operands_of : Labels → (pc : ℕ) → List OperandKind → List Argument → Option (List Operand)
+unfoldable pub operands_of : Labels → (pc : ℕ) → List OperandKind → List Argument
+    → Option (List Operand)
 operands_of labels pc (kind ∷ shape) (argument ∷ arguments) = do
   first ← operand_of labels pc kind argument
   rest ← operands_of labels pc shape arguments
@@ -129,12 +133,14 @@ instruction_at labels pc name arguments = do
 abbrev pub halves : (r n : ℕ) → List Ins
 halves r n = Lui r (n / 2 ^ 16) ∷ Ori r r (n % 2 ^ 16) ∷ []
 
--- `li`: addiu from $0 for a number from -32768 to 32767, ori from $0 up to 65535, else the two halves
+-- `li`: addiu from $0 for a number from -32768 to 32767, ori from $0 up to 65535, else the two
+-- halves
 unfoldable pub load_number : (r : ℕ) → Integer → Option (List Ins)
 load_number r n =
     if in_range 32768 32767 n then Some (Addiu r 0 (twos_complement 16 n) ∷ [])
     else (if in_range 0 65535 n then Some (Ori r 0 n.magnitude ∷ [])
-    else (if in_range 2147483648 4294967295 n then Some (halves r (twos_complement 32 n)) else None))
+    else (if in_range 2147483648 4294967295 n then Some (halves r (twos_complement 32 n))
+    else None))
 
 -- `la`: the two halves of a place below 2^32
 unfoldable pub load_address : Labels → (r : ℕ) → (name : List ℕ) → Option (List Ins)
@@ -147,7 +153,8 @@ abbrev pub Appends : {A : Type 0} → Option (List A) → List A → Bool → Li
 Appends found old true new = option_map (λ more. old ++ more) found ≡ Some new
 Appends found old false new = found ≡ None
 
--- What was answered of bytes that have a property: true and such bytes, or false where no bytes have it.
+-- What was answered of bytes that have a property: true and such bytes, or false where no bytes
+-- have it.
 abbrev pub Tells : (List ℕ → Type 0) → Bool → List ℕ → Type 0
 Tells P true bytes = P bytes
 Tells P false bytes = (all : List ℕ) → ¬ P all
@@ -160,11 +167,13 @@ Comes found false bytes = found ≡ None
 -- each instruction has its operands in their ranges, and the bytes are their words
 abbrev pub AreWords : List Ins → List ℕ → Type 0
 AreWords [] bytes = bytes ≡ []
-AreWords (i ∷ is) bytes = (more : List ℕ) × Fits i × (bytes ≡ to_be_bytes w32 (word_of i) ++ more) × AreWords is more
+AreWords (i ∷ is) bytes =
+    (more : List ℕ) × Fits i × (bytes ≡ to_be_bytes w32 (word_of i) ++ more) × AreWords is more
 
 -- instructions stand at multiples of 4
 abbrev pub IsCode : ℕ → Option (List Ins) → List ℕ → Type 0
-IsCode place instructions bytes = (is : List Ins) × (place % 4 ≡ 0) × (instructions ≡ Some is) × AreWords is bytes
+IsCode place instructions bytes =
+    (is : List Ins) × (place % 4 ≡ 0) × (instructions ≡ Some is) × AreWords is bytes
 
 abbrev pub one_instruction : Ins → List Ins
 one_instruction i = i ∷ []
@@ -192,4 +201,5 @@ Gives labels place (Org n) bytes = bytes ≡ []
 Gives labels place (Entry v) bytes = bytes ≡ []
 Gives labels place (LoadNumber r n) bytes = IsCode place (load_number r n) bytes
 Gives labels place (LoadAddress r name) bytes = IsCode place (load_address labels r name) bytes
-Gives labels place (Instruction name arguments) bytes = IsCode place (option_map one_instruction (instruction_at labels place name arguments)) bytes
+Gives labels place (Instruction name arguments) bytes =
+    IsCode place (option_map one_instruction (instruction_at labels place name arguments)) bytes

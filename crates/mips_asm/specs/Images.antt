@@ -13,7 +13,8 @@ holds chunk k = nat_le chunk.place k && nat_lt k (chunk.place + length chunk.byt
 -- what stands at each place once these bytes are written at a place
 abbrev pub IsOver : (place : ℕ) → (own old new : List ℕ) → Type 0
 IsOver place own old new =
-    (k : ℕ) → slice_index new k ≡ (if nat_le place k && nat_lt k (place + length own) then slice_index own (k - place) else slice_index old k)
+    (k : ℕ) → slice_index new k ≡ (if nat_le place k && nat_lt k (place + length own)
+    then slice_index own (k - place) else slice_index old k)
 
 -- the place behind its last byte, or 0 where it has none
 abbrev pub chunk_end : PlacedBytes → ℕ
@@ -27,7 +28,8 @@ chunks_end (chunk ∷ more) = max (chunk_end chunk) (chunks_end more)
 -- what stands at a place where this byte stood, once the chunks are written
 unfoldable pub byte_over : ℕ → List PlacedBytes → ℕ → ℕ
 byte_over byte [] k = byte
-byte_over byte (chunk ∷ more) k = byte_over (if holds chunk k then slice_index chunk.bytes (k - chunk.place) else byte) more k
+byte_over byte (chunk ∷ more) k =
+    byte_over (if holds chunk k then slice_index chunk.bytes (k - chunk.place) else byte) more k
 
 -- these are the bytes, once the chunks are written in their order over zeros
 pub record IsWritten (chunks : List PlacedBytes) (bytes : List ℕ) : Type 0 where

@@ -22,11 +22,15 @@ OneFault = (text : List ℕ) (a b : AsmFault) → IsFaultOf text a → IsFaultOf
 
 -- a source that has an image has no fault
 abbrev pub NotBoth : Type 0
-NotBoth = (text : List ℕ) (image : PlainImage) (fault : AsmFault) → IsImageOf text image → ¬ IsFaultOf text fault
+NotBoth =
+    (text : List ℕ) (image : PlainImage) (fault : AsmFault) → IsImageOf text image
+    → ¬ IsFaultOf text fault
 
 -- each text has an image or a fault
 abbrev pub ImageOrFault : Type 0
-ImageOrFault = (text : List ℕ) → ((image : PlainImage) × IsImageOf text image) ⊎ ((fault : AsmFault) × IsFaultOf text fault)
+ImageOrFault =
+    (text : List ℕ)
+    → ((image : PlainImage) × IsImageOf text image) ⊎ ((fault : AsmFault) × IsFaultOf text fault)
 
 -- ---- the bytes of an image
 
@@ -36,14 +40,18 @@ StandsAtItsPlace labels bytes statement =
     (own : List ℕ) × Gives labels statement.place statement.part.content own
     × ((k : ℕ) → k < length own → slice_index bytes (statement.place + k) ≡ slice_index own k)
 
--- The bytes are those of these statements: what each writes stands at its place, zeros stand where none
+-- The bytes are those of these statements: what each writes stands at its place, zeros stand where
+-- none
 -- writes, and the last byte is the last that is written.
 pub record AreBytesOf (statements : List Placed) (bytes : List ℕ) : Type 0 where
   pub whole : length bytes ≡ last_end statements
   pub written : All (StandsAtItsPlace (labels_of statements) bytes) statements
-  pub gaps : (k : ℕ) → All (λ statement. covers statement k ≡ false) statements → slice_index bytes k ≡ 0
+  pub gaps : (k : ℕ) → All (λ statement. covers statement k ≡ false) statements
+      → slice_index bytes k ≡ 0
 
--- the bytes of a source's image are those of its statements, which follow one another from place 0 on
+-- the bytes of a source's image are those of its statements, which follow one another from place 0
+-- on
 abbrev pub BytesOfStatements : Type 0
 BytesOfStatements =
-    (text : List ℕ) (parts : List Part) (image : PlainImage) → source_of text ≡ Ok parts → IsImageOf text image → AreBytesOf (layout 0 parts) image.bytes
+    (text : List ℕ) (parts : List Part) (image : PlainImage) → source_of text ≡ Ok parts
+    → IsImageOf text image → AreBytesOf (layout 0 parts) image.bytes

@@ -14,7 +14,8 @@ in_range low high n = if n.negative then nat_le n.magnitude low else nat_le n.ma
 abbrev pub takes_one_word : Integer → Bool
 takes_one_word n = in_range 32768 65535 n
 
--- how many bytes lead from a place to the next multiple of 2^n; an n above 12 is out of its range, and writes nothing
+-- how many bytes lead from a place to the next multiple of 2^n; an n above 12 is out of its range,
+-- and writes nothing
 abbrev pub padding : ℕ → ℕ → ℕ
 padding n place = if nat_le n 12 then (2 ^ n - place % 2 ^ n) % 2 ^ n else 0
 
@@ -42,7 +43,8 @@ after place content = place + size_of place content
 unfoldable pub layout : ℕ → List Part → List Placed
 layout place [] = []
 layout place (part ∷ parts) =
-    record { place = place; size = size_of place part.content; part = part } ∷ layout (after place part.content) parts
+    record { place = place; size = size_of place part.content; part = part }
+    ∷ layout (after place part.content) parts
 
 -- the bytes that an image may have
 abbrev pub limit : ℕ

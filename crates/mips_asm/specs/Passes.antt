@@ -16,18 +16,22 @@ use Rattle.mips_asm.specs.declared.placed.Placed.{Placed}
 use Rattle.mips_asm.specs.Layout.{is_too_long}
 
 -- The line of the first element that is bad, as it stands behind those before it.
-unfoldable pub first_fault : {X : Type 0} → (X → ℕ) → (List X → X → Bool) → List X → List X → Option ℕ
+unfoldable pub first_fault : {X : Type 0} → (X → ℕ) → (List X → X → Bool) → List X → List X
+    → Option ℕ
 first_fault line bad before [] = None
-first_fault line bad before (x ∷ xs) = if bad before x then Some (line x) else first_fault line bad (before ++ x ∷ []) xs
+first_fault line bad before (x ∷ xs) =
+    if bad before x then Some (line x) else first_fault line bad (before ++ x ∷ []) xs
 
 abbrev pub line_of : Placed → ℕ
 line_of placed = placed.part.line
 
--- What a pass answers that looks for this kind of fault: the fault, where there is one. Want of memory
+-- What a pass answers that looks for this kind of fault: the fault, where there is one. Want of
+-- memory
 -- comes freely.
 abbrev pub AnswersPass : {A : Type 0} → (ℕ → AsmFault) → Option ℕ → Result A AsmFault → Type 0
 AnswersPass kind found (Ok value) = found ≡ None
-AnswersPass kind found (Err fault) = (fault ≡ NoMemory) ⊎ ((n : ℕ) × (found ≡ Some n) × (fault ≡ kind n))
+AnswersPass kind found (Err fault) =
+    (fault ≡ NoMemory) ⊎ ((n : ℕ) × (found ≡ Some n) × (fault ≡ kind n))
 
 -- ---- Duplicate: a label that was named before
 
@@ -42,7 +46,8 @@ is_label name part = option_map_or (λ label. bytes_eq label name) (label_in par
 
 -- it is a label, and one of the same name stands before it
 abbrev pub repeats : List Part → Part → Bool
-repeats before part = option_map_or (λ name. list_any (is_label name) before) (label_in part.content) false
+repeats before part =
+    option_map_or (λ name. list_any (is_label name) before) (label_in part.content) false
 
 -- the first line with a label that was named before
 abbrev pub duplicate_line : List Part → Option ℕ
@@ -58,7 +63,8 @@ too_long_line placed = option_map line_of (find is_too_long placed)
 -- both write bytes, and neither is over before the other begins
 abbrev pub meets : Placed → Placed → Bool
 meets a b =
-    (nat_lt 0 a.size && nat_lt 0 b.size) && (nat_lt a.place (b.place + b.size) && nat_lt b.place (a.place + a.size))
+    (nat_lt 0 a.size && nat_lt 0 b.size) && (nat_lt a.place (b.place + b.size) && nat_lt b.place
+    (a.place + a.size))
 
 abbrev pub overlaps : List Placed → Placed → Bool
 overlaps before placed = list_any (meets placed) before
@@ -71,7 +77,8 @@ overlap_line placed = first_fault line_of overlaps [] placed
 -- the place of the label of this name, or none; where several have it, of the last
 unfoldable pub place_of : List Placed → List ℕ → Option ℕ
 place_of [] name = None
-place_of (placed ∷ more) name = option_or (place_of more name) (if is_label name placed.part then Some placed.place else None)
+place_of (placed ∷ more) name =
+    option_or (place_of more name) (if is_label name placed.part then Some placed.place else None)
 
 -- What the names stand for.
 abbrev pub Labels : Type 0

@@ -48,19 +48,22 @@ entry_by labels (Some placed) = entry_in labels placed.part.content
 
 -- no bytes are what it writes
 abbrev pub GivesNothing : Labels → Placed → Type 0
-GivesNothing labels placed = (bytes : List ℕ) → ¬ Gives labels placed.place placed.part.content bytes
+GivesNothing labels placed =
+    (bytes : List ℕ) → ¬ Gives labels placed.place placed.part.content bytes
 
 -- the line of the last `.entry`, where what it says is no entry
 abbrev pub bad_entry : Labels → Option Placed → Option ℕ
 bad_entry labels None = None
-bad_entry labels (Some last) = if is_none (entry_in labels last.part.content) then Some (line_of last) else None
+bad_entry labels (Some last) =
+    if is_none (entry_in labels last.part.content) then Some (line_of last) else None
 
 -- no bytes are what it writes, or it stands in the line of a last `.entry` that says no entry
 abbrev pub IsOutOfRange : Labels → Option ℕ → Placed → Type 0
 IsOutOfRange labels bad placed = GivesNothing labels placed ⊎ (bad ≡ Some (line_of placed))
 
 -- the line of the first element that is bad
-pub record IsFirst {X : Type 0} (line : X → ℕ) (Bad : X → Type 0) (xs : List X) (n : ℕ) : Type 0 where
+pub record IsFirst {X : Type 0} (line : X → ℕ) (Bad : X → Type 0) (xs : List X) (n : ℕ) : Type
+    0 where
   pub before : List X
   pub first : X
   pub after : List X
@@ -75,21 +78,27 @@ pub record IsFirst {X : Type 0} (line : X → ℕ) (Bad : X → Type 0) (xs : Li
 abbrev pub Writes : Labels → List Placed → List PlacedBytes → Type 0
 Writes labels [] chunks = chunks ≡ []
 Writes labels (placed ∷ more) chunks =
-    (bytes : List ℕ) × (rest : List PlacedBytes) × Gives labels placed.place placed.part.content bytes
+    (bytes : List ℕ) × (rest : List PlacedBytes) × Gives labels placed.place placed.part.content
+    bytes
     × (chunks ≡ record { place = placed.place; bytes = bytes } ∷ rest) × Writes labels more rest
 
 -- what the statements write stands at their places, one written over another, and zeros elsewhere
 abbrev pub StandsOver : Labels → List Placed → List ℕ → Type 0
 StandsOver labels placed bytes =
-    (chunks : List PlacedBytes) × Writes labels placed chunks × ((k : ℕ) → slice_index bytes k ≡ byte_over 0 chunks k)
+    (chunks : List PlacedBytes) × Writes labels placed chunks
+    × ((k : ℕ) → slice_index bytes k ≡ byte_over 0 chunks k)
 
 -- these are the bytes that the statements write, up to the last one
 abbrev pub HasBytes : Labels → List Placed → List ℕ → Type 0
-HasBytes labels placed bytes = (chunks : List PlacedBytes) × Writes labels placed chunks × IsWritten chunks bytes
+HasBytes labels placed bytes =
+    (chunks : List PlacedBytes) × Writes labels placed chunks × IsWritten chunks bytes
 
--- what was answered of a statement: true where its bytes were written at its place, or false where it writes none
+-- what was answered of a statement: true where its bytes were written at its place, or false where
+-- it writes none
 abbrev pub WritesOne : Labels → Placed → List ℕ → Bool → List ℕ → Type 0
-WritesOne labels placed old true new = (own : List ℕ) × Gives labels placed.place placed.part.content own × IsOver placed.place own old new
+WritesOne labels placed old true new =
+    (own : List ℕ) × Gives labels placed.place placed.part.content own
+    × IsOver placed.place own old new
 WritesOne labels placed old false new = GivesNothing labels placed
 
 -- ---- labels and statements at their places
@@ -102,7 +111,8 @@ labels_of placed = place_of placed
 abbrev pub bad_entry_of : List Placed → Option ℕ
 bad_entry_of placed = bad_entry (labels_of placed) (last_entry placed)
 
--- The image: nothing is written twice, each name is that of a label, and each value is in its range. The
+-- The image: nothing is written twice, each name is that of a label, and each value is in its
+-- range. The
 -- bytes are those that the statements write, each at its place, and the entry is that of the last
 -- `.entry`.
 pub record IsPlacedImage (placed : List Placed) (image : PlainImage) : Type 0 where
@@ -113,14 +123,16 @@ pub record IsPlacedImage (placed : List Placed) (image : PlainImage) : Type 0 wh
   pub writes : Writes (labels_of placed) placed chunks
   pub bytes : IsWritten chunks image.bytes
 
--- What may be answered where there is no image: a fault that there is, or want of memory, which comes freely.
+-- What may be answered where there is no image: a fault that there is, or want of memory, which
+-- comes freely.
 abbrev pub OrNoMemory : (AsmFault → Type 0) → AsmFault → Type 0
 OrNoMemory Has fault = (fault ≡ NoMemory) ⊎ Has fault
 
 -- the fault of the first kind that occurs, of those that are looked for at places
 abbrev pub IsPlacedFault : List Placed → AsmFault → Type 0
 IsPlacedFault placed (Overlap n) = overlap_line placed ≡ Some n
-IsPlacedFault placed (UnknownName n) = (overlap_line placed ≡ None) × (unknown_line (labels_of placed) placed ≡ Some n)
+IsPlacedFault placed (UnknownName n) =
+    (overlap_line placed ≡ None) × (unknown_line (labels_of placed) placed ≡ Some n)
 IsPlacedFault placed (Range n) =
     (overlap_line placed ≡ None) × (unknown_line (labels_of placed) placed ≡ None)
     × IsFirst line_of (IsOutOfRange (labels_of placed) (bad_entry_of placed)) placed n
@@ -129,7 +141,8 @@ IsPlacedFault placed _ = ⊥
 
 -- ---- sources
 
--- The image of a source: its lines are all in the grammar, no label is named twice, nothing is written
+-- The image of a source: its lines are all in the grammar, no label is named twice, nothing is
+-- written
 -- past the limit, and its labels and statements, each at its place, have this image.
 pub record IsImageOf (text : List ℕ) (image : PlainImage) : Type 0 where
   pub parts : List Part
@@ -142,10 +155,14 @@ pub record IsImageOf (text : List ℕ) (image : PlainImage) : Type 0 where
 abbrev pub IsPartsFault : List Part → AsmFault → Type 0
 IsPartsFault parts (Syntax n) = ⊥
 IsPartsFault parts (Duplicate n) = duplicate_line parts ≡ Some n
-IsPartsFault parts (TooLong n) = (duplicate_line parts ≡ None) × (too_long_line (layout 0 parts) ≡ Some n)
-IsPartsFault parts fault = (duplicate_line parts ≡ None) × (too_long_line (layout 0 parts) ≡ None) × IsPlacedFault (layout 0 parts) fault
+IsPartsFault parts (TooLong n) =
+    (duplicate_line parts ≡ None) × (too_long_line (layout 0 parts) ≡ Some n)
+IsPartsFault parts fault =
+    (duplicate_line parts ≡ None) × (too_long_line (layout 0 parts) ≡ None)
+    × IsPlacedFault (layout 0 parts) fault
 
--- The source has this fault: its first line off the grammar, or, where all lines are in it, the first
+-- The source has this fault: its first line off the grammar, or, where all lines are in it, the
+-- first
 -- line with a fault of the first kind that occurs. Want of memory is no fault of a source.
 abbrev pub IsFaultOf : List ℕ → AsmFault → Type 0
 IsFaultOf text (Syntax n) = source_of text ≡ Err n

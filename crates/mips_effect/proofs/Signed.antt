@@ -25,7 +25,15 @@ fits-wider z fits = record { sfits = omega (arith, fits.sfits) }
 
 -- the product of two numbers of 32 signed bits, in 64 bits
 pub product-is : (x y : ℤ) → FitsSigned w32 x → FitsSigned w32 y
-    → cast_unsigned w64 (cast_signed w64 (cast_unsigned w64 (cast_signed w64 (cast_unsigned w64 x) *ℤ cast_signed w64 (cast_unsigned w64 y)))) ≡ reduced_64 (x *ℤ y)
+    → cast_unsigned w64 (cast_signed w64
+    (cast_unsigned w64 (cast_signed w64 (cast_unsigned w64 x) *ℤ cast_signed w64
+    (cast_unsigned w64 y)))) ≡ reduced_64 (x *ℤ y)
 product-is x y x_fits y_fits =
-    let whole : FitsSigned w64 (x *ℤ y) = fits_signed_mul w64 x y (2 ^ 31) (2 ^ 31) (unsigned_abs-small x x_fits) (unsigned_abs-small y y_fits) (lit< tt) in
-    rw (to_z-of_z w64 x (fits-wider x x_fits), to_z-of_z w64 y (fits-wider y y_fits), to_z-of_z w64 (x *ℤ y) whole) (reduced_64-is (x *ℤ y) whole)
+    let whole : FitsSigned w64 (x *ℤ y) = fits_signed_mul w64 x y (2 ^ 31) (2 ^ 31)
+    (unsigned_abs-small x x_fits) (unsigned_abs-small y y_fits) (lit< tt) in
+    rw (
+      to_z-of_z w64 x (fits-wider x x_fits),
+      to_z-of_z w64 y (fits-wider y y_fits),
+      to_z-of_z w64
+          (x *ℤ y) whole,
+    ) (reduced_64-is (x *ℤ y) whole)

@@ -1,4 +1,5 @@
--- What instructions compute. Signed values are whole numbers, and a sum or product is taken whole and then reduced.
+-- What instructions compute. Signed values are whole numbers, and a sum or product is taken whole
+-- and then reduced.
 -- Source: Kane and Heinrich, MIPS RISC Architecture, appendix A (MIPS I).
 use Rattle.std.specs.Prelude.{ℕ, ◌+◌, ◌-◌, ◌*◌, ◌/◌, ◌%◌, ◌^◌, ◌==◌, ◌&&◌, Bool, ℤ, pos, ◌+ℤ◌, ◌-ℤ◌, ◌*ℤ◌, int_lt, int_le, int_div, int_rem, Option, Some, None, if◌then◌else◌}
 use Rattle.std.specs.Int.{int_div_euclid}
@@ -14,7 +15,8 @@ minus s t = reduced (pos s -ℤ pos t)
 
 -- a whole number, where 32 signed bits hold it
 abbrev pub in_32 : ℤ → Option ℕ
-in_32 z = if int_le (pos 0 -ℤ pos (2 ^ 31)) z && int_lt z (pos (2 ^ 31)) then Some (reduced z) else None
+in_32 z =
+    if int_le (pos 0 -ℤ pos (2 ^ 31)) z && int_lt z (pos (2 ^ 31)) then Some (reduced z) else None
 
 -- the signed sum, and the signed difference
 abbrev pub sum : ℕ → ℕ → Option ℕ
@@ -23,7 +25,8 @@ sum s t = in_32 (signed s +ℤ signed t)
 abbrev pub difference : ℕ → ℕ → Option ℕ
 difference s t = in_32 (signed s -ℤ signed t)
 
--- a shift to the right that copies the sign: the signed number divided by a power of two, rounded down
+-- a shift to the right that copies the sign: the signed number divided by a power of two, rounded
+-- down
 abbrev pub shifted_signed : ℕ → ℕ → ℕ
 shifted_signed t by = reduced (int_div_euclid (signed t) (pos (2 ^ by)))
 
@@ -45,10 +48,13 @@ halves n = writes.Pair (n / 2 ^ 32) (n % 2 ^ 32)
 abbrev pub product : ℕ → ℕ → ℕ
 product s t = reduced_64 (signed s *ℤ signed t)
 
--- the remainder for HI and the quotient for LO, of signed numbers: the quotient goes towards zero, and the remainder has the dividend's sign.
+-- the remainder for HI and the quotient for LO, of signed numbers: the quotient goes towards zero,
+-- and the remainder has the dividend's sign.
 -- Where the divisor is 0 the manual says nothing: LO is 0 and HI the dividend.
 abbrev pub divided : ℕ → ℕ → Writes
-divided s t = if t == 0 then writes.Pair s 0 else writes.Pair (reduced (int_rem (signed s) (signed t))) (reduced (int_div (signed s) (signed t)))
+divided s t =
+    if t == 0 then writes.Pair s 0 else writes.Pair (reduced (int_rem (signed s) (signed t)))
+    (reduced (int_div (signed s) (signed t)))
 
 -- the same of unsigned numbers
 abbrev pub divided_unsigned : ℕ → ℕ → Writes
@@ -67,6 +73,8 @@ half_of word place = word / 2 ^ (16 - 8 * place) % 2 ^ 16
 abbrev pub left_merged : ℕ → ℕ → ℕ → ℕ
 left_merged old place word = word % 2 ^ (8 * (4 - place)) * 2 ^ (8 * place) + old % 2 ^ (8 * place)
 
--- the bytes from the word's start through a place at the low end of a register, whose other bytes stay
+-- the bytes from the word's start through a place at the low end of a register, whose other bytes
+-- stay
 abbrev pub right_merged : ℕ → ℕ → ℕ → ℕ
-right_merged old place word = old / 2 ^ (8 * (place + 1)) * 2 ^ (8 * (place + 1)) + word / 2 ^ (8 * (3 - place))
+right_merged old place word =
+    old / 2 ^ (8 * (place + 1)) * 2 ^ (8 * (place + 1)) + word / 2 ^ (8 * (3 - place))

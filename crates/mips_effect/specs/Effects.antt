@@ -1,5 +1,6 @@
 -- What an instruction does, as an equation for each form.
--- Source: Kane and Heinrich, MIPS RISC Architecture, appendix A (MIPS I); ownership, the forms of COP2, and what the manual calls undefined are this project's own.
+-- Source: Kane and Heinrich, MIPS RISC Architecture, appendix A (MIPS I); ownership, the forms of
+-- COP2, and what the manual calls undefined are this project's own.
 use Rattle.std.specs.Prelude.{◌≡◌, ℕ, ◌+◌, ◌-◌, ◌*◌, ◌/◌, ◌%◌, ◌^◌, ◌<◌, ◌≤◌, ◌==◌, nat_lt, ◌&&◌, ◌||◌, not, Bool, true, false, bit_and, bit_or, bit_xor, Option, Some, None, Result, Ok, Err, if◌then◌else◌}
 use Rattle.std.specs.Int.{w32, bit_not}
 use Rattle.mips_instruction.specs.declared.instruction.Ins.{Ins}
@@ -29,7 +30,8 @@ private_bytes = 2 ^ 20
 
 -- ---- Cells
 
--- the cells that are read: rs, rt and rd in their places, and 0 in a place that isn't read. HI is cell 32 and LO is cell 33
+-- the cells that are read: rs, rt and rd in their places, and 0 in a place that isn't read. HI is
+-- cell 32 and LO is cell 33
 unfoldable pub sources_of : Ins → ℕ × ℕ × ℕ
 sources_of (Sll rd rt sa) = (0, rt, 0)
 sources_of (Srl rd rt sa) = (0, rt, 0)
@@ -160,7 +162,8 @@ abbrev pub is_reserved : Mode → Ins → Bool
 is_reserved Guest i = is_kernel_form i
 is_reserved Null i = is_guest_form i
 
--- Ownership: a guest reads no cell that it doesn't own, and xmvfn takes from none that it owns. Null code reads any.
+-- Ownership: a guest reads no cell that it doesn't own, and xmvfn takes from none that it owns.
+-- Null code reads any.
 abbrev pub is_barred : Mode → Ins → Seen → Seen → Seen → Bool
 is_barred Null i first second third = false
 is_barred Guest (Xmvfn rd rs) first second third = not (is_foreign first)
@@ -174,7 +177,8 @@ set reg value = if reg == 0 then writes.Nothing else writes.One reg value
 
 -- the cells are written and the wish is made, and the pair goes on
 abbrev pub goes_on : Writes → Wish → ℕ → Result Effect OwnFault
-goes_on written wished following = Ok (record { writes = written; wish = wished; pc = following; npc = after following })
+goes_on written wished following =
+    Ok (record { writes = written; wish = wished; pc = following; npc = after following })
 
 -- only cells are written
 abbrev pub writes_only : Writes → ℕ → Result Effect OwnFault
@@ -195,7 +199,8 @@ wishes wished following = goes_on writes.Nothing wished following
 
 -- the cells are written, and behind the instruction that follows comes this address
 abbrev pub jumps : Writes → ℕ → ℕ → Result Effect OwnFault
-jumps written to following = Ok (record { writes = written; wish = wish.Nothing; pc = following; npc = to })
+jumps written to following =
+    Ok (record { writes = written; wish = wish.Nothing; pc = following; npc = to })
 
 -- where a branch goes behind the instruction that follows: to the target where it is taken
 abbrev pub way : Bool → ℕ → ℕ → ℕ
@@ -206,7 +211,8 @@ branches taken imm following = jumps writes.Nothing (way taken imm following) fo
 
 -- a branch with its link in $31, taken or not
 abbrev pub branches_linked : Bool → ℕ → ℕ → Result Effect OwnFault
-branches_linked taken imm following = jumps (set 31 (after following)) (way taken imm following) following
+branches_linked taken imm following =
+    jumps (set 31 (after following)) (way taken imm following) following
 
 -- an access at this address is aligned to so many bytes and, of a guest, private
 abbrev pub is_open : Mode → ℕ → ℕ → Bool
@@ -237,23 +243,28 @@ stores mode count address value following =
 
 -- a store within the word of this address, aligned or not
 abbrev pub stores_part : Mode → ℕ → Wish → ℕ → Result Effect OwnFault
-stores_part mode address store following = if is_open mode 1 address then wishes store following else Err fault.Address
+stores_part mode address store following =
+    if is_open mode 1 address then wishes store following else Err fault.Address
 
 -- swl: a register's high bytes, from the address to the word's end
 abbrev pub stores_left : Mode → ℕ → ℕ → ℕ → Result Effect OwnFault
 stores_left mode address value following =
-    stores_part mode address (wish.Store address (4 - address % 4) (value / 2 ^ (8 * (address % 4)))) following
+    stores_part mode address (wish.Store address (4 - address % 4)
+    (value / 2 ^ (8 * (address % 4)))) following
 
 -- swr: a register's low bytes, from the word's start through the address
 abbrev pub stores_right : Mode → ℕ → ℕ → ℕ → Result Effect OwnFault
 stores_right mode address value following =
-    stores_part mode address (wish.Store (address - address % 4) (address % 4 + 1) (value % 2 ^ (8 * (address % 4 + 1)))) following
+    stores_part mode address (wish.Store (address - address % 4) (address % 4 + 1)
+    (value % 2 ^ (8 * (address % 4 + 1)))) following
 
 -- an access to a word of RAM, at a multiple of 4
 abbrev pub at_word : ℕ → Wish → ℕ → Result Effect OwnFault
-at_word address wished following = if address % 4 == 0 then wishes wished following else Err fault.Address
+at_word address wished following =
+    if address % 4 == 0 then wishes wished following else Err fault.Address
 
--- ---- The instructions, of the values of rs, rt and rd and the address of the following instruction
+-- ---- The instructions, of the values of rs, rt and rd and the address of the following
+-- instruction
 
 unfoldable pub act : Ins → Mode → ℕ → ℕ → ℕ → ℕ → Result Effect OwnFault
 act (Sll rd rt sa) mode s t d following = sets rd (t * 2 ^ sa % 2 ^ 32) following
@@ -289,7 +300,8 @@ act (Bgez rs imm) mode s t d following = branches (not (is_less s 0)) imm follow
 act (Bltzal rs imm) mode s t d following = branches_linked (is_less s 0) imm following
 act (Bgezal rs imm) mode s t d following = branches_linked (not (is_less s 0)) imm following
 act (J index) mode s t d following = jumps writes.Nothing (jump_target following index) following
-act (Jal index) mode s t d following = jumps (set 31 (after following)) (jump_target following index) following
+act (Jal index) mode s t d following =
+    jumps (set 31 (after following)) (jump_target following index) following
 act (Beq rs rt imm) mode s t d following = branches (s == t) imm following
 act (Bne rs rt imm) mode s t d following = branches (not (s == t)) imm following
 act (Blez rs imm) mode s t d following = branches (not (is_less 0 s)) imm following
@@ -314,8 +326,10 @@ act (Sh rt imm rs) mode s t d following = stores mode 2 (plus_signed s imm) (t %
 act (Swl rt imm rs) mode s t d following = stores_left mode (plus_signed s imm) t following
 act (Sw rt imm rs) mode s t d following = stores mode 4 (plus_signed s imm) t following
 act (Swr rt imm rs) mode s t d following = stores_right mode (plus_signed s imm) t following
-act (Xlwn rt imm rs) mode s t d following = at_word (plus_signed s imm) (wish.NullLoad rt (plus_signed s imm)) following
-act (Xswn rt imm rs) mode s t d following = at_word (plus_signed s imm) (wish.NullStore (plus_signed s imm) t) following
+act (Xlwn rt imm rs) mode s t d following =
+    at_word (plus_signed s imm) (wish.NullLoad rt (plus_signed s imm)) following
+act (Xswn rt imm rs) mode s t d following =
+    at_word (plus_signed s imm) (wish.NullStore (plus_signed s imm) t) following
 act (Xmvtn rs) mode s t d following = wishes (wish.Release rs s) following
 act (Xmvfn rd rs) mode s t d following = wishes (wish.Receive rd rs) following
 act Xexit mode s t d following = wishes wish.Exit following
@@ -346,7 +360,8 @@ judged i mode first second third following =
 -- the effect of an instruction on what is seen of its cells and on the pair
 unfoldable pub effect_of : Ins → Mode → Seen → Seen → Seen → ℕ → ℕ → Result Effect OwnFault
 effect_of i mode first second third pc npc =
-    judged i mode (seen_at (sources_of i).0 first) (seen_at (sources_of i).1 second) (seen_at (sources_of i).2 third) npc
+    judged i mode (seen_at (sources_of i).0 first) (seen_at (sources_of i).1 second)
+    (seen_at (sources_of i).2 third) npc
 
 -- ---- Loads
 
@@ -425,7 +440,8 @@ pub record Ranged (e : Effect) : Type 0 where
 
 -- ---- Ranges of an effect of null code
 
--- what null code wishes: its loads are aligned, its stores have 1 to 4 bytes, and it never wishes what a guest alone can
+-- what null code wishes: its loads are aligned, its stores have 1 to 4 bytes, and it never wishes
+-- what a guest alone can
 abbrev pub IsOpenWish : Wish → Type 0
 IsOpenWish wish.Nothing = Unit {0}
 IsOpenWish (wish.Load reg address how old) = (reg < 32) × (address % size_of how ≡ 0)

@@ -1,4 +1,5 @@
--- The table of forms is exact both ways: an instruction is built of its own form, and what is built has that form.
+-- The table of forms is exact both ways: an instruction is built of its own form, and what is built
+-- has that form.
 use Rattle.std.proofs.Common.{◌≡◌, ◌⊎◌, ◌&&◌, ◌==◌, ℕ, suc, length, Bool, true, false, cond, List, [], ◌∷◌, map, Option, Some, None, refl, sym, ◌∙◌, ap, inl, inr, is_some}
 use Rattle.std.proofs.lemmas.Bool.{cases_Bool}
 use Rattle.std.proofs.lemmas.Slice.Eq.{bytes_eq-Decides}
@@ -18,7 +19,9 @@ use Rattle.mips_forms.specs.FormLaws.{FormsDiffer, KindsOfForms, OperandsFit}
 
 -- each instruction is built of its own form
 pub built_form : (i : Ins) → build_of (form_of i).0 (form_of i).1 ≡ Some i
-unfolding rows_of plain_rows register_rows two_registers_rows three_registers_rows sum_rows slot_rows shift_rows signed_rows unsigned_rows upper_rows access_rows compare_rows test_rows jump_rows coded_rows
+unfolding rows_of plain_rows register_rows two_registers_rows three_registers_rows sum_rows
+    slot_rows shift_rows signed_rows unsigned_rows upper_rows access_rows compare_rows test_rows
+    jump_rows coded_rows
 built_form (Sll rd rt sa) = refl
 built_form (Srl rd rt sa) = refl
 built_form (Sra rd rt sa) = refl
@@ -101,7 +104,8 @@ built_form (Xwho rd) = refl
 
 pub forms_differ : FormsDiffer
 forms_differ i j same =
-    let both : Some i ≡ Some j = sym (built_form i) ∙ ap (λ (form : List ℕ × List Operand). build_of form.0 form.1) same ∙ built_form j in
+    let both : Some i ≡ Some j = sym (built_form i)
+    ∙ ap (λ (form : List ℕ × List Operand). build_of form.0 form.1) same ∙ built_form j in
     cc
 
 -- ---- From the form to the instruction
@@ -111,11 +115,14 @@ abbrev Holds : List Operand → Row → Type 0
 Holds operands row = form_of row.1 ≡ (row.0, operands)
 
 -- the row that is found is this one, or stands behind it
-found_row : (here : Bool) (i j : Ins) (behind : Option Ins) → cond here (Some i) behind ≡ Some j → ((here ≡ true) × (i ≡ j)) ⊎ (behind ≡ Some j)
+found_row : (here : Bool) (i j : Ins) (behind : Option Ins) → cond here (Some i) behind ≡ Some j
+    → ((here ≡ true) × (i ≡ j)) ⊎ (behind ≡ Some j)
 found_row true i j behind is = inl (refl, cc)
 found_row false i j behind is = inr is
 
-in_rows-form : (name : List ℕ) (operands : List Operand) (i : Ins) (rows : List Row) → AllByRecursion (Holds operands) rows → in_rows name rows ≡ Some i → form_of i ≡ (name, operands)
+in_rows-form : (name : List ℕ) (operands : List Operand) (i : Ins) (rows : List Row)
+    → AllByRecursion (Holds operands) rows → in_rows name rows ≡ Some i
+    → form_of i ≡ (name, operands)
 in_rows-form name operands i [] all is = absurd (let none : None ≡ Some i = is in cc)
 in_rows-form name operands i (row ∷ rows) all is =
     elim (found_row (bytes_eq name row.0) row.1 i (in_rows name rows) is) [
@@ -127,16 +134,67 @@ in_rows-form name operands i (row ∷ rows) all is =
 
 -- each row of the tables makes an instruction of its form
 rows_of-hold : (operands : List Operand) → AllByRecursion (Holds operands) (rows_of operands)
-unfolding rows_of plain_rows register_rows two_registers_rows three_registers_rows sum_rows slot_rows shift_rows signed_rows unsigned_rows upper_rows access_rows compare_rows test_rows jump_rows coded_rows
+unfolding rows_of plain_rows register_rows two_registers_rows three_registers_rows sum_rows
+    slot_rows shift_rows signed_rows unsigned_rows upper_rows access_rows compare_rows test_rows
+    jump_rows coded_rows
 rows_of-hold [] = (refl, (refl, (refl, tt)))
-rows_of-hold (Register a ∷ []) = (refl, (refl, (refl, (refl, (refl, (refl, (refl, (refl, (refl, (refl, (refl, (refl, (refl, (refl, tt))))))))))))))
-rows_of-hold (Register a ∷ Register b ∷ []) = (refl, (refl, (refl, (refl, (refl, (refl, (refl, (refl, tt))))))))
-rows_of-hold (Register a ∷ Register b ∷ Register c ∷ []) = (refl, (refl, (refl, (refl, (refl, (refl, (refl, (refl, (refl, (refl, (refl, (refl, (refl, (refl, (refl, (refl, (refl, tt)))))))))))))))))
+rows_of-hold (Register a ∷ []) = (
+  refl,
+  (
+    refl,
+    (
+      refl,
+      (
+        refl,
+        (refl, (refl, (refl, (refl, (refl, (refl, (refl, (refl, (refl, (refl, tt)))))))))),
+      ),
+    ),
+  ),
+)
+rows_of-hold (Register a ∷ Register b ∷ []) =
+    (refl, (refl, (refl, (refl, (refl, (refl, (refl, (refl, tt))))))))
+rows_of-hold (Register a ∷ Register b ∷ Register c ∷ []) = (
+  refl,
+  (
+    refl,
+    (
+      refl,
+      (
+        refl,
+        (
+          refl,
+          (
+            refl,
+            (
+              refl,
+              (
+                refl,
+                (refl, (refl, (refl, (refl, (refl, (refl, (refl, (refl, (refl, tt))))))))),
+              ),
+            ),
+          ),
+        ),
+      ),
+    ),
+  ),
+)
 rows_of-hold (Register a ∷ Register b ∷ Shift c ∷ []) = (refl, (refl, (refl, tt)))
 rows_of-hold (Register a ∷ Register b ∷ Signed c ∷ []) = (refl, (refl, (refl, (refl, tt))))
 rows_of-hold (Register a ∷ Register b ∷ Unsigned c ∷ []) = (refl, (refl, (refl, tt)))
 rows_of-hold (Register a ∷ Unsigned b ∷ []) = (refl, tt)
-rows_of-hold (Register a ∷ Offset imm base ∷ []) = (refl, (refl, (refl, (refl, (refl, (refl, (refl, (refl, (refl, (refl, (refl, (refl, (refl, (refl, tt))))))))))))))
+rows_of-hold (Register a ∷ Offset imm base ∷ []) = (
+  refl,
+  (
+    refl,
+    (
+      refl,
+      (
+        refl,
+        (refl, (refl, (refl, (refl, (refl, (refl, (refl, (refl, (refl, (refl, tt)))))))))),
+      ),
+    ),
+  ),
+)
 rows_of-hold (Register a ∷ Register b ∷ Branch c ∷ []) = (refl, (refl, tt))
 rows_of-hold (Register a ∷ Branch b ∷ []) = (refl, (refl, (refl, (refl, (refl, (refl, tt))))))
 rows_of-hold (Jump a ∷ []) = (refl, (refl, tt))
@@ -144,17 +202,23 @@ rows_of-hold (Code a ∷ []) = (refl, (refl, tt))
 rows_of-hold _ = tt
 
 -- what is built has that form
-pub build_of-form : (name : List ℕ) (operands : List Operand) (i : Ins) → build_of name operands ≡ Some i → form_of i ≡ (name, operands)
-build_of-form name operands i is = in_rows-form name operands i (rows_of operands) (rows_of-hold operands) is
+pub build_of-form : (name : List ℕ) (operands : List Operand) (i : Ins)
+    → build_of name operands ≡ Some i → form_of i ≡ (name, operands)
+build_of-form name operands i is =
+    in_rows-form name operands i (rows_of operands) (rows_of-hold operands) is
 
 -- what has that form is built
-pub form-build_of : (name : List ℕ) (operands : List Operand) (i : Ins) → form_of i ≡ (name, operands) → build_of name operands ≡ Some i
-form-build_of name operands i is = ap (λ (form : List ℕ × List Operand). build_of form.0 form.1) (sym is) ∙ built_form i
+pub form-build_of : (name : List ℕ) (operands : List Operand) (i : Ins)
+    → form_of i ≡ (name, operands) → build_of name operands ≡ Some i
+form-build_of name operands i is =
+    ap (λ (form : List ℕ × List Operand). build_of form.0 form.1) (sym is) ∙ built_form i
 
 -- ---- Which operands a mnemonic takes
 
 pub kinds_of_forms : KindsOfForms
-unfolding kinds_of rows_of plain_rows register_rows two_registers_rows three_registers_rows sum_rows slot_rows shift_rows signed_rows unsigned_rows upper_rows access_rows compare_rows test_rows jump_rows coded_rows
+unfolding kinds_of rows_of plain_rows register_rows two_registers_rows three_registers_rows sum_rows
+    slot_rows shift_rows signed_rows unsigned_rows upper_rows access_rows compare_rows test_rows
+    jump_rows coded_rows
 kinds_of_forms (Sll rd rt sa) = refl
 kinds_of_forms (Srl rd rt sa) = refl
 kinds_of_forms (Sra rd rt sa) = refl
@@ -236,11 +300,14 @@ kinds_of_forms (Xarg rd) = refl
 kinds_of_forms (Xwho rd) = refl
 
 -- what is found passes the test
-find-passes : (test : List OperandKind → Bool) (all : List (List OperandKind)) (shape : List OperandKind) → find test all ≡ Some shape → test shape ≡ true
+find-passes : (test : List OperandKind → Bool) (all : List (List OperandKind))
+    (shape : List OperandKind)
+    → find test all ≡ Some shape → test shape ≡ true
 find-passes test [] shape is = absurd (let none : None ≡ Some shape = is in cc)
 find-passes test (first ∷ all) shape is =
     elim (cases_Bool (test first)) [
-      | inl passes ↦ let here : Some first ≡ Some shape = (rw passes at is) in let same : first ≡ shape = cc in ap test (sym same) ∙ passes
+      | inl passes ↦ let here : Some first ≡ Some shape = (rw passes at is) in
+          let same : first ≡ shape = cc in ap test (sym same) ∙ passes
       | inr fails ↦ find-passes test all shape (rw fails at is)
     ]
 
@@ -258,7 +325,8 @@ sample_of-kind kinds.Offset = refl
 kind_of-sample : (shape : List OperandKind) → map kind_of (map sample_of shape) ≡ shape
 kind_of-sample [] = refl
 kind_of-sample (kind ∷ shape) =
-    ap (λ (first : OperandKind). first ∷ map kind_of (map sample_of shape)) (sample_of-kind kind) ∙ ap (λ (rest : List OperandKind). kind ∷ rest) (kind_of-sample shape)
+    ap (λ (first : OperandKind). first ∷ map kind_of (map sample_of shape)) (sample_of-kind kind)
+    ∙ ap (λ (rest : List OperandKind). kind ∷ rest) (kind_of-sample shape)
 
 -- a value that is there
 some_of : (o : Option Ins) → is_some o ≡ true → (i : Ins) × (o ≡ Some i)
@@ -266,10 +334,12 @@ some_of (Some i) there = (i, refl)
 some_of None there = absurd (let bad : false ≡ true = there in cc)
 
 -- the kinds of a mnemonic are those of an instruction
-pub kinds_of-Takes : (name : List ℕ) (shape : List OperandKind) → kinds_of name ≡ Some shape → Takes name shape
+pub kinds_of-Takes : (name : List ℕ) (shape : List OperandKind) → kinds_of name ≡ Some shape
+    → Takes name shape
 unfolding kinds_of
 kinds_of-Takes name shape is =
-    let built = some_of (build_of name (map sample_of shape)) (find-passes (takes name) shapes shape is) in
+    let built = some_of (build_of name (map sample_of shape)) (find-passes (takes name) shapes shape
+    is) in
     let form = build_of-form name (map sample_of shape) built.0 built.1 in (
       built.0,
       ap (λ (form : List ℕ × List Operand). form.0) form,
@@ -279,7 +349,8 @@ kinds_of-Takes name shape is =
 -- a name without kinds is no mnemonic
 pub kinds_of-none : (name : List ℕ) → kinds_of name ≡ None → IsNoMnemonic name
 kinds_of-none name none i is =
-    let found : None ≡ Some (map kind_of (form_of i).1) = sym none ∙ ap kinds_of (sym is) ∙ kinds_of_forms i in
+    let found : None ≡ Some (map kind_of (form_of i).1) = sym none ∙ ap kinds_of (sym is)
+    ∙ kinds_of_forms i in
     cc
 
 -- ---- Texts that differ
@@ -294,7 +365,8 @@ other_length [] [] differ = absurd (differ refl)
 other_length [] (y ∷ ys) differ = refl
 other_length (x ∷ xs) [] differ = refl
 other_length (x ∷ xs) (y ∷ ys) differ =
-    ap (λ (rest : Bool). (x == y) && rest) (other_length xs ys (λ same. differ (ap (λ (n : ℕ). suc n) same))) ∙ false_and (x == y)
+    ap (λ (rest : Bool). (x == y) && rest)
+    (other_length xs ys (λ same. differ (ap (λ (n : ℕ). suc n) same))) ∙ false_and (x == y)
 
 -- ---- Ranges
 

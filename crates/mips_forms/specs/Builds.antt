@@ -1,4 +1,5 @@
--- From a mnemonic and operands to the instruction: the rows of the table of forms, by the kinds of their operands.
+-- From a mnemonic and operands to the instruction: the rows of the table of forms, by the kinds of
+-- their operands.
 use Rattle.std.specs.Prelude.{ℕ, List, [], ◌∷◌, map, codes, Bool, Option, Some, None, is_some, find, if◌then◌else◌}
 use Rattle.std.specs.Str.{bytes_eq}
 use Rattle.mips_instruction.specs.declared.instruction.Ins.{Ins}
@@ -26,42 +27,52 @@ plain_rows =
 unfoldable pub register_rows : (a : ℕ) → List Row
 register_rows a =
     (codes "jr", Jr a) ∷ (codes "mfhi", Mfhi a) ∷ (codes "mthi", Mthi a) ∷ (codes "mflo", Mflo a) ∷
-    (codes "mtlo", Mtlo a) ∷ (codes "xmvtn", Xmvtn a) ∷ (codes "xhand", Xhand a) ∷ (codes "xenter", Xenter a) ∷
-    (codes "xkill", Xkill a) ∷ (codes "xout", Xout a) ∷ (codes "xstat", Xstat a) ∷ (codes "xcause", Xcause a) ∷
+    (codes "mtlo", Mtlo a) ∷ (codes "xmvtn", Xmvtn a) ∷ (codes "xhand", Xhand a)
+    ∷ (codes "xenter", Xenter a) ∷
+    (codes "xkill", Xkill a) ∷ (codes "xout", Xout a) ∷ (codes "xstat", Xstat a)
+    ∷ (codes "xcause", Xcause a) ∷
     (codes "xarg", Xarg a) ∷ (codes "xwho", Xwho a) ∷ []
 
 -- two registers
 unfoldable pub two_registers_rows : (a b : ℕ) → List Row
 two_registers_rows a b =
-    (codes "jalr", Jalr a b) ∷ (codes "mult", Mult a b) ∷ (codes "multu", Multu a b) ∷ (codes "div", Div a b) ∷
-    (codes "divu", Divu a b) ∷ (codes "xmvfn", Xmvfn a b) ∷ (codes "xresume", Xresume a b) ∷ (codes "xunmap", Xunmap a b) ∷ []
+    (codes "jalr", Jalr a b) ∷ (codes "mult", Mult a b) ∷ (codes "multu", Multu a b)
+    ∷ (codes "div", Div a b) ∷
+    (codes "divu", Divu a b) ∷ (codes "xmvfn", Xmvfn a b) ∷ (codes "xresume", Xresume a b)
+    ∷ (codes "xunmap", Xunmap a b) ∷ []
 
 -- three registers, a slot first
 unfoldable pub slot_rows : (rs rt rd : ℕ) → List Row
 slot_rows rs rt rd =
-    (codes "xinstall", Xinstall rs rt rd) ∷ (codes "xsave", Xsave rs rt rd) ∷ (codes "xrestore", Xrestore rs rt rd) ∷ (codes "xmap", Xmap rs rt rd) ∷ []
+    (codes "xinstall", Xinstall rs rt rd) ∷ (codes "xsave", Xsave rs rt rd)
+    ∷ (codes "xrestore", Xrestore rs rt rd) ∷ (codes "xmap", Xmap rs rt rd) ∷ []
 
 -- three registers, the result first
 unfoldable pub sum_rows : (rd rs rt : ℕ) → List Row
 sum_rows rd rs rt =
-    (codes "add", Add rd rs rt) ∷ (codes "addu", Addu rd rs rt) ∷ (codes "sub", Sub rd rs rt) ∷ (codes "subu", Subu rd rs rt) ∷
-    (codes "and", And rd rs rt) ∷ (codes "or", Or rd rs rt) ∷ (codes "xor", Xor rd rs rt) ∷ (codes "nor", Nor rd rs rt) ∷
+    (codes "add", Add rd rs rt) ∷ (codes "addu", Addu rd rs rt) ∷ (codes "sub", Sub rd rs rt)
+    ∷ (codes "subu", Subu rd rs rt) ∷
+    (codes "and", And rd rs rt) ∷ (codes "or", Or rd rs rt) ∷ (codes "xor", Xor rd rs rt)
+    ∷ (codes "nor", Nor rd rs rt) ∷
     (codes "slt", Slt rd rs rt) ∷ (codes "sltu", Sltu rd rs rt) ∷ slot_rows rd rs rt
 
 -- three registers
 unfoldable pub three_registers_rows : (a b c : ℕ) → List Row
 three_registers_rows a b c =
-    (codes "sllv", Sllv a b c) ∷ (codes "srlv", Srlv a b c) ∷ (codes "srav", Srav a b c) ∷ sum_rows a b c
+    (codes "sllv", Sllv a b c) ∷ (codes "srlv", Srlv a b c) ∷ (codes "srav", Srav a b c)
+    ∷ sum_rows a b c
 
 -- two registers and a shift amount
 unfoldable pub shift_rows : (a b amount : ℕ) → List Row
 shift_rows a b amount =
-    (codes "sll", Sll a b amount) ∷ (codes "srl", Srl a b amount) ∷ (codes "sra", Sra a b amount) ∷ []
+    (codes "sll", Sll a b amount) ∷ (codes "srl", Srl a b amount) ∷ (codes "sra", Sra a b amount)
+    ∷ []
 
 -- two registers and an immediate with its sign
 unfoldable pub signed_rows : (a b imm : ℕ) → List Row
 signed_rows a b imm =
-    (codes "addi", Addi a b imm) ∷ (codes "addiu", Addiu a b imm) ∷ (codes "slti", Slti a b imm) ∷ (codes "sltiu", Sltiu a b imm) ∷ []
+    (codes "addi", Addi a b imm) ∷ (codes "addiu", Addiu a b imm) ∷ (codes "slti", Slti a b imm)
+    ∷ (codes "sltiu", Sltiu a b imm) ∷ []
 
 -- two registers and an immediate without a sign
 unfoldable pub unsigned_rows : (a b imm : ℕ) → List Row
@@ -76,9 +87,12 @@ upper_rows a imm =
 -- a register, and an offset from a base register
 unfoldable pub access_rows : (a imm base : ℕ) → List Row
 access_rows a imm base =
-    (codes "lb", Lb a imm base) ∷ (codes "lh", Lh a imm base) ∷ (codes "lwl", Lwl a imm base) ∷ (codes "lw", Lw a imm base) ∷
-    (codes "lbu", Lbu a imm base) ∷ (codes "lhu", Lhu a imm base) ∷ (codes "lwr", Lwr a imm base) ∷ (codes "sb", Sb a imm base) ∷
-    (codes "sh", Sh a imm base) ∷ (codes "swl", Swl a imm base) ∷ (codes "sw", Sw a imm base) ∷ (codes "swr", Swr a imm base) ∷
+    (codes "lb", Lb a imm base) ∷ (codes "lh", Lh a imm base) ∷ (codes "lwl", Lwl a imm base)
+    ∷ (codes "lw", Lw a imm base) ∷
+    (codes "lbu", Lbu a imm base) ∷ (codes "lhu", Lhu a imm base) ∷ (codes "lwr", Lwr a imm base)
+    ∷ (codes "sb", Sb a imm base) ∷
+    (codes "sh", Sh a imm base) ∷ (codes "swl", Swl a imm base) ∷ (codes "sw", Sw a imm base)
+    ∷ (codes "swr", Swr a imm base) ∷
     (codes "xlwn", Xlwn a imm base) ∷ (codes "xswn", Xswn a imm base) ∷ []
 
 -- two registers and a branch target
@@ -89,7 +103,8 @@ compare_rows a b imm =
 -- a register and a branch target
 unfoldable pub test_rows : (a imm : ℕ) → List Row
 test_rows a imm =
-    (codes "bltz", Bltz a imm) ∷ (codes "bgez", Bgez a imm) ∷ (codes "bltzal", Bltzal a imm) ∷ (codes "bgezal", Bgezal a imm) ∷
+    (codes "bltz", Bltz a imm) ∷ (codes "bgez", Bgez a imm) ∷ (codes "bltzal", Bltzal a imm)
+    ∷ (codes "bgezal", Bgezal a imm) ∷
     (codes "blez", Blez a imm) ∷ (codes "bgtz", Bgtz a imm) ∷ []
 
 -- a jump target

@@ -1,4 +1,5 @@
--- The 32-bit numbers that instructions compute with, as whole numbers, and the addresses that they name. A sum is taken whole and then reduced.
+-- The 32-bit numbers that instructions compute with, as whole numbers, and the addresses that they
+-- name. A sum is taken whole and then reduced.
 -- Source: Kane and Heinrich, MIPS RISC Architecture, appendix A (MIPS I).
 use Rattle.std.specs.Prelude.{ℕ, ◌+◌, ◌*◌, ◌/◌, ◌%◌, ◌^◌, nat_lt, ℤ, pos, ◌+ℤ◌, ◌-ℤ◌, ◌*ℤ◌, unsigned_abs, if◌then◌else◌}
 use Rattle.std.specs.Int.{int_rem_euclid}

@@ -1,12 +1,15 @@
 -- The word grammar: which number is the word of which instruction.
--- Source: Kane and Heinrich, MIPS RISC Architecture, appendix A (MIPS I); the forms of COP2, xlwn and xswn are this project's own.
+-- Source: Kane and Heinrich, MIPS RISC Architecture, appendix A (MIPS I); the forms of COP2, xlwn
+-- and xswn are this project's own.
 use Rattle.std.specs.Prelude.{◌≡◌, ℕ, ◌+◌, ◌*◌, ◌/◌, ◌%◌, ◌^◌, ◌<◌, ◌≤◌, ◌==◌, ◌&&◌, not, Bool, Option, Some, None, if◌then◌else◌}
 use Rattle.mips_instruction.specs.declared.instruction.Ins.{Ins}
 use Rattle.mips_instruction.specs.declared.instruction.Ins.TheVariants.{Sll, Srl, Sra, Sllv, Srlv, Srav, Jr, Jalr, Syscall, Break, Mfhi, Mthi, Mflo, Mtlo, Mult, Multu, Div, Divu, Add, Addu, Sub, Subu, And, Or, Xor, Nor, Slt, Sltu, Bltz, Bgez, Bltzal, Bgezal, J, Jal, Beq, Bne, Blez, Bgtz, Addi, Addiu, Slti, Sltiu, Andi, Ori, Xori, Lui, Lb, Lh, Lwl, Lw, Lbu, Lhu, Lwr, Sb, Sh, Swl, Sw, Swr, Xlwn, Xswn, Xmvtn, Xmvfn, Xexit, Xhand, Xsigret, Xinstall, Xenter, Xresume, Xsave, Xrestore, Xmap, Xunmap, Xkill, Xout, Xhalt, Xstat, Xcause, Xarg, Xwho}
 
--- a word of three registers: op in bits 31 to 26, rs 25 to 21, rt 20 to 16, rd 15 to 11, sa 10 to 6, function 5 to 0
+-- a word of three registers: op in bits 31 to 26, rs 25 to 21, rt 20 to 16, rd 15 to 11, sa 10 to
+-- 6, function 5 to 0
 abbrev pub r_word : (op rs rt rd sa function : ℕ) → ℕ
-r_word op rs rt rd sa function = op * 2 ^ 26 + rs * 2 ^ 21 + rt * 2 ^ 16 + rd * 2 ^ 11 + sa * 2 ^ 6 + function
+r_word op rs rt rd sa function =
+    op * 2 ^ 26 + rs * 2 ^ 21 + rt * 2 ^ 16 + rd * 2 ^ 11 + sa * 2 ^ 6 + function
 
 -- a word with an immediate in bits 15 to 0
 abbrev pub i_word : (op rs rt imm : ℕ) → ℕ
@@ -279,7 +282,8 @@ branch_of rs rt imm =
 unfoldable pub compartment_of : (rs rt rd sa function : ℕ) → Option Ins
 compartment_of rs rt rd sa function =
     if function == 1 then row (not (rs == 0) && (rt == 0 && (rd == 0 && sa == 0))) (Xmvtn rs)
-    else (if function == 2 then row (not (rd == 0) && (not (rs == 0) && (rt == 0 && sa == 0))) (Xmvfn rd rs)
+    else (if function == 2 then row (not (rd == 0) && (not (rs == 0) && (rt == 0 && sa == 0)))
+    (Xmvfn rd rs)
     else (if function == 3 then row (rs == 0 && (rt == 0 && (rd == 0 && sa == 0))) Xexit
     else (if function == 4 then row (rt == 0 && (rd == 0 && sa == 0)) (Xhand rs)
     else (if function == 5 then row (rs == 0 && (rt == 0 && (rd == 0 && sa == 0))) Xsigret
@@ -333,9 +337,11 @@ immediate_of op rs rt imm =
 -- the grammar as a reading, field by field: the instruction of a word, or none
 unfoldable pub read : ℕ → Option Ins
 read w =
-    if op_of w == 0 then special_of (rs_of w) (rt_of w) (rd_of w) (sa_of w) (function_of w) (code_of w)
+    if op_of w == 0 then special_of (rs_of w) (rt_of w) (rd_of w) (sa_of w) (function_of w)
+    (code_of w)
     else (if op_of w == 1 then branch_of (rs_of w) (rt_of w) (imm_of w)
     else (if op_of w == 2 then Some (J (index_of w))
     else (if op_of w == 3 then Some (Jal (index_of w))
-    else (if op_of w == 18 then compartment_of (rs_of w) (rt_of w) (rd_of w) (sa_of w) (function_of w)
+    else (if op_of w == 18 then compartment_of (rs_of w) (rt_of w) (rd_of w) (sa_of w)
+    (function_of w)
     else immediate_of (op_of w) (rs_of w) (rt_of w) (imm_of w)))))

@@ -35,7 +35,9 @@ most-from : (z : ℤ) → int_lt z (pos (2 ^ 31)) ≡ true → z <ℤ pos (2 ^ 3
 most-from z is = grind (arith, ints)
 
 in_32-held : (z : ℤ) → IsSigned32 z → in_32 z ≡ Some (reduced z)
-in_32-held z held = cond-true (int_le least_32 z && int_lt z (pos (2 ^ 31))) _ _ (and_from _ _ (at_least z held.least) (at_most z held.most))
+in_32-held z held =
+    cond-true (int_le least_32 z && int_lt z (pos (2 ^ 31))) _ _
+    (and_from _ _ (at_least z held.least) (at_most z held.most))
 
 in_32-not_held : (z : ℤ) → ¬ IsSigned32 z → in_32 z ≡ None
 in_32-not_held z not_held =
@@ -47,16 +49,21 @@ in_32-not_held z not_held =
     (λ _. refl)
 
 -- an instruction that is a whole number, or Overflow
-sets_or_overflows-whole : (i : Ins) (s t reg : ℕ) (z : ℤ) → ((mode : Mode) (d following : ℕ) → act i mode s t d following ≡ sets_or_overflows reg (in_32 z) following) → SetsOrOverflows i s t reg z
+sets_or_overflows-whole : (i : Ins) (s t reg : ℕ) (z : ℤ)
+    → ((mode : Mode) (d following : ℕ) → act i mode s t d following ≡ sets_or_overflows reg
+    (in_32 z) following)
+    → SetsOrOverflows i s t reg z
 sets_or_overflows-whole i s t reg z is =
     record {
       holds = λ held. record {
         number = reduced z;
         number_bits = reduced-below z;
-        sets = λ mode d following. is mode d following ∙ ap (λ o. sets_or_overflows reg o following) (in_32-held z held);
+        sets = λ mode d following. is mode d following ∙ ap (λ o. sets_or_overflows reg o following)
+            (in_32-held z held);
         number_is = signed-reduced z (held-fits z held);
       };
-      not_held = λ not_held mode d following. is mode d following ∙ ap (λ o. sets_or_overflows reg o following) (in_32-not_held z not_held);
+      not_held = λ not_held mode d following. is mode d following
+          ∙ ap (λ o. sets_or_overflows reg o following) (in_32-not_held z not_held);
     }
 
 pub sums_whole : SumsAreWhole
@@ -65,11 +72,13 @@ sums_whole rd rs rt imm s t s_below t_below imm_below = (
   sets_or_overflows-whole (Add rd rs rt) s t rd (signed s +ℤ signed t) (λ mode d following. refl),
   sets_or_overflows-whole (Sub rd rs rt) s t rd (signed s -ℤ signed t) (λ mode d following. refl),
   sets_or_overflows-whole (Addi rt rs imm) s t rt (signed s +ℤ signed_16 imm)
-      (λ mode d following. ap (λ z. sets_or_overflows rt (in_32 (signed s +ℤ z)) following) (signed-extended imm imm_below)),
+      (λ mode d following. ap (λ z. sets_or_overflows rt (in_32 (signed s +ℤ z)) following)
+      (signed-extended imm imm_below)),
 )
 
 -- a negative number is added as its 32 bits are
-negative_added : (s n : ℕ) → s < 2 ^ 32 → n < 2 ^ 16 → reduced (pos s +ℤ negsuc n) ≡ (s + reduced (negsuc n)) % 2 ^ 32
+negative_added : (s n : ℕ) → s < 2 ^ 32 → n < 2 ^ 16
+    → reduced (pos s +ℤ negsuc n) ≡ (s + reduced (negsuc n)) % 2 ^ 32
 negative_added s n s_below n_below =
     ⊎_elim
     (λ (less : s < suc n).
@@ -81,18 +90,25 @@ negative_added s n s_below n_below =
     (cases_lt s (suc n))
 
 -- a signed immediate is added as its 32 bits are
-plus_extended : (s imm : ℕ) → s < 2 ^ 32 → imm < 2 ^ 16 → plus_signed s imm ≡ (s + extended imm) % 2 ^ 32
+plus_extended : (s imm : ℕ) → s < 2 ^ 32 → imm < 2 ^ 16
+    → plus_signed s imm ≡ (s + extended imm) % 2 ^ 32
 plus_extended s imm s_below imm_below =
-    cond_both (nat_lt imm (2 ^ 15)) (pos imm) (pos imm -ℤ pos (2 ^ 16)) (λ z. reduced (pos s +ℤ z) ≡ (s + reduced z) % 2 ^ 32)
+    cond_both (nat_lt imm (2 ^ 15)) (pos imm) (pos imm -ℤ pos (2 ^ 16))
+    (λ z. reduced (pos s +ℤ z) ≡ (s + reduced z) % 2 ^ 32)
     (λ low. omega arith)
     (λ high.
     let large : 2 ^ 15 ≤ imm = ltb-false imm (2 ^ 15) high in
     let is : pos imm -ℤ pos (2 ^ 16) ≡ negsuc (2 ^ 16 - suc imm) = omega (arith, ints) in
-    subst (λ z. reduced (pos s +ℤ z) ≡ (s + reduced z) % 2 ^ 32) (sym is) (negative_added s (2 ^ 16 - suc imm) s_below (omega arith)))
+    subst (λ z. reduced (pos s +ℤ z) ≡ (s + reduced z) % 2 ^ 32) (sym is)
+    (negative_added s (2 ^ 16 - suc imm) s_below (omega arith)))
 
 pub addu_adds : AdduAddsModulo
 unfolding act
-addu_adds rd rs rt imm s t s_below imm_below = (λ mode d following. refl, λ mode d following. ap (λ v. sets rt v following) (plus_extended s imm s_below imm_below))
+addu_adds rd rs rt imm s t s_below imm_below = (
+  λ mode d following. refl,
+  λ mode d following. ap (λ v. sets rt v following)
+      (plus_extended s imm s_below imm_below),
+)
 
 -- what is subtracted and added again
 minus-plus : (s t : ℕ) → s < 2 ^ 32 → t < 2 ^ 32 → (minus s t + t) % 2 ^ 32 ≡ s
@@ -111,4 +127,10 @@ minus-plus s t s_below t_below =
 pub subu_subtracts : SubuSubtractsModulo
 unfolding act
 subu_subtracts rd rs rt s t s_below t_below =
-    record { number = minus s t; number_bits = reduced-below (pos s -ℤ pos t); sets = λ mode d following. refl; number_is = minus-plus s t s_below t_below }
+    record {
+      number = minus s t;
+      number_bits = reduced-below (pos s -ℤ pos t);
+      sets =
+          λ mode d following. refl;
+      number_is = minus-plus s t s_below t_below;
+    }

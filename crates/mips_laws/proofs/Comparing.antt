@@ -19,18 +19,28 @@ pub int_lt-not_less : (a b : ℤ) → b ≤ℤ a → int_lt a b ≡ false
 int_lt-not_less a b not_less = grind (arith, ints)
 
 -- an instruction that sets the bit of a test
-sets_where_less : (i : Ins) (s t reg : ℕ) (a b : ℤ) → ((mode : Mode) (d following : ℕ) → act i mode s t d following ≡ sets reg (bit_if (int_lt a b)) following) → SetsWhereLess i s t reg a b
+sets_where_less : (i : Ins) (s t reg : ℕ) (a b : ℤ)
+    → ((mode : Mode) (d following : ℕ) → act i mode s t d following ≡ sets reg (bit_if (int_lt a b))
+    following)
+    → SetsWhereLess i s t reg a b
 sets_where_less i s t reg a b is =
     record {
-      less = λ less mode d following. is mode d following ∙ ap (λ holds. sets reg (bit_if holds) following) (int_lt-less a b less);
-      not_less = λ not_less mode d following. is mode d following ∙ ap (λ holds. sets reg (bit_if holds) following) (int_lt-not_less a b not_less);
+      less = λ less mode d following. is mode d following
+          ∙ ap (λ holds. sets reg (bit_if holds) following) (int_lt-less a b less);
+      not_less = λ not_less mode d following. is mode d following
+          ∙ ap (λ holds. sets reg (bit_if holds) following) (int_lt-not_less a b not_less);
     }
 
-sets_where_below : (i : Ins) (s t reg a b : ℕ) → ((mode : Mode) (d following : ℕ) → act i mode s t d following ≡ sets reg (bit_if (nat_lt a b)) following) → SetsWhereBelow i s t reg a b
+sets_where_below : (i : Ins) (s t reg a b : ℕ)
+    → ((mode : Mode) (d following : ℕ) → act i mode s t d following ≡ sets reg (bit_if (nat_lt a b))
+    following)
+    → SetsWhereBelow i s t reg a b
 sets_where_below i s t reg a b is =
     record {
-      below = λ below mode d following. is mode d following ∙ ap (λ holds. sets reg (bit_if holds) following) (lt-ltb a b below);
-      not_below = λ not_below mode d following. is mode d following ∙ ap (λ holds. sets reg (bit_if holds) following) (le-ltb a b not_below);
+      below = λ below mode d following. is mode d following
+          ∙ ap (λ holds. sets reg (bit_if holds) following) (lt-ltb a b below);
+      not_below = λ not_below mode d following. is mode d following
+          ∙ ap (λ holds. sets reg (bit_if holds) following) (le-ltb a b not_below);
     }
 
 pub signed_comparisons : SignedComparisons
@@ -38,7 +48,8 @@ unfolding act
 signed_comparisons rd rs rt imm s t imm_below = (
   sets_where_less (Slt rd rs rt) s t rd (signed s) (signed t) (λ mode d following. refl),
   sets_where_less (Slti rt rs imm) s t rt (signed s) (signed_16 imm)
-      (λ mode d following. ap (λ z. sets rt (bit_if (int_lt (signed s) z)) following) (signed-extended imm imm_below)),
+      (λ mode d following. ap (λ z. sets rt (bit_if (int_lt (signed s) z)) following)
+      (signed-extended imm imm_below)),
 )
 
 pub unsigned_comparisons : UnsignedComparisons

@@ -23,22 +23,30 @@ neg-fits (suc n) small = record { sfits = omega arith }
 
 -- a quotient by 2 or more is at most half
 half-at_most : (n k : ℕ) → 2 ≤ k → n / k * 2 ≤ n
-half-at_most n k two = le_trans (mul-le (n / k) 2 (n / k) k (le_refl (n / k)) two) (div-mul-le_self n k)
+half-at_most n k two =
+    le_trans (mul-le (n / k) 2 (n / k) k (le_refl (n / k)) two) (div-mul-le_self n k)
 
 -- 32 signed bits hold a quotient, but in the overflow row
-quotient-fits : (a d : ℤ) → FitsSigned w32 a → (a ≡ negsuc (2 ^ 31 - 1) → d ≡ negsuc 0 → ⊥) → FitsSigned w32 (int_div a d)
-quotient-fits (pos a) (pos d) fits other = record { sfits = omega (arith, fits.sfits, div-le_self a d) }
-quotient-fits (pos a) (negsuc d) fits other = neg-fits (a / suc d) (omega (arith, fits.sfits, div-le_self a (suc d)))
-quotient-fits (negsuc a) (pos d) fits other = neg-fits (suc a / d) (omega (arith, fits.sfits, div-le_self (suc a) d))
+quotient-fits : (a d : ℤ) → FitsSigned w32 a → (a ≡ negsuc (2 ^ 31 - 1) → d ≡ negsuc 0 → ⊥)
+    → FitsSigned w32 (int_div a d)
+quotient-fits (pos a) (pos d) fits other =
+    record { sfits = omega (arith, fits.sfits, div-le_self a d) }
+quotient-fits (pos a) (negsuc d) fits other =
+    neg-fits (a / suc d) (omega (arith, fits.sfits, div-le_self a (suc d)))
+quotient-fits (negsuc a) (pos d) fits other =
+    neg-fits (suc a / d) (omega (arith, fits.sfits, div-le_self (suc a) d))
 quotient-fits (negsuc a) (negsuc zero) fits other =
     let not_least : a ≡ 2 ^ 31 - 1 → ⊥ = λ is. other (ap negsuc is) refl in
     record { sfits = omega (arith, fits.sfits, not_least) }
-quotient-fits (negsuc a) (negsuc (suc d)) fits other = record { sfits = omega (arith, fits.sfits, half-at_most (suc a) (suc (suc d)) (omega arith)) }
+quotient-fits (negsuc a) (negsuc (suc d)) fits other =
+    record { sfits = omega (arith, fits.sfits, half-at_most (suc a) (suc (suc d)) (omega arith)) }
 
 -- 32 signed bits hold a remainder
 remainder-fits : (a d : ℤ) → FitsSigned w32 a → FitsSigned w32 (int_rem a d)
-remainder-fits (pos a) d fits = record { sfits = omega (arith, fits.sfits, mod-le a (unsigned_abs d)) }
-remainder-fits (negsuc a) d fits = neg-fits (suc a % unsigned_abs d) (omega (arith, fits.sfits, mod-le (suc a) (unsigned_abs d)))
+remainder-fits (pos a) d fits =
+    record { sfits = omega (arith, fits.sfits, mod-le a (unsigned_abs d)) }
+remainder-fits (negsuc a) d fits =
+    neg-fits (suc a % unsigned_abs d) (omega (arith, fits.sfits, mod-le (suc a) (unsigned_abs d)))
 
 -- no natural number is below 0
 not-negative : (m n : ℕ) → HasSignOf (pos m) (pos n)
@@ -55,7 +63,12 @@ remainder-sign (negsuc a) d = neg-sign a (suc a % unsigned_abs d)
 
 -- the quotient and the remainder divide
 is-division : (a d : ℤ) → 0 < unsigned_abs d → IsDivision a d (int_div a d) (int_rem a d)
-is-division a d some = record { whole = quot-rem a d; smaller = rem_below a d some; sign = remainder-sign a d }
+is-division a d some = record {
+  whole = quot-rem a d;
+  smaller = rem_below a d some;
+  sign =
+      remainder-sign a d;
+}
 
 -- only -2^31 and -1 are the numbers of the overflow row
 least-is : (s : ℕ) → s < 2 ^ 32 → signed s ≡ negsuc (2 ^ 31 - 1) → s ≡ 2 ^ 31
@@ -73,14 +86,18 @@ minus_one-is t below is =
     is
 
 -- what is written where the divisor isn't 0
-divided-is : (s t : ℕ) → t ≢ 0 → divided s t ≡ writes.Pair (reduced (int_rem (signed s) (signed t))) (reduced (int_div (signed s) (signed t)))
+divided-is : (s t : ℕ) → t ≢ 0
+    → divided s t ≡ writes.Pair (reduced (int_rem (signed s) (signed t)))
+    (reduced (int_div (signed s) (signed t)))
 divided-is s t some = cond-false (t == 0) _ _ (ne_eqb t 0 some)
 
-div-writes : (rs rt s t : ℕ) (written : Writes) → divided s t ≡ written → WritesOnly (Div rs rt) s t written
+div-writes : (rs rt s t : ℕ) (written : Writes) → divided s t ≡ written
+    → WritesOnly (Div rs rt) s t written
 unfolding act
 div-writes rs rt s t written is mode d following = ap (λ w. writes_only w following) is
 
-divu-writes : (rs rt s t : ℕ) (written : Writes) → divided_unsigned s t ≡ written → WritesOnly (Divu rs rt) s t written
+divu-writes : (rs rt s t : ℕ) (written : Writes) → divided_unsigned s t ≡ written
+    → WritesOnly (Divu rs rt) s t written
 unfolding act
 divu-writes rs rt s t written is mode d following = ap (λ w. writes_only w following) is
 
@@ -89,16 +106,24 @@ div_divides rs rt s t s_below t_below some other =
     let q : ℤ = int_div (signed s) (signed t) in
     let r : ℤ = int_rem (signed s) (signed t) in
     let s_fits = signed-fits s s_below in
-    let q_is : signed (reduced q) ≡ q = signed-reduced q (quotient-fits (signed s) (signed t) s_fits (λ least minus_one. other (record { least = least-is s s_below least; minus_one = minus_one-is t t_below minus_one }))) in
-    let r_is : signed (reduced r) ≡ r = signed-reduced r (remainder-fits (signed s) (signed t) s_fits) in
-    let whole : IsDivision (signed s) (signed t) q r = is-division (signed s) (signed t) (signed-size t t_below some) in
+    let q_is : signed (reduced q) ≡ q = signed-reduced q (quotient-fits (signed s) (signed t) s_fits
+    (λ least minus_one. other (record {
+      least = least-is s s_below least;
+      minus_one =
+          minus_one-is t t_below minus_one;
+    }))) in
+    let r_is : signed (reduced r) ≡ r =
+    signed-reduced r (remainder-fits (signed s) (signed t) s_fits) in
+    let whole : IsDivision (signed s) (signed t) q r = is-division (signed s) (signed t)
+    (signed-size t t_below some) in
     record {
       hi = reduced r;
       lo = reduced q;
       hi_bits = reduced-below r;
       lo_bits = reduced-below q;
       writes = div-writes rs rt s t _ (divided-is s t some);
-      division = subst (λ lo. IsDivision (signed s) (signed t) lo (signed (reduced r))) (sym q_is) (subst (IsDivision (signed s) (signed t) q) (sym r_is) whole);
+      division = subst (λ lo. IsDivision (signed s) (signed t) lo (signed (reduced r))) (sym q_is)
+          (subst (IsDivision (signed s) (signed t) q) (sym r_is) whole);
     }
 
 pub div_overflow_row : DivOverflowRow
@@ -115,7 +140,12 @@ divu_divides rs rt s t s_below t_below some =
       hi_bits = omega (arith, mod-lt s positive);
       lo_bits = omega (arith, div-le_self s t);
       writes = divu-writes rs rt s t _ (cond-false (t == 0) _ _ (ne_eqb t 0 some));
-      division = record { whole = ap pos (div-add-mod' s t); smaller = mod-lt s positive; sign = not-negative s (s % t) };
+      division = record {
+        whole = ap pos (div-add-mod' s t);
+        smaller = mod-lt s positive;
+        sign =
+            not-negative s (s % t);
+      };
     }
 
 pub zero_divides : ZeroDivides

@@ -22,7 +22,8 @@ mult_multiplies rs rt s t s_below t_below =
     let y : ℤ = signed t in
     let x_small = unsigned_abs-fits x (signed-fits s s_below) in
     let y_small = unsigned_abs-fits y (signed-fits t t_below) in
-    let fits : FitsSigned w64 (x *ℤ y) = fits_signed_mul w64 x y (2 ^ 31) (2 ^ 31) x_small y_small (lit< tt) in
+    let fits : FitsSigned w64 (x *ℤ y) = fits_signed_mul w64 x y (2 ^ 31) (2 ^ 31) x_small y_small
+    (lit< tt) in
     let n : ℕ = reduced_64 (x *ℤ y) in
     record {
       hi = n / 2 ^ 32;

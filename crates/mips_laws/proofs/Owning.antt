@@ -10,7 +10,8 @@ use Rattle.mips_effect.specs.Effects.{sources_of, is_reserved, is_barred, is_gue
 use Rattle.mips_laws.specs.Owned.{value_in, IsMips1, OwnedCellsAreActedOn}
 
 -- a value by either way of a test
-value_either : (test : Bool) (value : ℕ) → (if test then Value 0 else Value value) ≡ Value (if test then 0 else value)
+value_either : (test : Bool) (value : ℕ)
+    → (if test then Value 0 else Value value) ≡ Value (if test then 0 else value)
 value_either true value = refl
 value_either false value = refl
 
@@ -24,17 +25,22 @@ not-reserved i Guest is = is.no_kernel_form
 not-reserved i Null is = is.no_guest_form
 
 -- and may read cells that have values by it
-guest-reads : (i : Ins) (s t d : ℕ) → is_guest_form i ≡ false → is_barred Guest i (Value s) (Value t) (Value d) ≡ false
+guest-reads : (i : Ins) (s t d : ℕ) → is_guest_form i ≡ false
+    → is_barred Guest i (Value s) (Value t) (Value d) ≡ false
 guest-reads (Xmvfn rd rs) s t d own = cc
 guest-reads i s t d own = refl
 
-not-barred : (i : Ins) (mode : Mode) (s t d : ℕ) → IsMips1 i → is_barred mode i (Value s) (Value t) (Value d) ≡ false
+not-barred : (i : Ins) (mode : Mode) (s t d : ℕ) → IsMips1 i
+    → is_barred mode i (Value s) (Value t) (Value d) ≡ false
 not-barred i Guest s t d is = guest-reads i s t d is.no_guest_form
 not-barred i Null s t d is = refl
 
 -- so it is neither Reserved nor Foreign
-judged-act : (i : Ins) (mode : Mode) (s t d following : ℕ) → IsMips1 i → judged i mode (Value s) (Value t) (Value d) following ≡ act i mode s t d following
-judged-act i mode s t d following is = cond-false (is_reserved mode i) _ _ (not-reserved i mode is) ∙ cond-false (is_barred mode i (Value s) (Value t) (Value d)) _ _ (not-barred i mode s t d is)
+judged-act : (i : Ins) (mode : Mode) (s t d following : ℕ) → IsMips1 i
+    → judged i mode (Value s) (Value t) (Value d) following ≡ act i mode s t d following
+judged-act i mode s t d following is =
+    cond-false (is_reserved mode i) _ _ (not-reserved i mode is)
+    ∙ cond-false (is_barred mode i (Value s) (Value t) (Value d)) _ _ (not-barred i mode s t d is)
 
 pub owned_cells_are_acted_on : OwnedCellsAreActedOn
 unfolding effect_of
@@ -44,5 +50,6 @@ owned_cells_are_acted_on i mode s t d pc npc is =
     let c : ℕ = (sources_of i).2 in
     ap (λ x. judged i mode x (seen_at b (Value t)) (seen_at c (Value d)) npc) (seen_at-value a s)
     ∙ ap (λ y. judged i mode (Value (value_in a s)) y (seen_at c (Value d)) npc) (seen_at-value b t)
-    ∙ ap (λ z. judged i mode (Value (value_in a s)) (Value (value_in b t)) z npc) (seen_at-value c d)
+    ∙ ap (λ z. judged i mode (Value (value_in a s)) (Value (value_in b t)) z npc)
+    (seen_at-value c d)
     ∙ judged-act i mode (value_in a s) (value_in b t) (value_in c d) npc is

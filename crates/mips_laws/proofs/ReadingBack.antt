@@ -20,46 +20,67 @@ use Rattle.mips_laws.proofs.Whole.{reduced-below, signed-byte, signed-extended}
 
 -- ---- Parts of a word of memory
 
-byte_of-is : (w a b c d : ℕ) → a < 256 → b < 256 → c < 256 → d < 256 → w ≡ a * 2 ^ 24 + b * 2 ^ 16 + c * 2 ^ 8 + d
+byte_of-is : (w a b c d : ℕ) → a < 256 → b < 256 → c < 256 → d < 256
+    → w ≡ a * 2 ^ 24 + b * 2 ^ 16 + c * 2 ^ 8 + d
     → (byte_of w 0 ≡ a) × (byte_of w 1 ≡ b) × (byte_of w 2 ≡ c) × (byte_of w 3 ≡ d)
-byte_of-is w a b c d a_small b_small c_small d_small is = (omega arith, omega arith, omega arith, omega arith)
+byte_of-is w a b c d a_small b_small c_small d_small is =
+    (omega arith, omega arith, omega arith, omega arith)
 
-half_of-is : (w a b c d : ℕ) → a < 256 → b < 256 → c < 256 → d < 256 → w ≡ a * 2 ^ 24 + b * 2 ^ 16 + c * 2 ^ 8 + d
+half_of-is : (w a b c d : ℕ) → a < 256 → b < 256 → c < 256 → d < 256
+    → w ≡ a * 2 ^ 24 + b * 2 ^ 16 + c * 2 ^ 8 + d
     → (half_of w 0 ≡ a * 2 ^ 8 + b) × (half_of w 2 ≡ c * 2 ^ 8 + d)
 half_of-is w a b c d a_small b_small c_small d_small is = (omega arith, omega arith)
 
 -- the byte at an address, of the word around it
-byte_loaded : (bytes : List ℕ) (address : ℕ) → AreBytes bytes → byte_of (word_at bytes (address - address % 4)) (address % 4) ≡ slice_index bytes address
+byte_loaded : (bytes : List ℕ) (address : ℕ) → AreBytes bytes
+    → byte_of (word_at bytes (address - address % 4)) (address % 4) ≡ slice_index bytes address
 byte_loaded bytes address small =
     let base : ℕ = address - address % 4 in
     let word : ℕ = word_at bytes base in
-    let parts = byte_of-is word (slice_index bytes base) (slice_index bytes (base + 1)) (slice_index bytes (base + 2)) (slice_index bytes (base + 3))
-    (byte-below bytes base small) (byte-below bytes (base + 1) small) (byte-below bytes (base + 2) small) (byte-below bytes (base + 3) small) (word_at-is bytes base) in
+    let parts = byte_of-is word (slice_index bytes base) (slice_index bytes (base + 1))
+    (slice_index bytes (base + 2)) (slice_index bytes (base + 3))
+    (byte-below bytes base small) (byte-below bytes (base + 1) small)
+    (byte-below bytes (base + 2) small) (byte-below bytes (base + 3) small)
+    (word_at-is bytes base) in
     by_four (address % 4) (omega arith)
-    (λ place. let at : base ≡ address = omega (arith, place) in ap (byte_of word) place ∙ parts.0 ∙ ap (slice_index bytes) at)
-    (λ place. let at : base + 1 ≡ address = omega (arith, place) in ap (byte_of word) place ∙ parts.1 ∙ ap (slice_index bytes) at)
-    (λ place. let at : base + 2 ≡ address = omega (arith, place) in ap (byte_of word) place ∙ parts.2 ∙ ap (slice_index bytes) at)
-    (λ place. let at : base + 3 ≡ address = omega (arith, place) in ap (byte_of word) place ∙ parts.3 ∙ ap (slice_index bytes) at)
+    (λ place. let at : base ≡ address = omega (arith, place) in ap (byte_of word) place ∙ parts.0
+    ∙ ap (slice_index bytes) at)
+    (λ place. let at : base + 1 ≡ address = omega (arith, place) in ap (byte_of word) place
+    ∙ parts.1 ∙ ap (slice_index bytes) at)
+    (λ place. let at : base + 2 ≡ address = omega (arith, place) in ap (byte_of word) place
+    ∙ parts.2 ∙ ap (slice_index bytes) at)
+    (λ place. let at : base + 3 ≡ address = omega (arith, place) in ap (byte_of word) place
+    ∙ parts.3 ∙ ap (slice_index bytes) at)
 
 -- the two bytes at an even address
-half_loaded : (bytes : List ℕ) (address next p q : ℕ) → AreBytes bytes → address % 2 ≡ 0 → address + 1 ≡ next → slice_index bytes address ≡ p → slice_index bytes next ≡ q
+half_loaded : (bytes : List ℕ) (address next p q : ℕ) → AreBytes bytes → address % 2 ≡ 0
+    → address + 1 ≡ next → slice_index bytes address ≡ p → slice_index bytes next ≡ q
     → half_of (word_at bytes (address - address % 4)) (address % 4) ≡ p * 2 ^ 8 + q
 half_loaded bytes address next p q small even follows p_is q_is =
     let base : ℕ = address - address % 4 in
     let word : ℕ = word_at bytes base in
-    let parts = half_of-is word (slice_index bytes base) (slice_index bytes (base + 1)) (slice_index bytes (base + 2)) (slice_index bytes (base + 3))
-    (byte-below bytes base small) (byte-below bytes (base + 1) small) (byte-below bytes (base + 2) small) (byte-below bytes (base + 3) small) (word_at-is bytes base) in
+    let parts = half_of-is word (slice_index bytes base) (slice_index bytes (base + 1))
+    (slice_index bytes (base + 2)) (slice_index bytes (base + 3))
+    (byte-below bytes base small) (byte-below bytes (base + 1) small)
+    (byte-below bytes (base + 2) small) (byte-below bytes (base + 3) small)
+    (word_at-is bytes base) in
     by_four (address % 4) (omega arith)
     (λ place.
-    let first : slice_index bytes base ≡ p = let at : base ≡ address = omega (arith, place) in ap (slice_index bytes) at ∙ p_is in
-    let second : slice_index bytes (base + 1) ≡ q = let at : base + 1 ≡ next = omega (arith, place) in ap (slice_index bytes) at ∙ q_is in
-    let whole : half_of word 0 ≡ slice_index bytes base * 2 ^ 8 + slice_index bytes (base + 1) = parts.0 in
+    let first : slice_index bytes base ≡ p = let at : base ≡ address = omega (arith, place) in
+    ap (slice_index bytes) at ∙ p_is in
+    let second : slice_index bytes (base + 1) ≡ q = let at : base + 1 ≡ next =
+    omega (arith, place) in ap (slice_index bytes) at ∙ q_is in
+    let whole : half_of word 0 ≡ slice_index bytes base * 2 ^ 8 + slice_index bytes (base + 1) =
+    parts.0 in
     ap (half_of word) place ∙ whole ∙ omega (arith, first, second))
     (λ place. absurd (omega (arith, place, even)))
     (λ place.
-    let first : slice_index bytes (base + 2) ≡ p = let at : base + 2 ≡ address = omega (arith, place) in ap (slice_index bytes) at ∙ p_is in
-    let second : slice_index bytes (base + 3) ≡ q = let at : base + 3 ≡ next = omega (arith, place) in ap (slice_index bytes) at ∙ q_is in
-    let whole : half_of word 2 ≡ slice_index bytes (base + 2) * 2 ^ 8 + slice_index bytes (base + 3) = parts.1 in
+    let first : slice_index bytes (base + 2) ≡ p = let at : base + 2 ≡ address =
+    omega (arith, place) in ap (slice_index bytes) at ∙ p_is in
+    let second : slice_index bytes (base + 3) ≡ q = let at : base + 3 ≡ next =
+    omega (arith, place) in ap (slice_index bytes) at ∙ q_is in
+    let whole : half_of word 2 ≡ slice_index bytes (base + 2) * 2 ^ 8 + slice_index bytes
+    (base + 3) = parts.1 in
     ap (half_of word) place ∙ whole ∙ omega (arith, first, second))
     (λ place. absurd (omega (arith, place, even)))
 
@@ -68,31 +89,47 @@ half_loaded bytes address next p q small even follows p_is q_is =
 byte-All : (n : ℕ) (bytes : List ℕ) → AreBytes bytes → AreBytes (n % 256 ∷ bytes)
 byte-All n bytes small = All-cons (λ b. b < 2 ^ 8) (n % 256) bytes (omega arith) small
 
-word_written : (bytes : List ℕ) (address t : ℕ) → address ≤ length bytes → t < 2 ^ 32 → word_at (written_at bytes address (low_bytes 4 t)) address ≡ t
+word_written : (bytes : List ℕ) (address t : ℕ) → address ≤ length bytes → t < 2 ^ 32
+    → word_at (written_at bytes address (low_bytes 4 t)) address ≡ t
 word_written bytes address t room below =
     let new : List ℕ = written_at bytes address (low_bytes 4 t) in
-    let first : slice_index new address ≡ t / 2 ^ 24 % 256 = written-inside bytes (low_bytes 4 t) address address 0 0 room (omega arith) (omega arith) in
-    let second : slice_index new (address + 1) ≡ t / 2 ^ 16 % 256 = written-inside bytes (low_bytes 4 t) address (address + 1) 1 0 room refl (omega arith) in
-    let third : slice_index new (address + 2) ≡ t / 2 ^ 8 % 256 = written-inside bytes (low_bytes 4 t) address (address + 2) 2 0 room refl (omega arith) in
-    let fourth : slice_index new (address + 3) ≡ t % 256 = written-inside bytes (low_bytes 4 t) address (address + 3) 3 0 room refl (omega arith) in
-    word_at-of new address (address + 1) (address + 2) (address + 3) _ _ _ _ refl refl refl first second third fourth ∙ omega arith
+    let first : slice_index new address ≡ t / 2 ^ 24 % 256 = written-inside bytes (low_bytes 4 t)
+    address address 0 0 room (omega arith) (omega arith) in
+    let second : slice_index new (address + 1) ≡ t / 2 ^ 16 % 256 =
+    written-inside bytes (low_bytes 4 t) address (address + 1) 1 0 room refl (omega arith) in
+    let third : slice_index new (address + 2) ≡ t / 2 ^ 8 % 256 =
+    written-inside bytes (low_bytes 4 t) address (address + 2) 2 0 room refl (omega arith) in
+    let fourth : slice_index new (address + 3) ≡ t % 256 = written-inside bytes (low_bytes 4 t)
+    address (address + 3) 3 0 room refl (omega arith) in
+    word_at-of new address (address + 1) (address + 2) (address + 3) _ _ _ _ refl refl refl first
+    second third fourth ∙ omega arith
 
-half_written : (bytes : List ℕ) (address v : ℕ) → address ≤ length bytes → AreBytes bytes → address % 2 ≡ 0 → v < 2 ^ 16
-    → half_of (word_at (written_at bytes address (low_bytes 2 v)) (address - address % 4)) (address % 4) ≡ v
+half_written : (bytes : List ℕ) (address v : ℕ) → address ≤ length bytes → AreBytes bytes
+    → address % 2 ≡ 0 → v < 2 ^ 16
+    → half_of (word_at (written_at bytes address (low_bytes 2 v)) (address - address % 4))
+    (address % 4) ≡ v
 half_written bytes address v room small even below =
     let part : List ℕ = low_bytes 2 v in
     let new : List ℕ = written_at bytes address part in
-    let first : slice_index new address ≡ v / 2 ^ 8 % 256 = written-inside bytes part address address 0 0 room (omega arith) (omega arith) in
-    let second : slice_index new (address + 1) ≡ v % 256 = written-inside bytes part address (address + 1) 1 0 room refl (omega arith) in
-    half_loaded new address (address + 1) _ _ (written-AreBytes bytes part address small (byte-All (v / 2 ^ 8) (low_bytes 1 v) (byte-All v [] (All-nil (λ b. b < 2 ^ 8))))) even refl first second ∙ omega arith
+    let first : slice_index new address ≡ v / 2 ^ 8 % 256 = written-inside bytes part address
+    address 0 0 room (omega arith) (omega arith) in
+    let second : slice_index new (address + 1) ≡ v % 256 = written-inside bytes part address
+    (address + 1) 1 0 room refl (omega arith) in
+    half_loaded new address (address + 1) _ _ (written-AreBytes bytes part address small
+    (byte-All (v / 2 ^ 8) (low_bytes 1 v) (byte-All v [] (All-nil (λ b. b < 2 ^ 8))))) even refl
+    first second ∙ omega arith
 
-byte_written : (bytes : List ℕ) (address v : ℕ) → address ≤ length bytes → AreBytes bytes → v < 2 ^ 8
-    → byte_of (word_at (written_at bytes address (low_bytes 1 v)) (address - address % 4)) (address % 4) ≡ v
+byte_written : (bytes : List ℕ) (address v : ℕ) → address ≤ length bytes → AreBytes bytes
+    → v < 2 ^ 8
+    → byte_of (word_at (written_at bytes address (low_bytes 1 v)) (address - address % 4))
+    (address % 4) ≡ v
 byte_written bytes address v room small below =
     let part : List ℕ = low_bytes 1 v in
     let new : List ℕ = written_at bytes address part in
-    let first : slice_index new address ≡ v % 256 = written-inside bytes part address address 0 0 room (omega arith) (omega arith) in
-    byte_loaded new address (written-AreBytes bytes part address small (byte-All v [] (All-nil (λ b. b < 2 ^ 8)))) ∙ first ∙ omega arith
+    let first : slice_index new address ≡ v % 256 = written-inside bytes part address address 0 0
+    room (omega arith) (omega arith) in
+    byte_loaded new address (written-AreBytes bytes part address small
+    (byte-All v [] (All-nil (λ b. b < 2 ^ 8)))) ∙ first ∙ omega arith
 
 -- ---- The instructions
 
@@ -105,11 +142,13 @@ words_are_read_back bytes rt rs imm s t reg from offset base old memory below pl
     let whole = memory.whole in
     let new : List ℕ = written_at bytes address (low_bytes 4 t) in
     let at : address - address % 4 ≡ address = omega (arith, aligned) in
-    let value : word_at new (address - address % 4) ≡ t = ap (word_at new) at ∙ word_written bytes address t (omega (arith, inside, whole)) below in
+    let value : word_at new (address - address % 4) ≡ t = ap (word_at new) at ∙ word_written bytes
+    address t (omega (arith, inside, whole)) below in
     record {
       new = new;
       stores = sw_stores_the_word bytes rt rs imm s t inside aligned;
-      loads = λ pc d following. load_step new kind.Word reg (plus_signed base offset) address old t place.same (opened 4 address aligned (omega (arith, inside))) value pc following;
+      loads = λ pc d following. load_step new kind.Word reg (plus_signed base offset) address old t
+          place.same (opened 4 address aligned (omega (arith, inside))) value pc following;
     }
 
 pub halves_are_read_back : HalvesAreReadBack
@@ -123,13 +162,32 @@ halves_are_read_back bytes rt rs imm s t reg from offset base old memory place =
     let v_below : v < 2 ^ 16 = omega arith in
     let new : List ℕ = written_at bytes address (low_bytes 2 v) in
     let opens = opened 2 address aligned (omega (arith, inside)) in
-    let value : half_of (word_at new (address - address % 4)) (address % 4) ≡ v = half_written bytes address v (omega (arith, inside, whole)) memory.are_bytes aligned v_below in
-    let stores : StoresOnly bytes (Sh rt imm rs) s t new = record { stored = stored.Bytes address 2 v; step = λ pc d following. store_step bytes 2 address v opens pc following; memory = refl } in (
-      record { new = new; stores = stores; loads = λ pc d following. load_step new kind.HalfU reg (plus_signed base offset) address old v place.same opens value pc following },
+    let value : half_of (word_at new (address - address % 4)) (address % 4) ≡ v =
+    half_written bytes address v (omega (arith, inside, whole)) memory.are_bytes aligned
+    v_below in
+    let stores : StoresOnly bytes (Sh rt imm rs) s t new =
+    record {
+      stored = stored.Bytes address 2 v;
+      step = λ pc d following. store_step bytes 2
+          address v opens pc following;
+      memory = refl;
+    } in (
+      record {
+        new = new;
+        stores = stores;
+        loads = λ pc d following. load_step new kind.HalfU reg
+            (plus_signed base offset) address old v place.same opens value pc following;
+      },
       record {
         number = extended v;
         number_bits = reduced-below (signed_16 v);
-        reads_back = record { new = new; stores = stores; loads = λ pc d following. load_step new kind.Half reg (plus_signed base offset) address old (extended v) place.same opens (ap extended value) pc following };
+        reads_back = record {
+          new = new;
+          stores = stores;
+          loads = λ pc d following. load_step new
+              kind.Half reg (plus_signed base offset) address old (extended v) place.same opens
+              (ap extended value) pc following;
+        };
         number_is = signed-extended v v_below;
       },
     )
@@ -145,13 +203,31 @@ bytes_are_read_back bytes rt rs imm s t reg from offset base old memory place =
     let v_below : v < 2 ^ 8 = omega arith in
     let new : List ℕ = written_at bytes address (low_bytes 1 v) in
     let opens = opened 1 address aligned (omega (arith, inside)) in
-    let value : byte_of (word_at new (address - address % 4)) (address % 4) ≡ v = byte_written bytes address v (omega (arith, inside, whole)) memory.are_bytes v_below in
-    let stores : StoresOnly bytes (Sb rt imm rs) s t new = record { stored = stored.Bytes address 1 v; step = λ pc d following. store_step bytes 1 address v opens pc following; memory = refl } in (
-      record { new = new; stores = stores; loads = λ pc d following. load_step new kind.ByteU reg (plus_signed base offset) address old v place.same opens value pc following },
+    let value : byte_of (word_at new (address - address % 4)) (address % 4) ≡ v =
+    byte_written bytes address v (omega (arith, inside, whole)) memory.are_bytes v_below in
+    let stores : StoresOnly bytes (Sb rt imm rs) s t new =
+    record {
+      stored = stored.Bytes address 1 v;
+      step = λ pc d following. store_step bytes 1
+          address v opens pc following;
+      memory = refl;
+    } in (
+      record {
+        new = new;
+        stores = stores;
+        loads = λ pc d following. load_step new kind.ByteU reg
+            (plus_signed base offset) address old v place.same opens value pc following;
+      },
       record {
         number = reduced (signed_8 v);
         number_bits = reduced-below (signed_8 v);
-        reads_back = record { new = new; stores = stores; loads = λ pc d following. load_step new kind.Byte reg (plus_signed base offset) address old (reduced (signed_8 v)) place.same opens (ap (λ b. reduced (signed_8 b)) value) pc following };
+        reads_back = record {
+          new = new;
+          stores = stores;
+          loads = λ pc d following. load_step new
+              kind.Byte reg (plus_signed base offset) address old (reduced (signed_8 v)) place.same
+              opens (ap (λ b. reduced (signed_8 b)) value) pc following;
+        };
         number_is = signed-byte v v_below;
       },
     )
@@ -159,26 +235,35 @@ bytes_are_read_back bytes rt rs imm s t reg from offset base old memory place =
 -- ---- Unaligned words
 
 -- memory is whole after a store of a word
-memory_after : (bytes : List ℕ) (address t : ℕ) → IsMemory bytes → address + 4 ≤ private_size → IsMemory (written_at bytes address (low_bytes 4 t))
+memory_after : (bytes : List ℕ) (address t : ℕ) → IsMemory bytes → address + 4 ≤ private_size
+    → IsMemory (written_at bytes address (low_bytes 4 t))
 memory_after bytes address t memory inside =
     let whole = memory.whole in
-    let part : AreBytes (low_bytes 4 t) = byte-All (t / 2 ^ 24) (low_bytes 3 t) (byte-All (t / 2 ^ 16) (low_bytes 2 t) (byte-All (t / 2 ^ 8) (low_bytes 1 t) (byte-All t [] (All-nil (λ b. b < 2 ^ 8))))) in
+    let part : AreBytes (low_bytes 4 t) = byte-All (t / 2 ^ 24) (low_bytes 3 t)
+    (byte-All (t / 2 ^ 16) (low_bytes 2 t) (byte-All (t / 2 ^ 8) (low_bytes 1 t)
+    (byte-All t [] (All-nil (λ b. b < 2 ^ 8))))) in
     record {
-      whole = length-written_at bytes address (low_bytes 4 t) (omega (arith, inside, whole)) ∙ whole;
+      whole = length-written_at bytes address (low_bytes 4 t) (omega (arith, inside, whole))
+          ∙ whole;
       are_bytes = written-AreBytes bytes (low_bytes 4 t) address memory.are_bytes part;
     }
 
 pub unaligned_words_are_read_back : UnalignedWordsAreReadBack
-unaligned_words_are_read_back bytes rt rs first last s t reg from base_first base_last base old address memory below stored_word loaded_word =
+unaligned_words_are_read_back bytes rt rs first last s t reg from base_first base_last base old
+    address memory below stored_word loaded_word =
     let inside = stored_word.inside in
     let whole = memory.whole in
     let new : List ℕ = written_at bytes address (low_bytes 4 t) in
-    let value : word_at new address ≡ t = word_written bytes address t (omega (arith, inside, whole)) below in
+    let value : word_at new address ≡ t = word_written bytes address t
+    (omega (arith, inside, whole)) below in
     record {
       new = new;
-      stores = (halves_store_the_word bytes rt rs first last s t address memory below stored_word).0;
-      loads = subst (LoadsByTwo new (Lwl reg base_first from) (Lwr reg base_last from) base old reg) value
-          (halves_load_the_word new reg from base_first base_last base old address (memory_after bytes address t memory inside) loaded_word).0;
+      stores = (halves_store_the_word bytes rt rs first last s t address memory below
+          stored_word).0;
+      loads = subst (LoadsByTwo new (Lwl reg base_first from) (Lwr reg base_last from) base old reg)
+          value
+          (halves_load_the_word new reg from base_first base_last base old address
+          (memory_after bytes address t memory inside) loaded_word).0;
     }
 
 pub written_words_are_alone : WrittenWordsAreAlone
@@ -187,7 +272,9 @@ written_words_are_alone bytes address t room below =
       size = length-written_at bytes address (low_bytes 4 t) room;
       word = word_written bytes address t (omega (arith, room)) below;
       others = λ place elsewhere. ⊎_elim
-          (λ (before : place < address). written-before bytes (low_bytes 4 t) address place 0 (omega (arith, room)) before)
-          (λ (behind : address + 4 ≤ place). written-behind bytes (low_bytes 4 t) address place 0 (omega (arith, room)) behind)
+          (λ (before : place < address). written-before bytes (low_bytes 4 t) address place 0
+          (omega (arith, room)) before)
+          (λ (behind : address + 4 ≤ place). written-behind bytes (low_bytes 4 t) address place 0
+          (omega (arith, room)) behind)
           elsewhere;
     }

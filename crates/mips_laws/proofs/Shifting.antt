@@ -13,7 +13,12 @@ use Rattle.mips_laws.proofs.Whole.{signed-fits, reduced-below, signed-reduced}
 
 pub unsigned_shifts : UnsignedShifts
 unfolding act
-unsigned_shifts rd rt rs sa s t = (λ mode d following. refl, λ mode d following. refl, λ mode d following. refl, λ mode d following. refl)
+unsigned_shifts rd rt rs sa s t = (
+  λ mode d following. refl,
+  λ mode d following. refl,
+  λ mode d following. refl,
+  λ mode d following. refl,
+)
 
 -- 32 signed bits hold the quotient
 quotient-fits : (z : ℤ) (d : ℕ) → FitsSigned w32 z → FitsSigned w32 (int_div_euclid z (pos d))
@@ -65,15 +70,20 @@ quotient-down (negsuc a) d some =
     }
 
 -- an instruction that shifts a signed number to the right
-sets_quotient_down : (i : Ins) (s t reg by : ℕ) → t < 2 ^ 32 → ((mode : Mode) (d following : ℕ) → act i mode s t d following ≡ sets reg (shifted_signed t by) following) → SetsQuotientDown i s t reg (signed t) (2 ^ by)
+sets_quotient_down : (i : Ins) (s t reg by : ℕ) → t < 2 ^ 32
+    → ((mode : Mode) (d following : ℕ) → act i mode s t d following ≡ sets reg (shifted_signed t by)
+    following)
+    → SetsQuotientDown i s t reg (signed t) (2 ^ by)
 sets_quotient_down i s t reg by below is =
     let q : ℤ = int_div_euclid (signed t) (pos (2 ^ by)) in
-    let q_is : signed (reduced q) ≡ q = signed-reduced q (quotient-fits (signed t) (2 ^ by) (signed-fits t below)) in
+    let q_is : signed (reduced q) ≡ q =
+    signed-reduced q (quotient-fits (signed t) (2 ^ by) (signed-fits t below)) in
     record {
       number = reduced q;
       number_bits = reduced-below q;
       sets = is;
-      quotient = subst (IsQuotientDown (signed t) (2 ^ by)) (sym q_is) (quotient-down (signed t) (2 ^ by) (pow_pos by));
+      quotient = subst (IsQuotientDown (signed t) (2 ^ by)) (sym q_is)
+          (quotient-down (signed t) (2 ^ by) (pow_pos by));
     }
 
 pub signed_shifts : SignedShifts

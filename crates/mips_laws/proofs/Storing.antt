@@ -13,7 +13,8 @@ use Rattle.mips_laws.proofs.Steps.{opened, open_byte, store_step, left_step, rig
 -- ---- The bytes of the two halves
 
 -- four bytes that are equal
-four : (a b c d e f g h : ℕ) → a ≡ e → b ≡ f → c ≡ g → d ≡ h → a ∷ b ∷ c ∷ d ∷ [] ≡ e ∷ f ∷ g ∷ h ∷ []
+four : (a b c d e f g h : ℕ) → a ≡ e → b ≡ f → c ≡ g → d ≡ h
+    → a ∷ b ∷ c ∷ d ∷ [] ≡ e ∷ f ∷ g ∷ h ∷ []
 four a b c d e f g h one two three last = cc
 
 -- the high and the low bytes of a word are its bytes
@@ -31,63 +32,100 @@ bytes-3 t = four _ _ _ _ _ _ _ _ (omega arith) (omega arith) (omega arith) (omeg
 
 -- memory after SWL at an address, and after SWR at the word's last byte
 abbrev by_left : List ℕ → (address t : ℕ) → List ℕ
-by_left bytes address t = written_at bytes address (low_bytes (4 - address % 4) (t / 2 ^ (8 * (address % 4))))
+by_left bytes address t =
+    written_at bytes address (low_bytes (4 - address % 4) (t / 2 ^ (8 * (address % 4))))
 
 abbrev by_right : List ℕ → (last t : ℕ) → List ℕ
-by_right bytes last t = written_at bytes (last - last % 4) (low_bytes (last % 4 + 1) (t % 2 ^ (8 * (last % 4 + 1))))
+by_right bytes last t =
+    written_at bytes (last - last % 4) (low_bytes (last % 4 + 1) (t % 2 ^ (8 * (last % 4 + 1))))
 
 abbrev Both : List ℕ → (address t : ℕ) → Type 0
 Both bytes address t =
     (by_right (by_left bytes address t) (address + 3) t ≡ written_at bytes address (low_bytes 4 t))
-    × (by_left (by_right bytes (address + 3) t) address t ≡ written_at bytes address (low_bytes 4 t))
+    × (by_left (by_right bytes (address + 3) t) address t ≡ written_at bytes address
+    (low_bytes 4 t))
 
 -- two parts of a word, the second at its place
-both-parts : (bytes : List ℕ) (address last place last_place n m high low t : ℕ) → address % 4 ≡ place → (address + 3) % 4 ≡ last_place
-    → 4 - place ≡ n → last_place + 1 ≡ m → t / 2 ^ (8 * place) ≡ high → t % 2 ^ (8 * m) ≡ low → address + 3 - last_place ≡ last
-    → (written_at (written_at bytes address (low_bytes n high)) last (low_bytes m low) ≡ written_at bytes address (low_bytes 4 t))
-    × (written_at (written_at bytes last (low_bytes m low)) address (low_bytes n high) ≡ written_at bytes address (low_bytes 4 t))
+both-parts : (bytes : List ℕ) (address last place last_place n m high low t : ℕ)
+    → address % 4 ≡ place → (address + 3) % 4 ≡ last_place
+    → 4 - place ≡ n → last_place + 1 ≡ m → t / 2 ^ (8 * place) ≡ high → t % 2 ^ (8 * m) ≡ low
+    → address + 3 - last_place ≡ last
+    → (written_at (written_at bytes address (low_bytes n high)) last (low_bytes m low) ≡ written_at
+    bytes address (low_bytes 4 t))
+    × (written_at (written_at bytes last (low_bytes m low)) address (low_bytes n high) ≡ written_at
+    bytes address (low_bytes 4 t))
     → Both bytes address t
-both-parts bytes address last place last_place n m high low t place_is last_place_is n_is m_is high_is low_is last_is both =
+both-parts bytes address last place last_place n m high low t place_is last_place_is n_is m_is
+    high_is low_is last_is both =
     rw (place_is, last_place_is, last_is, n_is, m_is, high_is, low_is) both
 
 -- the four places
-both : (bytes : List ℕ) (address t : ℕ) → address + 4 ≤ length bytes → t < 2 ^ 32 → Both bytes address t
+both : (bytes : List ℕ) (address t : ℕ) → address + 4 ≤ length bytes → t < 2 ^ 32
+    → Both bytes address t
 both bytes address t room below =
     by_four (address % 4) (omega arith)
     (λ place.
-    let all : low_bytes 4 (t / 2 ^ 0) ≡ low_bytes 4 t = let same : t / 2 ^ 0 ≡ t = omega arith in ap (low_bytes 4) same in
+    let all : low_bytes 4 (t / 2 ^ 0) ≡ low_bytes 4 t = let same : t / 2 ^ 0 ≡ t = omega arith in
+    ap (low_bytes 4) same in
     let again = written-again bytes (low_bytes 4 t) address room in
-    both-parts bytes address address 0 3 4 4 t t t place (omega (arith, place)) refl refl (omega arith) (omega arith) (omega arith) (again, again))
+    both-parts bytes address address 0 3 4 4 t t t place (omega (arith, place)) refl refl
+    (omega arith) (omega arith) (omega arith) (again, again))
     (λ place.
     let x : List ℕ = low_bytes 3 (t / 2 ^ 8) in
     let y : List ℕ = low_bytes 1 (t % 2 ^ 8) in
     let is = ap (written_at bytes address) (bytes-1 t) in
-    both-parts bytes address (address + 3) 1 0 3 1 (t / 2 ^ 8) (t % 2 ^ 8) t place (omega (arith, place)) refl refl refl refl (omega arith)
-    (written-both bytes x y address (address + 3) refl (omega arith) ∙ is, written-both_back bytes x y address (address + 3) refl (omega arith) ∙ is))
+    both-parts bytes address (address + 3) 1 0 3 1 (t / 2 ^ 8) (t % 2 ^ 8) t place
+    (omega (arith, place)) refl refl refl refl (omega arith) (
+      written-both bytes x y address (address + 3) refl (omega arith) ∙ is,
+      written-both_back bytes x
+          y address (address + 3) refl (omega arith) ∙ is,
+    ))
     (λ place.
     let x : List ℕ = low_bytes 2 (t / 2 ^ 16) in
     let y : List ℕ = low_bytes 2 (t % 2 ^ 16) in
     let is = ap (written_at bytes address) (bytes-2 t) in
-    both-parts bytes address (address + 2) 2 1 2 2 (t / 2 ^ 16) (t % 2 ^ 16) t place (omega (arith, place)) refl refl refl refl (omega arith)
-    (written-both bytes x y address (address + 2) refl (omega arith) ∙ is, written-both_back bytes x y address (address + 2) refl (omega arith) ∙ is))
+    both-parts bytes address (address + 2) 2 1 2 2 (t / 2 ^ 16) (t % 2 ^ 16) t place
+    (omega (arith, place)) refl refl refl refl (omega arith) (
+      written-both bytes x y address (address + 2) refl (omega arith) ∙ is,
+      written-both_back bytes x
+          y address (address + 2) refl (omega arith) ∙ is,
+    ))
     (λ place.
     let x : List ℕ = low_bytes 1 (t / 2 ^ 24) in
     let y : List ℕ = low_bytes 3 (t % 2 ^ 24) in
     let is = ap (written_at bytes address) (bytes-3 t) in
-    both-parts bytes address (address + 1) 3 2 1 3 (t / 2 ^ 24) (t % 2 ^ 24) t place (omega (arith, place)) refl refl refl refl (omega arith)
-    (written-both bytes x y address (address + 1) refl (omega arith) ∙ is, written-both_back bytes x y address (address + 1) refl (omega arith) ∙ is))
+    both-parts bytes address (address + 1) 3 2 1 3 (t / 2 ^ 24) (t % 2 ^ 24) t place
+    (omega (arith, place)) refl refl refl refl (omega arith) (
+      written-both bytes x y address (address + 1) refl (omega arith) ∙ is,
+      written-both_back bytes x
+          y address (address + 1) refl (omega arith) ∙ is,
+    ))
 
 -- ---- The instructions
 
-left_stores : (bytes : List ℕ) (rt rs imm s t address : ℕ) → plus_signed s imm ≡ address → address < private_size → StoresOnly bytes (Swl rt imm rs) s t (by_left bytes address t)
+left_stores : (bytes : List ℕ) (rt rs imm s t address : ℕ) → plus_signed s imm ≡ address
+    → address < private_size → StoresOnly bytes (Swl rt imm rs) s t (by_left bytes address t)
 unfolding act
 left_stores bytes rt rs imm s t address names inside =
-    record { stored = stored.Bytes address (4 - address % 4) (t / 2 ^ (8 * (address % 4))); step = λ pc d following. left_step bytes (plus_signed s imm) address t names (open_byte address inside) pc following; memory = refl }
+    record {
+      stored = stored.Bytes address (4 - address % 4) (t / 2 ^ (8 * (address % 4)));
+      step =
+          λ pc d following. left_step bytes (plus_signed s imm) address t names
+          (open_byte address inside) pc following;
+      memory = refl;
+    }
 
-right_stores : (bytes : List ℕ) (rt rs imm s t address : ℕ) → plus_signed s imm ≡ address → address < private_size → StoresOnly bytes (Swr rt imm rs) s t (by_right bytes address t)
+right_stores : (bytes : List ℕ) (rt rs imm s t address : ℕ) → plus_signed s imm ≡ address
+    → address < private_size → StoresOnly bytes (Swr rt imm rs) s t (by_right bytes address t)
 unfolding act
 right_stores bytes rt rs imm s t address names inside =
-    record { stored = stored.Bytes (address - address % 4) (address % 4 + 1) (t % 2 ^ (8 * (address % 4 + 1))); step = λ pc d following. right_step bytes (plus_signed s imm) address t names (open_byte address inside) pc following; memory = refl }
+    record {
+      stored = stored.Bytes (address - address % 4) (address % 4 + 1)
+          (t % 2 ^ (8 * (address % 4 + 1)));
+      step = λ pc d following. right_step bytes
+          (plus_signed s imm) address t names (open_byte address inside) pc following;
+      memory = refl;
+    }
 
 pub halves_store_the_word : HalvesStoreTheWord
 halves_store_the_word bytes rt rs first last s t address memory below word =
@@ -99,12 +137,16 @@ halves_store_the_word bytes rt rs first last s t address memory below word =
       record {
         between = by_left bytes address t;
         one_stores = left_stores bytes rt rs first s t address word.first_byte first_inside;
-        two_stores = subst (StoresOnly (by_left bytes address t) (Swr rt last rs) s t) together.0 (right_stores (by_left bytes address t) rt rs last s t (address + 3) word.last_byte last_inside);
+        two_stores = subst (StoresOnly (by_left bytes address t) (Swr rt last rs) s t) together.0
+            (right_stores (by_left bytes address t) rt rs last s t (address + 3) word.last_byte
+            last_inside);
       },
       record {
         between = by_right bytes (address + 3) t;
         one_stores = right_stores bytes rt rs last s t (address + 3) word.last_byte last_inside;
-        two_stores = subst (StoresOnly (by_right bytes (address + 3) t) (Swl rt first rs) s t) together.1 (left_stores (by_right bytes (address + 3) t) rt rs first s t address word.first_byte first_inside);
+        two_stores = subst (StoresOnly (by_right bytes (address + 3) t) (Swl rt first rs) s t)
+            together.1 (left_stores (by_right bytes (address + 3) t) rt rs first s t address
+            word.first_byte first_inside);
       },
     )
 
@@ -112,4 +154,9 @@ pub sw_stores_the_word : SwStoresTheWord
 unfolding act
 sw_stores_the_word bytes rt rs imm s t inside aligned =
     let address : ℕ = plus_signed s imm in
-    record { stored = stored.Bytes address 4 t; step = λ pc d following. store_step bytes 4 address t (opened 4 address aligned (omega (arith, inside))) pc following; memory = refl }
+    record {
+      stored = stored.Bytes address 4 t;
+      step = λ pc d following. store_step bytes 4 address
+          t (opened 4 address aligned (omega (arith, inside))) pc following;
+      memory = refl;
+    }

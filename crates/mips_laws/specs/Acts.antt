@@ -1,4 +1,5 @@
--- How a law speaks of an instruction that computes: what it comes to where rs and rt have the values s and t.
+-- How a law speaks of an instruction that computes: what it comes to where rs and rt have the
+-- values s and t.
 use Rattle.std.specs.Prelude.{◌≡◌, ℕ, Err}
 use Rattle.mips_instruction.specs.declared.instruction.Ins.{Ins}
 use Rattle.xom_base.specs.declared.event.OwnFault.TheVariants as fault
@@ -8,7 +9,8 @@ use Rattle.mips_effect.specs.Effects.{act, set, writes_only}
 
 -- it writes these cells and does nothing else, in a guest and in null code
 abbrev pub WritesOnly : Ins → ℕ → ℕ → Writes → Type 0
-WritesOnly i s t written = (mode : Mode) (d following : ℕ) → act i mode s t d following ≡ writes_only written following
+WritesOnly i s t written =
+    (mode : Mode) (d following : ℕ) → act i mode s t d following ≡ writes_only written following
 
 -- it sets the register to the value and does nothing else; a write to $0 is dropped
 abbrev pub SetsOnly : Ins → ℕ → ℕ → (reg value : ℕ) → Type 0

@@ -1,5 +1,7 @@
--- Branches: taken exactly where the condition holds of whole numbers. The target is counted in words from the following instruction, which is done in any case.
--- Source: Kane and Heinrich, MIPS RISC Architecture, appendix A (BEQ, BGEZ, BGEZAL, BGTZ, BLEZ, BLTZ, BLTZAL, BNE).
+-- Branches: taken exactly where the condition holds of whole numbers. The target is counted in
+-- words from the following instruction, which is done in any case.
+-- Source: Kane and Heinrich, MIPS RISC Architecture, appendix A (BEQ, BGEZ, BGEZAL, BGTZ, BLEZ,
+-- BLTZ, BLTZAL, BNE).
 use Rattle.std.specs.Prelude.{◌≡◌, ◌≢◌, ℕ, pos, ◌≤ℤ◌, ◌<ℤ◌}
 use Rattle.mips_instruction.specs.declared.instruction.Ins.{Ins}
 use Rattle.mips_instruction.specs.declared.instruction.Ins.TheVariants.{Beq, Bgez, Bgezal, Bgtz, Blez, Bltz, Bltzal, Bne}
@@ -9,12 +11,16 @@ use Rattle.xom_base.specs.declared.step.Writes.TheVariants as writes
 use Rattle.mips_effect.specs.declared.seen.Mode.{Mode}
 use Rattle.mips_effect.specs.Effects.{act, set, jumps}
 
--- where rs and rt have these values, the instruction writes these cells and goes to this address behind the following instruction, both told of that one's address
+-- where rs and rt have these values, the instruction writes these cells and goes to this address
+-- behind the following instruction, both told of that one's address
 abbrev pub GoesTo : Ins → (s t : ℕ) → (written : ℕ → Writes) → (to : ℕ → ℕ) → Type 0
-GoesTo i s t written to = (mode : Mode) (d following : ℕ) → act i mode s t d following ≡ jumps (written following) (to following) following
+GoesTo i s t written to =
+    (mode : Mode) (d following : ℕ)
+    → act i mode s t d following ≡ jumps (written following) (to following) following
 
 -- it goes to the target of its immediate under a condition, and on under the opposite
-pub record BranchesWhere (i : Ins) (s t imm : ℕ) (written : ℕ → Writes) (Condition Opposite : Type 0) : Type 0 where
+pub record BranchesWhere (i : Ins) (s t imm : ℕ) (written : ℕ → Writes)
+    (Condition Opposite : Type 0) : Type 0 where
   pub taken : Condition → GoesTo i s t written (λ following. target following imm)
   pub not_taken : Opposite → GoesTo i s t written after
 

@@ -1,4 +1,5 @@
--- Division of whole numbers, as DIV and DIVU do it: the quotient goes to LO and the remainder to HI.
+-- Division of whole numbers, as DIV and DIVU do it: the quotient goes to LO and the remainder to
+-- HI.
 -- Source: Kane and Heinrich, MIPS RISC Architecture, appendix A (DIV, DIVU).
 use Rattle.std.specs.Prelude.{◌≡◌, ◌≢◌, ℕ, ◌-◌, ◌^◌, ◌<◌, ◌⊎◌, ℤ, pos, ◌+ℤ◌, ◌*ℤ◌, unsigned_abs, int_lt}
 use Rattle.mips_instruction.specs.declared.instruction.Ins.{Ins}
@@ -11,13 +12,15 @@ use Rattle.mips_laws.specs.Acts.{WritesOnly}
 abbrev pub HasSignOf : (other z : ℤ) → Type 0
 HasSignOf other z = (z ≡ pos 0) ⊎ (int_lt z (pos 0) ≡ int_lt other (pos 0))
 
--- quotient times divisor, plus remainder, is the dividend; the remainder is smaller in size than the divisor, and it is zero or has the dividend's sign
+-- quotient times divisor, plus remainder, is the dividend; the remainder is smaller in size than
+-- the divisor, and it is zero or has the dividend's sign
 pub record IsDivision (dividend divisor quotient remainder : ℤ) : Type 0 where
   pub whole : quotient *ℤ divisor +ℤ remainder ≡ dividend
   pub smaller : unsigned_abs remainder < unsigned_abs divisor
   pub sign : HasSignOf dividend remainder
 
--- the instruction leaves a remainder in HI and a quotient in LO, each of 32 bits, that divide one whole number by another, where the two cells stand for whole numbers so
+-- the instruction leaves a remainder in HI and a quotient in LO, each of 32 bits, that divide one
+-- whole number by another, where the two cells stand for whole numbers so
 pub record Divides (i : Ins) (s t : ℕ) (stands_for : ℕ → ℤ) : Type 0 where
   pub hi : ℕ
   pub lo : ℕ
@@ -33,7 +36,9 @@ pub record IsOverflowRow (s t : ℕ) : Type 0 where
 
 -- DIV divides signed numbers, but for a divisor 0 and the overflow row
 abbrev pub DivDivides : Type 0
-DivDivides = (rs rt s t : ℕ) → s < 2 ^ 32 → t < 2 ^ 32 → t ≢ 0 → ¬ IsOverflowRow s t → Divides (Div rs rt) s t signed
+DivDivides =
+    (rs rt s t : ℕ) → s < 2 ^ 32 → t < 2 ^ 32 → t ≢ 0 → ¬ IsOverflowRow s t
+    → Divides (Div rs rt) s t signed
 
 -- in the overflow row it leaves the dividend as the quotient, and the remainder 0
 abbrev pub DivOverflowRow : Type 0
@@ -43,10 +48,14 @@ DivOverflowRow = (rs rt s t : ℕ) → IsOverflowRow s t → WritesOnly (Div rs 
 abbrev pub DivuDivides : Type 0
 DivuDivides = (rs rt s t : ℕ) → s < 2 ^ 32 → t < 2 ^ 32 → t ≢ 0 → Divides (Divu rs rt) s t pos
 
--- a divisor 0 leaves the quotient 0 and the dividend as the remainder, in both: the manual leaves it open
+-- a divisor 0 leaves the quotient 0 and the dividend as the remainder, in both: the manual leaves
+-- it open
 abbrev pub ZeroDivides : Type 0
-ZeroDivides = (rs rt s : ℕ) → WritesOnly (Div rs rt) s 0 (writes.Pair s 0) × WritesOnly (Divu rs rt) s 0 (writes.Pair s 0)
+ZeroDivides =
+    (rs rt s : ℕ)
+    → WritesOnly (Div rs rt) s 0 (writes.Pair s 0) × WritesOnly (Divu rs rt) s 0 (writes.Pair s 0)
 
 -- two numbers have one quotient and one remainder
 abbrev pub DivisionIsOne : Type 0
-DivisionIsOne = (a d q r q' r' : ℤ) → IsDivision a d q r → IsDivision a d q' r' → (q ≡ q') × (r ≡ r')
+DivisionIsOne =
+    (a d q r q' r' : ℤ) → IsDivision a d q r → IsDivision a d q' r' → (q ≡ q') × (r ≡ r')

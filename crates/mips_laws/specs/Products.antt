@@ -1,4 +1,5 @@
--- Products of whole numbers, as MULT and MULTU make them: HI and LO are the high and the low half of one number of 64 bits.
+-- Products of whole numbers, as MULT and MULTU make them: HI and LO are the high and the low half
+-- of one number of 64 bits.
 -- Source: Kane and Heinrich, MIPS RISC Architecture, appendix A (MULT, MULTU).
 use Rattle.std.specs.Prelude.{◌≡◌, ℕ, ◌+◌, ◌*◌, ◌^◌, ◌<◌, nat_lt, ℤ, pos, ◌-ℤ◌, ◌*ℤ◌, if◌then◌else◌}
 use Rattle.mips_instruction.specs.declared.instruction.Ins.{Ins}
@@ -26,8 +27,11 @@ pub record Multiplies (i : Ins) (s t : ℕ) (stands_for : ℕ → ℤ) (product 
 
 -- MULT multiplies signed numbers: the product is whole in 64 signed bits
 abbrev pub MultMultiplies : Type 0
-MultMultiplies = (rs rt s t : ℕ) → s < 2 ^ 32 → t < 2 ^ 32 → Multiplies (Mult rs rt) s t signed_64 (signed s *ℤ signed t)
+MultMultiplies =
+    (rs rt s t : ℕ) → s < 2 ^ 32 → t < 2 ^ 32
+    → Multiplies (Mult rs rt) s t signed_64 (signed s *ℤ signed t)
 
 -- MULTU multiplies unsigned numbers
 abbrev pub MultuMultiplies : Type 0
-MultuMultiplies = (rs rt s t : ℕ) → s < 2 ^ 32 → t < 2 ^ 32 → Multiplies (Multu rs rt) s t pos (pos (s * t))
+MultuMultiplies =
+    (rs rt s t : ℕ) → s < 2 ^ 32 → t < 2 ^ 32 → Multiplies (Multu rs rt) s t pos (pos (s * t))

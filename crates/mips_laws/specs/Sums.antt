@@ -1,5 +1,7 @@
--- Sums and differences: ADDU, ADDIU and SUBU modulo 2^32, ADD, ADDI and SUB as whole numbers or Overflow.
--- Source: Kane and Heinrich, MIPS RISC Architecture, appendix A (ADD, ADDI, ADDIU, ADDU, SUB, SUBU).
+-- Sums and differences: ADDU, ADDIU and SUBU modulo 2^32, ADD, ADDI and SUB as whole numbers or
+-- Overflow.
+-- Source: Kane and Heinrich, MIPS RISC Architecture, appendix A (ADD, ADDI, ADDIU, ADDU, SUB,
+-- SUBU).
 use Rattle.std.specs.Prelude.{◌≡◌, ℕ, ◌+◌, ◌%◌, ◌^◌, ◌<◌, ℤ, pos, ◌+ℤ◌, ◌-ℤ◌, ◌≤ℤ◌, ◌<ℤ◌}
 use Rattle.mips_instruction.specs.declared.instruction.Ins.{Ins}
 use Rattle.mips_instruction.specs.declared.instruction.Ins.TheVariants.{Add, Addi, Addiu, Addu, Sub, Subu}
@@ -23,14 +25,16 @@ pub record SetsOrOverflows (i : Ins) (s t reg : ℕ) (value : ℤ) : Type 0 wher
   pub holds : IsSigned32 value → SetsSigned i s t reg value
   pub not_held : ¬ IsSigned32 value → Overflows i s t
 
--- ADD and SUB are the sum and the difference of signed numbers, and ADDI is the sum with its signed immediate
+-- ADD and SUB are the sum and the difference of signed numbers, and ADDI is the sum with its signed
+-- immediate
 abbrev pub SumsAreWhole : Type 0
 SumsAreWhole = (rd rs rt imm s t : ℕ) → s < 2 ^ 32 → t < 2 ^ 32 → imm < 2 ^ 16
     → SetsOrOverflows (Add rd rs rt) s t rd (signed s +ℤ signed t)
     × SetsOrOverflows (Sub rd rs rt) s t rd (signed s -ℤ signed t)
     × SetsOrOverflows (Addi rt rs imm) s t rt (signed s +ℤ signed_16 imm)
 
--- ADDU is the sum modulo 2^32, and ADDIU the sum with its immediate, extended by its sign to 32 bits
+-- ADDU is the sum modulo 2^32, and ADDIU the sum with its immediate, extended by its sign to 32
+-- bits
 abbrev pub AdduAddsModulo : Type 0
 AdduAddsModulo = (rd rs rt imm s t : ℕ) → s < 2 ^ 32 → imm < 2 ^ 16
     → SetsOnly (Addu rd rs rt) s t rd ((s + t) % 2 ^ 32)
@@ -44,4 +48,5 @@ pub record SetsDifference (i : Ins) (s t reg : ℕ) : Type 0 where
   pub number_is : (number + t) % 2 ^ 32 ≡ s
 
 abbrev pub SubuSubtractsModulo : Type 0
-SubuSubtractsModulo = (rd rs rt s t : ℕ) → s < 2 ^ 32 → t < 2 ^ 32 → SetsDifference (Subu rd rs rt) s t rd
+SubuSubtractsModulo =
+    (rd rs rt s t : ℕ) → s < 2 ^ 32 → t < 2 ^ 32 → SetsDifference (Subu rd rs rt) s t rd

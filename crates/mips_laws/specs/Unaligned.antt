@@ -1,4 +1,5 @@
--- An unaligned word, loaded and stored by its two halves. Words are big-endian: LWL and SWL name the first byte, LWR and SWR the last.
+-- An unaligned word, loaded and stored by its two halves. Words are big-endian: LWL and SWL name
+-- the first byte, LWR and SWR the last.
 -- Source: Kane and Heinrich, MIPS RISC Architecture, appendix A (LWL, LWR, SWL, SWR).
 use Rattle.std.specs.Prelude.{◌≡◌, ℕ, ◌+◌, ◌*◌, ◌%◌, ◌^◌, ◌<◌, ◌≤◌, ◌⊎◌, List, length, slice_index}
 use Rattle.mips_instruction.specs.declared.instruction.Ins.{Ins}
@@ -10,13 +11,17 @@ use Rattle.mips_laws.specs.Accesses.{IsMemory, LoadsOnly, StoresOnly}
 -- the first byte of a word is its highest; behind the last byte there are zeros
 abbrev pub WordsAreBigEndian : Type 0
 WordsAreBigEndian = (bytes : List ℕ) (address : ℕ)
-    → word_at bytes address ≡ slice_index bytes address * 2 ^ 24 + slice_index bytes (address + 1) * 2 ^ 16 + slice_index bytes (address + 2) * 2 ^ 8 + slice_index bytes (address + 3)
+    → word_at bytes address ≡ slice_index bytes address * 2 ^ 24 + slice_index bytes
+    (address + 1) * 2 ^ 16 + slice_index bytes (address + 2) * 2 ^ 8 + slice_index bytes
+    (address + 3)
 
--- new bytes differ from the old ones in the four of the word at an address alone, and stand there for a number
+-- new bytes differ from the old ones in the four of the word at an address alone, and stand there
+-- for a number
 pub record WritesWord (bytes new : List ℕ) (address number : ℕ) : Type 0 where
   pub size : length new ≡ length bytes
   pub word : word_at new address ≡ number
-  pub others : (place : ℕ) → (place < address) ⊎ (address + 4 ≤ place) → slice_index new place ≡ slice_index bytes place
+  pub others : (place : ℕ) → (place < address) ⊎ (address + 4 ≤ place)
+      → slice_index new place ≡ slice_index bytes place
 
 -- that is what the four bytes of a number, written at an address, are
 abbrev pub WrittenWordsAreAlone : Type 0
@@ -35,15 +40,18 @@ pub record LoadsByTwo (bytes : List ℕ) (one two : Ins) (s old reg value : ℕ)
   pub one_loads : LoadsOnly bytes one s old reg half
   pub two_loads : LoadsOnly bytes two s half reg value
 
--- LWL and LWR, in either order, load the word whose first byte is at the address, whatever the register had
+-- LWL and LWR, in either order, load the word whose first byte is at the address, whatever the
+-- register had
 abbrev pub HalvesLoadTheWord : Type 0
-HalvesLoadTheWord = (bytes : List ℕ) (rt rs first last s old address : ℕ) → IsMemory bytes → NamesWord s first last address
+HalvesLoadTheWord = (bytes : List ℕ) (rt rs first last s old address : ℕ) → IsMemory bytes
+    → NamesWord s first last address
     → LoadsByTwo bytes (Lwl rt first rs) (Lwr rt last rs) s old rt (word_at bytes address)
     × LoadsByTwo bytes (Lwr rt last rs) (Lwl rt first rs) s old rt (word_at bytes address)
 
 -- and so does LW by itself, where the address is a multiple of 4
 abbrev pub LwLoadsTheWord : Type 0
-LwLoadsTheWord = (bytes : List ℕ) (rt rs imm s old : ℕ) → plus_signed s imm + 4 ≤ private_size → plus_signed s imm % 4 ≡ 0
+LwLoadsTheWord = (bytes : List ℕ) (rt rs imm s old : ℕ) → plus_signed s imm + 4 ≤ private_size
+    → plus_signed s imm % 4 ≡ 0
     → LoadsOnly bytes (Lw rt imm rs) s old rt (word_at bytes (plus_signed s imm))
 
 -- two stores, one after the other, make memory so
@@ -54,11 +62,15 @@ pub record StoresByTwo (bytes : List ℕ) (one two : Ins) (s t : ℕ) (new : Lis
 
 -- SWL and SWR, in either order, write the four bytes of the word and no other
 abbrev pub HalvesStoreTheWord : Type 0
-HalvesStoreTheWord = (bytes : List ℕ) (rt rs first last s t address : ℕ) → IsMemory bytes → t < 2 ^ 32 → NamesWord s first last address
-    → StoresByTwo bytes (Swl rt first rs) (Swr rt last rs) s t (written_at bytes address (low_bytes 4 t))
-    × StoresByTwo bytes (Swr rt last rs) (Swl rt first rs) s t (written_at bytes address (low_bytes 4 t))
+HalvesStoreTheWord = (bytes : List ℕ) (rt rs first last s t address : ℕ) → IsMemory bytes
+    → t < 2 ^ 32 → NamesWord s first last address
+    → StoresByTwo bytes (Swl rt first rs) (Swr rt last rs) s t
+    (written_at bytes address (low_bytes 4 t))
+    × StoresByTwo bytes (Swr rt last rs) (Swl rt first rs) s t
+    (written_at bytes address (low_bytes 4 t))
 
 -- and so does SW by itself, where the address is a multiple of 4
 abbrev pub SwStoresTheWord : Type 0
-SwStoresTheWord = (bytes : List ℕ) (rt rs imm s t : ℕ) → plus_signed s imm + 4 ≤ private_size → plus_signed s imm % 4 ≡ 0
+SwStoresTheWord = (bytes : List ℕ) (rt rs imm s t : ℕ) → plus_signed s imm + 4 ≤ private_size
+    → plus_signed s imm % 4 ≡ 0
     → StoresOnly bytes (Sw rt imm rs) s t (written_at bytes (plus_signed s imm) (low_bytes 4 t))

@@ -7,50 +7,76 @@ use Rattle.mips_plain.specs.Memory.{low_bytes, written_at}
 use Rattle.mips_plain.proofs.Stores.{length-written_at, length-low_bytes}
 
 -- a byte that is used
-pub byte_used : (size : ℕ) (bytes : List ℕ) (i : ℕ) → i < length bytes → slice_index (filled size bytes) i ≡ slice_index bytes i
+pub byte_used : (size : ℕ) (bytes : List ℕ) (i : ℕ) → i < length bytes
+    → slice_index (filled size bytes) i ≡ slice_index bytes i
 byte_used size bytes i used = get_or_append_left bytes (replicate (size - length bytes) 0) 0 i used
 
 -- a byte behind those
-pub byte_unused : (size : ℕ) (bytes : List ℕ) (i : ℕ) → length bytes ≤ i → i < size → 0 ≡ slice_index (filled size bytes) i
+pub byte_unused : (size : ℕ) (bytes : List ℕ) (i : ℕ) → length bytes ≤ i → i < size
+    → 0 ≡ slice_index (filled size bytes) i
 byte_unused size bytes i past within =
-    sym (get_or-append_right bytes (replicate (size - length bytes) 0) (length bytes) i 0 refl past ∙ get_or-replicate (size - length bytes) (i - length bytes) 0 0 (omega arith))
+    sym (get_or-append_right bytes (replicate (size - length bytes) 0) (length bytes) i 0 refl past
+    ∙ get_or-replicate (size - length bytes) (i - length bytes) 0 0 (omega arith))
 
 -- zeros behind the bytes are there already
-filled_more : (size count : ℕ) (bytes : List ℕ) → count ≤ size → filled size (bytes ++ replicate (count - length bytes) 0) ≡ filled size bytes
+filled_more : (size count : ℕ) (bytes : List ℕ) → count ≤ size
+    → filled size (bytes ++ replicate (count - length bytes) 0) ≡ filled size bytes
 filled_more size count bytes le =
-    append_assoc bytes (replicate (count - length bytes) 0) (replicate (size - length (bytes ++ replicate (count - length bytes) 0)) 0)
-    ∙ ap (λ zeros. bytes ++ zeros) (replicate-append-replicate (count - length bytes) (size - length (bytes ++ replicate (count - length bytes) 0)) 0
-    ∙ ap (λ n. replicate n 0) (let l : length (bytes ++ replicate (count - length bytes) 0) ≡ length bytes + (count - length bytes) = simp (length-append, length-replicate) refl in omega arith))
+    append_assoc bytes (replicate (count - length bytes) 0)
+    (replicate (size - length (bytes ++ replicate (count - length bytes) 0)) 0)
+    ∙ ap (λ zeros. bytes ++ zeros) (replicate-append-replicate (count - length bytes)
+    (size - length (bytes ++ replicate (count - length bytes) 0)) 0
+    ∙ ap (λ n. replicate n 0) (let l : length (bytes ++ replicate (count - length bytes) 0) ≡ length
+    bytes + (count - length bytes) = simp (length-append, length-replicate) refl in omega arith))
 
 -- a store within the bytes that are used, seen with the zeros behind
-pub written_filled : (size address : ℕ) (bytes part : List ℕ) → address + length part ≤ length bytes → filled size (written_at bytes address part) ≡ written_at (filled size bytes) address part
+pub written_filled : (size address : ℕ) (bytes part : List ℕ) → address + length part ≤ length bytes
+    → filled size (written_at bytes address part) ≡ written_at (filled size bytes) address part
 written_filled size address bytes part within =
     let zeros : List ℕ = replicate (size - length bytes) 0 in
-    ap (λ n. written_at bytes address part ++ replicate (size - n) 0) (length-written_at bytes address part within)
+    ap (λ n. written_at bytes address part ++ replicate (size - n) 0)
+    (length-written_at bytes address part within)
     ∙ append_assoc (take address bytes) (part ++ drop (address + length part) bytes) zeros
-    ∙ same_at_both (λ front back. front ++ back) (sym (take-append-le address bytes zeros (omega arith)))
-    (append_assoc part (drop (address + length part) bytes) zeros ∙ ap (λ rest. part ++ rest) (sym (drop-append-le (address + length part) bytes zeros within)))
+    ∙ same_at_both (λ front back. front ++ back)
+    (sym (take-append-le address bytes zeros (omega arith)))
+    (append_assoc part (drop (address + length part) bytes) zeros ∙ ap (λ rest. part ++ rest)
+    (sym (drop-append-le (address + length part) bytes zeros within)))
 
 -- a store, after zeros were put behind the bytes as far as it goes
-pub stored : (size address count : ℕ) (bytes part : List ℕ) → length part ≡ count → address + count ≤ size → filled size (written_at (bytes ++ replicate (address + count - length bytes) 0) address part) ≡ written_at (filled size bytes) address part
+pub stored : (size address count : ℕ) (bytes part : List ℕ) → length part ≡ count
+    → address + count ≤ size
+    → filled size (written_at (bytes ++ replicate (address + count - length bytes) 0) address part)
+    ≡ written_at (filled size bytes) address part
 stored size address count bytes part long fits =
     let more : List ℕ = bytes ++ replicate (address + count - length bytes) 0 in
-    written_filled size address more part (let l : length more ≡ length bytes + (address + count - length bytes) = simp (length-append, length-replicate) refl in omega arith)
+    written_filled size address more part
+    (let l : length more ≡ length bytes + (address + count - length bytes) =
+    simp (length-append, length-replicate) refl in omega arith)
     ∙ ap (λ all. written_at all address part) (filled_more size (address + count) bytes fits)
 
-next_byte : (bytes : List ℕ) (i j : ℕ) → i + 1 ≡ j → j < length bytes → drop (i + 1) bytes ≡ slice_index bytes j ∷ drop (j + 1) bytes
+next_byte : (bytes : List ℕ) (i j : ℕ) → i + 1 ≡ j → j < length bytes
+    → drop (i + 1) bytes ≡ slice_index bytes j ∷ drop (j + 1) bytes
 next_byte bytes i j next small = ap (λ k. drop k bytes) next ∙ drop_more bytes j 0 small
 
 -- a word is its four bytes
-pub word_bytes : (bytes : List ℕ) (a : ℕ) → a + 4 ≤ length bytes → take 4 (drop a bytes) ≡ slice_index bytes a ∷ slice_index bytes (a + 1) ∷ slice_index bytes (a + 2) ∷ slice_index bytes (a + 3) ∷ []
+pub word_bytes : (bytes : List ℕ) (a : ℕ) → a + 4 ≤ length bytes
+    → take 4 (drop a bytes) ≡ slice_index bytes a ∷ slice_index bytes (a + 1) ∷ slice_index bytes
+    (a + 2) ∷ slice_index bytes (a + 3) ∷ []
 word_bytes bytes a within =
     ap (take 4) (drop_more bytes a 0 (omega arith))
-    ∙ ap (λ r. take 4 (slice_index bytes a ∷ r)) (next_byte bytes a (a + 1) (omega arith) (omega arith))
-    ∙ ap (λ r. take 4 (slice_index bytes a ∷ slice_index bytes (a + 1) ∷ r)) (next_byte bytes (a + 1) (a + 2) (omega arith) (omega arith))
-    ∙ ap (λ r. take 4 (slice_index bytes a ∷ slice_index bytes (a + 1) ∷ slice_index bytes (a + 2) ∷ r)) (next_byte bytes (a + 2) (a + 3) (omega arith) (omega arith))
+    ∙ ap (λ r. take 4 (slice_index bytes a ∷ r)) (next_byte bytes a (a + 1) (omega arith)
+    (omega arith))
+    ∙ ap (λ r. take 4 (slice_index bytes a ∷ slice_index bytes (a + 1) ∷ r))
+    (next_byte bytes (a + 1) (a + 2) (omega arith) (omega arith))
+    ∙ ap (λ r. take 4 (slice_index bytes a ∷ slice_index bytes (a + 1) ∷ slice_index bytes (a + 2)
+    ∷ r)) (next_byte bytes (a + 2) (a + 3) (omega arith) (omega arith))
 
 -- a store of the low bytes of a word, where names stand for the lists
-pub stored_as : (size address count value used : ℕ) (old more new : List ℕ) → used ≡ length old → more ≡ old ++ replicate (address + count - used) 0 → new ≡ written_at more address (low_bytes count value) → count ≤ 4 → address + count ≤ size → filled size new ≡ written_at (filled size old) address (low_bytes count value)
+pub stored_as : (size address count value used : ℕ) (old more new : List ℕ) → used ≡ length old
+    → more ≡ old ++ replicate (address + count - used) 0
+    → new ≡ written_at more address (low_bytes count value) → count ≤ 4 → address + count ≤ size
+    → filled size new ≡ written_at (filled size old) address (low_bytes count value)
 stored_as size address count value used old more new is reached put few fits =
-    ap (filled size) (put ∙ ap (λ all. written_at all address (low_bytes count value)) (reached ∙ ap (λ n. old ++ replicate (address + count - n) 0) is))
+    ap (filled size) (put ∙ ap (λ all. written_at all address (low_bytes count value))
+    (reached ∙ ap (λ n. old ++ replicate (address + count - n) 0) is))
     ∙ stored size address count old (low_bytes count value) (length-low_bytes count value few) fits

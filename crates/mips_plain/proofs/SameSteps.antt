@@ -63,13 +63,24 @@ all_met a b c d e f g met =
 
 -- the step of these fields
 abbrev step_of : ℕ → ℕ → Writes → Stored → Received → Released → StepEnd → Step
-step_of pc npc written kept got given last = record { pc = pc; npc = npc; writes = written; stored = kept; received = got; released = given; end = last }
+step_of pc npc written kept got given last = record {
+  pc = pc;
+  npc = npc;
+  writes = written;
+  stored =
+      kept;
+  received = got;
+  released = given;
+  end = last;
+}
 
 -- each field is equal, so the steps are
 pub same_step-equal : (a b : Step) → same_step a b ≡ true → a ≡ b
 unfolding same_step
 same_step-equal a b same =
-    let met = all_met (a.pc == b.pc) (a.npc == b.npc) (same_writes a.writes b.writes) (same_stored a.stored b.stored) (same_received a.received b.received) (same_released a.released b.released) (same_end a.end b.end) same in
+    let met = all_met (a.pc == b.pc) (a.npc == b.npc) (same_writes a.writes b.writes)
+    (same_stored a.stored b.stored) (same_received a.received b.received)
+    (same_released a.released b.released) (same_end a.end b.end) same in
     let pc : a.pc ≡ b.pc = grind (arith, nat_tests, met.0) in
     let npc : a.npc ≡ b.npc = grind (arith, nat_tests, met.1) in
     let written = writes-equal a.writes b.writes met.2 in
@@ -77,5 +88,6 @@ same_step-equal a b same =
     let got = received-equal a.received b.received met.4 in
     let given = released-equal a.released b.released met.5 in
     let last = end-equal a.end b.end met.6 in
-    let equal : step_of a.pc a.npc a.writes a.stored a.received a.released a.end ≡ step_of b.pc b.npc b.writes b.stored b.received b.released b.end = cc in
+    let equal : step_of a.pc a.npc a.writes a.stored a.received a.released a.end ≡ step_of b.pc
+    b.npc b.writes b.stored b.received b.released b.end = cc in
     equal

@@ -10,11 +10,14 @@ pub length-low_bytes : (count value : ℕ) → count ≤ 4 → length (low_bytes
 length-low_bytes count value few = simp length-drop (omega arith)
 
 -- bytes written within a memory
-pub length-written_at : (bytes : List ℕ) (address : ℕ) (part : List ℕ) → address + length part ≤ length bytes → length (written_at bytes address part) ≡ length bytes
-length-written_at bytes address part fits = simp (length-append, length-take, length-drop) (omega arith)
+pub length-written_at : (bytes : List ℕ) (address : ℕ) (part : List ℕ)
+    → address + length part ≤ length bytes → length (written_at bytes address part) ≡ length bytes
+length-written_at bytes address part fits =
+    simp (length-append, length-take, length-drop) (omega arith)
 
 -- a store in range
-pub length-stored_in : (bytes : List ℕ) (kept : Stored) → IsPrivate kept → length bytes ≡ private_size → length (stored_in bytes kept) ≡ private_size
+pub length-stored_in : (bytes : List ℕ) (kept : Stored) → IsPrivate kept
+    → length bytes ≡ private_size → length (stored_in bytes kept) ≡ private_size
 length-stored_in bytes stored.Nothing private whole = whole
 length-stored_in bytes (stored.Bytes address count value) private whole =
     let size = length-low_bytes count value private.1 in

@@ -23,7 +23,8 @@ given_of (received.Signal n) = given.Signal n
 abbrev pub Reaches : State → List Step → State → Type 0
 Reaches p [] q = q ≡ p
 Reaches p (step ∷ steps) q =
-    ((plain p (given_of step.received)).0 ≡ Did step) × Reaches (plain p (given_of step.received)).1 steps q
+    ((plain p (given_of step.received)).0 ≡ Did step) × Reaches (plain p (given_of step.received)).1
+    steps q
 
 -- the answer is this step
 abbrev pub is_step : Step → PlainStep → Bool
@@ -51,12 +52,18 @@ pub record DepartsAt (p : State) (steps : List Step) (place : ℕ) : Type 0 wher
 
 -- the steps of each run follow, all of them
 abbrev pub RunsFollow : Type 0
-RunsFollow = (p : State) (steps : List Step) (q : State) → Reaches p steps q → verdict_from p steps 0 ≡ Follows (length steps)
+RunsFollow =
+    (p : State) (steps : List Step) (q : State) → Reaches p steps q
+    → verdict_from p steps 0 ≡ Follows (length steps)
 
 -- steps that follow are a run, and all are counted
 abbrev pub FollowersRun : Type 0
-FollowersRun = (p : State) (steps : List Step) (n : ℕ) → verdict_from p steps 0 ≡ Follows n → (n ≡ length steps) × ((q : State) × Reaches p steps q)
+FollowersRun =
+    (p : State) (steps : List Step) (n : ℕ) → verdict_from p steps 0 ≡ Follows n
+    → (n ≡ length steps) × ((q : State) × Reaches p steps q)
 
 -- steps that depart do so at the first step that the plain machine doesn't do
 abbrev pub OthersDepart : Type 0
-OthersDepart = (p : State) (steps : List Step) (n : ℕ) → verdict_from p steps 0 ≡ Departs n → DepartsAt p steps n
+OthersDepart =
+    (p : State) (steps : List Step) (n : ℕ) → verdict_from p steps 0 ≡ Departs n
+    → DepartsAt p steps n

@@ -12,7 +12,8 @@ use Rattle.mips_plain.specs.Memory.{private_size}
 -- 1 to 4 bytes are stored, within private memory
 abbrev pub IsPrivate : Stored → Type 0
 IsPrivate stored.Nothing = Unit {0}
-IsPrivate (stored.Bytes address count value) = (1 ≤ count) × (count ≤ 4) × (address + count ≤ private_size)
+IsPrivate (stored.Bytes address count value) =
+    (1 ≤ count) × (count ≤ 4) × (address + count ≤ private_size)
 
 -- a released cell is $1 to $31
 abbrev pub IsLent : Released → Type 0

@@ -1,4 +1,5 @@
--- What the instruction at a place of private memory comes to, for whoever tells what is seen in the cells.
+-- What the instruction at a place of private memory comes to, for whoever tells what is seen in the
+-- cells.
 use Rattle.std.specs.Prelude.{ℕ, ◌-◌, ◌%◌, ◌==◌, ◌&&◌, nat_lt, nat_le, not, is_none, Bool, true, false, List, Option, Some, None, Result, Ok, Err, if◌then◌else◌}
 use Rattle.mips_instruction.specs.declared.instruction.Ins.{Ins}
 use Rattle.mips_instruction.specs.Words.{read}
@@ -30,9 +31,11 @@ instruction_or_fault (Some ins) = Ok ins
 
 -- the instruction at an address
 unfoldable pub instruction_in : List ℕ → ℕ → Result Ins OwnFault
-instruction_in bytes pc = if is_code pc then instruction_or_fault (read (word_at bytes pc)) else Err fault.Address
+instruction_in bytes pc =
+    if is_code pc then instruction_or_fault (read (word_at bytes pc)) else Err fault.Address
 
--- the return from a signal goes to the pair that was kept, and is Reserved where none was; every other effect is as it is
+-- the return from a signal goes to the pair that was kept, and is Reserved where none was; every
+-- other effect is as it is
 abbrev pub returns_to : Option (ℕ × ℕ) → Effect → Result Effect OwnFault
 returns_to None effect = Err fault.Reserved
 returns_to (Some pair) effect = Ok (record effect { pc = pair.0; npc = pair.1 })
@@ -45,10 +48,15 @@ abbrev pub with_kept_pair : Option (ℕ × ℕ) → Result Effect OwnFault → R
 with_kept_pair kept (Err fault) = Err fault
 with_kept_pair kept (Ok effect) = with_return kept effect effect.wish
 
--- what a fetched instruction comes to at a pair, where a signal kept a pair or none: its effect, or an own fault
-abbrev pub effect_at : (ℕ → Seen) → Option (ℕ × ℕ) → Result Ins OwnFault → ℕ → ℕ → Result Effect OwnFault
+-- what a fetched instruction comes to at a pair, where a signal kept a pair or none: its effect, or
+-- an own fault
+abbrev pub effect_at : (ℕ → Seen) → Option (ℕ × ℕ) → Result Ins OwnFault → ℕ → ℕ
+    → Result Effect OwnFault
 effect_at see kept (Err fault) pc npc = Err fault
-effect_at see kept (Ok ins) pc npc = with_kept_pair kept (effect_of ins Guest (see (sources_of ins).0) (see (sources_of ins).1) (see (sources_of ins).2) pc npc)
+effect_at see kept (Ok ins) pc npc =
+    with_kept_pair kept
+    (effect_of ins Guest (see (sources_of ins).0) (see (sources_of ins).1)
+    (see (sources_of ins).2) pc npc)
 
 -- the handler, and the kept pair, after a wish
 abbrev pub handler_after : ℕ → Wish → ℕ
@@ -69,7 +77,16 @@ is_signal n = nat_le 1 n && nat_le n 63
 
 -- the step of a signal that is delivered at a pair
 abbrev pub signal_step : ℕ → ℕ → ℕ → Step
-signal_step pc npc n = record { pc = pc; npc = npc; writes = writes.One 26 n; stored = stored.Nothing; received = received.Signal n; released = released.Nothing; end = ended.Goes }
+signal_step pc npc n = record {
+  pc = pc;
+  npc = npc;
+  writes = writes.One 26 n;
+  stored =
+      stored.Nothing;
+  received = received.Signal n;
+  released = released.Nothing;
+  end = ended.Goes;
+}
 
 -- it takes a value from outside
 abbrev pub receives_value : Wish → Bool
@@ -82,21 +99,151 @@ abbrev pub word_for : List ℕ → Wish → ℕ
 word_for bytes (wish.Load reg address kind old) = word_at bytes (address - address % 4)
 word_for bytes other = 0
 
--- the step of a wish at a pair, of the word that it loads, where a value was received; a wish that never comes to a guest makes the step of none
+-- the step of a wish at a pair, of the word that it loads, where a value was received; a wish that
+-- never comes to a guest makes the step of none
 abbrev pub step_of_wish : ℕ → ℕ → Writes → Wish → ℕ → ℕ → Step
-step_of_wish pc npc written wish.Nothing word got = record { pc = pc; npc = npc; writes = written; stored = stored.Nothing; received = received.Nothing; released = released.Nothing; end = ended.Goes }
-step_of_wish pc npc written (wish.Load reg address kind old) word got = record { pc = pc; npc = npc; writes = set reg (merge_of kind old address word); stored = stored.Nothing; received = received.Nothing; released = released.Nothing; end = ended.Goes }
-step_of_wish pc npc written (wish.Store address count value) word got = record { pc = pc; npc = npc; writes = written; stored = stored.Bytes address count value; received = received.Nothing; released = released.Nothing; end = ended.Goes }
-step_of_wish pc npc written (wish.Release reg value) word got = record { pc = pc; npc = npc; writes = written; stored = stored.Nothing; received = received.Nothing; released = released.Cell reg value; end = ended.Goes }
-step_of_wish pc npc written (wish.Receive reg from) word got = record { pc = pc; npc = npc; writes = set reg got; stored = stored.Nothing; received = received.Cell got; released = released.Nothing; end = ended.Goes }
-step_of_wish pc npc written (wish.NullLoad reg address) word got = record { pc = pc; npc = npc; writes = set reg got; stored = stored.Nothing; received = received.Null address got; released = released.Nothing; end = ended.Goes }
-step_of_wish pc npc written (wish.NullStore address value) word got = record { pc = pc; npc = npc; writes = written; stored = stored.Nothing; received = received.Nothing; released = released.Null address value; end = ended.Goes }
-step_of_wish pc npc written (wish.Hand address) word got = record { pc = pc; npc = npc; writes = written; stored = stored.Nothing; received = received.Nothing; released = released.Nothing; end = ended.Goes }
-step_of_wish pc npc written wish.SigRet word got = record { pc = pc; npc = npc; writes = written; stored = stored.Nothing; received = received.Nothing; released = released.Nothing; end = ended.Goes }
-step_of_wish pc npc written wish.Exit word got = record { pc = pc; npc = npc; writes = written; stored = stored.Nothing; received = received.Nothing; released = released.Nothing; end = ended.Exit }
-step_of_wish pc npc written (wish.Call code) word got = record { pc = pc; npc = npc; writes = written; stored = stored.Nothing; received = received.Nothing; released = released.Nothing; end = ended.Call code }
-step_of_wish pc npc written (wish.Do operation) word got = record { pc = pc; npc = npc; writes = written; stored = stored.Nothing; received = received.Nothing; released = released.Nothing; end = ended.Goes }
-step_of_wish pc npc written (wish.Ask reg what) word got = record { pc = pc; npc = npc; writes = written; stored = stored.Nothing; received = received.Nothing; released = released.Nothing; end = ended.Goes }
+step_of_wish pc npc written wish.Nothing word got = record {
+  pc = pc;
+  npc = npc;
+  writes =
+      written;
+  stored = stored.Nothing;
+  received = received.Nothing;
+  released = released.Nothing;
+  end =
+      ended.Goes;
+}
+step_of_wish pc npc written (wish.Load reg address kind old) word got =
+    record {
+      pc = pc;
+      npc = npc;
+      writes = set reg (merge_of kind old address word);
+      stored =
+          stored.Nothing;
+      received = received.Nothing;
+      released = released.Nothing;
+      end = ended.Goes;
+    }
+step_of_wish pc npc written (wish.Store address count value) word got =
+    record {
+      pc = pc;
+      npc = npc;
+      writes = written;
+      stored = stored.Bytes address count value;
+      received = received.Nothing;
+      released = released.Nothing;
+      end = ended.Goes;
+    }
+step_of_wish pc npc written (wish.Release reg value) word got =
+    record {
+      pc = pc;
+      npc = npc;
+      writes = written;
+      stored = stored.Nothing;
+      received =
+          received.Nothing;
+      released = released.Cell reg value;
+      end = ended.Goes;
+    }
+step_of_wish pc npc written (wish.Receive reg from) word got = record {
+  pc = pc;
+  npc = npc;
+  writes =
+      set reg got;
+  stored = stored.Nothing;
+  received = received.Cell got;
+  released =
+      released.Nothing;
+  end = ended.Goes;
+}
+step_of_wish pc npc written (wish.NullLoad reg address) word got =
+    record {
+      pc = pc;
+      npc = npc;
+      writes = set reg got;
+      stored = stored.Nothing;
+      received =
+          received.Null address got;
+      released = released.Nothing;
+      end = ended.Goes;
+    }
+step_of_wish pc npc written (wish.NullStore address value) word got =
+    record {
+      pc = pc;
+      npc = npc;
+      writes = written;
+      stored = stored.Nothing;
+      received =
+          received.Nothing;
+      released = released.Null address value;
+      end = ended.Goes;
+    }
+step_of_wish pc npc written (wish.Hand address) word got = record {
+  pc = pc;
+  npc = npc;
+  writes =
+      written;
+  stored = stored.Nothing;
+  received = received.Nothing;
+  released = released.Nothing;
+  end =
+      ended.Goes;
+}
+step_of_wish pc npc written wish.SigRet word got = record {
+  pc = pc;
+  npc = npc;
+  writes =
+      written;
+  stored = stored.Nothing;
+  received = received.Nothing;
+  released = released.Nothing;
+  end =
+      ended.Goes;
+}
+step_of_wish pc npc written wish.Exit word got = record {
+  pc = pc;
+  npc = npc;
+  writes =
+      written;
+  stored = stored.Nothing;
+  received = received.Nothing;
+  released = released.Nothing;
+  end =
+      ended.Exit;
+}
+step_of_wish pc npc written (wish.Call code) word got = record {
+  pc = pc;
+  npc = npc;
+  writes =
+      written;
+  stored = stored.Nothing;
+  received = received.Nothing;
+  released = released.Nothing;
+  end =
+      ended.Call code;
+}
+step_of_wish pc npc written (wish.Do operation) word got = record {
+  pc = pc;
+  npc = npc;
+  writes =
+      written;
+  stored = stored.Nothing;
+  received = received.Nothing;
+  released = released.Nothing;
+  end =
+      ended.Goes;
+}
+step_of_wish pc npc written (wish.Ask reg what) word got = record {
+  pc = pc;
+  npc = npc;
+  writes =
+      written;
+  stored = stored.Nothing;
+  received = received.Nothing;
+  released = released.Nothing;
+  end =
+      ended.Goes;
+}
 
 -- the step that an effect makes
 unfoldable pub step_made : ℕ → ℕ → Effect → ℕ → ℕ → Step

@@ -1,4 +1,5 @@
--- The plain machine: a program run alone, with nothing around it. There are no tags, keys, lines, pages or kernel in it.
+-- The plain machine: a program run alone, with nothing around it. There are no tags, keys, lines,
+-- pages or kernel in it.
 use Rattle.std.specs.Prelude.{ℕ, ◌+◌, ◌%◌, ◌^◌, ◌==◌, ◌&&◌, Bool, true, false, List, Option, Some, None, Result, Ok, Err, replicate, slice_set, slice_index_or, if◌then◌else◌}
 use Rattle.xom_base.specs.Padded.{filled}
 use Rattle.xom_base.specs.declared.event.OwnFault.{OwnFault}
@@ -35,7 +36,16 @@ pub record State : Type 0 where
 
 -- an image's program before its first step
 unfoldable pub start : PlainImage → State
-start image = record { cells = replicate 34 Lent; pc = image.entry; npc = image.entry + 4; bytes = filled private_size image.bytes; handler = 0; kept = None; over = false }
+start image = record {
+  cells = replicate 34 Lent;
+  pc = image.entry;
+  npc = image.entry + 4;
+  bytes =
+      filled private_size image.bytes;
+  handler = 0;
+  kept = None;
+  over = false;
+}
 
 -- the cell of a register
 abbrev pub cell_at : List PlainCell → ℕ → PlainCell
@@ -79,26 +89,40 @@ state_after_step s effect step = record {
 
 -- the step of an effect is done, where a value was received
 abbrev pub step_done : State → Effect → ℕ → PlainStep × State
-step_done s effect got =
-    (Did (step_made s.pc s.npc effect (word_for s.bytes effect.wish) got), state_after_step s effect (step_made s.pc s.npc effect (word_for s.bytes effect.wish) got))
+step_done s effect got = (
+  Did (step_made s.pc s.npc effect (word_for s.bytes effect.wish) got),
+  state_after_step s effect
+      (step_made s.pc s.npc effect (word_for s.bytes effect.wish) got),
+)
 
 -- the state after a signal: the pair is kept, and the program goes on at its handler
 abbrev pub state_after_signal : State → ℕ → State
-state_after_signal s n = record s { cells = with_owned s.cells (writes.One 26 n); pc = s.handler; npc = (s.handler + 4) % 2 ^ 32; kept = Some (s.pc, s.npc) }
+state_after_signal s n = record s {
+  cells = with_owned s.cells (writes.One 26 n);
+  pc =
+      s.handler;
+  npc = (s.handler + 4) % 2 ^ 32;
+  kept = Some (s.pc, s.npc);
+}
 
 abbrev pub signal_answered : State → ℕ → PlainStep × State
-signal_answered s n = if is_signal n && is_signal_ready s.handler s.kept then (Did (signal_step s.pc s.npc n), state_after_signal s n) else (Unfit, s)
+signal_answered s n =
+    if is_signal n && is_signal_ready s.handler s.kept
+    then (Did (signal_step s.pc s.npc n), state_after_signal s n) else (Unfit, s)
 
 -- an own fault comes before what is given is looked at, but for a signal; what is given has to fit
 abbrev pub answer_to : State → Given → Result Effect OwnFault → PlainStep × State
 answer_to s (given.Signal n) result = signal_answered s n
 answer_to s given.Nothing (Err fault) = (Fault fault, s)
-answer_to s given.Nothing (Ok effect) = if receives_value effect.wish then (Unfit, s) else step_done s effect 0
+answer_to s given.Nothing (Ok effect) =
+    if receives_value effect.wish then (Unfit, s) else step_done s effect 0
 answer_to s (given.Value value) (Err fault) = (Fault fault, s)
-answer_to s (given.Value value) (Ok effect) = if receives_value effect.wish then step_done s effect value else (Unfit, s)
+answer_to s (given.Value value) (Ok effect) =
+    if receives_value effect.wish then step_done s effect value else (Unfit, s)
 
 -- one step of the plain machine, given a value, a signal or nothing
 unfoldable pub plain : State → Given → PlainStep × State
 plain s given =
     if s.over then (Over, s)
-    else answer_to s given (effect_at (seen_of_cell s.cells) s.kept (instruction_in s.bytes s.pc) s.pc s.npc)
+    else answer_to s given (effect_at (seen_of_cell s.cells) s.kept (instruction_in s.bytes s.pc)
+    s.pc s.npc)

@@ -27,4 +27,5 @@ low_bytes count value = drop (4 - count) (to_be_bytes w32 value)
 -- memory after what a step stored
 abbrev pub stored_in : List ℕ → Stored → List ℕ
 stored_in bytes stored.Nothing = bytes
-stored_in bytes (stored.Bytes address count value) = written_at bytes address (low_bytes count value)
+stored_in bytes (stored.Bytes address count value) =
+    written_at bytes address (low_bytes count value)

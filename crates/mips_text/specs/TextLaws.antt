@@ -6,11 +6,13 @@ use Rattle.mips_forms.specs.declared.operand.Operand.{Operand}
 use Rattle.mips_forms.specs.Forms.{kind_of, base_of, InRange}
 use Rattle.mips_text.specs.Texts.{value_of, text_of, word_text, address_text}
 
--- two operands of one kind that fit their fields are the same where their numbers are, at one address,
+-- two operands of one kind that fit their fields are the same where their numbers are, at one
+-- address,
 -- and, of offsets, the base registers
 abbrev pub ValuesDiffer : Type 0
 ValuesDiffer =
-    (pc : ℕ) (a b : Operand) → kind_of a ≡ kind_of b → InRange a → InRange b → value_of pc a ≡ value_of pc b → base_of a ≡ base_of b → a ≡ b
+    (pc : ℕ) (a b : Operand) → kind_of a ≡ kind_of b → InRange a → InRange b
+    → value_of pc a ≡ value_of pc b → base_of a ≡ base_of b → a ≡ b
 
 -- the word of an instruction is listed by the instruction's text, and a reserved word by its digits
 abbrev pub WordsAreListed : Type 0

@@ -1,4 +1,5 @@
--- Instructions and images as text. Numbers are printed in decimal, with a sign where they have one, and
+-- Instructions and images as text. Numbers are printed in decimal, with a sign where they have one,
+-- and
 -- addresses and words in hexadecimal; the layout of a listing is this project's own.
 use Rattle.std.specs.Prelude.{ℕ, zero, suc, ◌+◌, ◌*◌, ◌/◌, List, [], ◌∷◌, ◌++◌, length, map, codes, Option, Some, None, slice_index, ℤ, pos}
 use Rattle.std.specs.Fmt.{decimal, signed_decimal}
@@ -11,7 +12,8 @@ use Rattle.mips_forms.specs.declared.operand.Operand.{Operand}
 use Rattle.mips_forms.specs.declared.operand.Operand.TheVariants.{Register, Shift, Signed, Unsigned, Code, Branch, Jump, Offset}
 use Rattle.mips_forms.specs.Forms.{form_of}
 
--- The number that stands for an operand in the text of the instruction at an address: a target is an
+-- The number that stands for an operand in the text of the instruction at an address: a target is
+-- an
 -- address, reckoned as the instruction itself does from the address after its own.
 abbrev pub value_of : ℕ → Operand → ℤ
 value_of pc (Register reg) = pos reg
@@ -31,7 +33,8 @@ address_text address = codes "0x" ++ hex8 address
 
 -- an offset, and its base register in parentheses
 abbrev pub offset_text : (imm base : ℕ) → List ℕ
-offset_text imm base = signed_decimal (signed_16 imm) ++ (codes "(" ++ (register_text base ++ codes ")"))
+offset_text imm base =
+    signed_decimal (signed_16 imm) ++ (codes "(" ++ (register_text base ++ codes ")"))
 
 abbrev pub operand_text : ℕ → Operand → List ℕ
 operand_text pc (Register reg) = register_text reg
@@ -63,7 +66,8 @@ text_of ins pc = (form_of ins).0 ++ operands_text (map (operand_text pc) (form_o
 -- the word at an address of an image; what is behind its bytes counts as zero
 abbrev pub word_at : List ℕ → ℕ → ℕ
 word_at bytes address =
-    from_be_bytes w32 (slice_index bytes address ∷ slice_index bytes (address + 1) ∷ slice_index bytes (address + 2) ∷ slice_index bytes (address + 3) ∷ [])
+    from_be_bytes w32 (slice_index bytes address ∷ slice_index bytes (address + 1)
+    ∷ slice_index bytes (address + 2) ∷ slice_index bytes (address + 3) ∷ [])
 
 -- the instruction that was read of a word, or the word itself where it is reserved
 abbrev pub read_text : Option Ins → (word pc : ℕ) → List ℕ
@@ -75,7 +79,8 @@ word_text word pc = read_text (read word) word pc
 
 -- a line: the address, the word, and what it stands for
 unfoldable pub line_of : (address word : ℕ) → List ℕ
-line_of address word = hex8 address ++ (codes " " ++ (hex8 word ++ (codes " " ++ (word_text word address ++ 10 ∷ []))))
+line_of address word =
+    hex8 address ++ (codes " " ++ (hex8 word ++ (codes " " ++ (word_text word address ++ 10 ∷ []))))
 
 -- the lines of so many words of an image, from its start
 abbrev pub lines_of : List ℕ → ℕ → List ℕ

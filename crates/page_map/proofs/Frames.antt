@@ -22,11 +22,13 @@ nothing_mapped_is_map = record {
   slots = length-replicate 17 no_pages;
   pages_of = λ slot. elim (cases_lt slot 17) [
     | inl within ↦ ap length (get_or-replicate 17 slot no_pages no_pages within) ∙ no_pages-length
-    | inr past ↦ ap length (get_or_past nothing_mapped slot no_pages (let size = length-replicate 17 no_pages in omega arith)) ∙ no_pages-length
+    | inr past ↦ ap length (get_or_past nothing_mapped slot no_pages (let size =
+        length-replicate 17 no_pages in omega arith)) ∙ no_pages-length
   ];
 }
 
-module _ (pages : Pages) (sound : IsPageMap pages) (slot : ℕ) (known : slot ≤ 16) (own : List (Option ℕ)) where
+module _ (pages : Pages) (sound : IsPageMap pages) (slot : ℕ) (known : slot ≤ 16)
+    (own : List (Option ℕ)) where
   abbrev new : Pages
   new = slice_set pages slot own
 
@@ -45,9 +47,12 @@ module _ (pages : Pages) (sound : IsPageMap pages) (slot : ℕ) (known : slot �
     ];
   }
 
-module _ (pages : Pages) (sound : IsPageMap pages) (slot page : ℕ) (known : slot ≤ 16) (inside : page < 256) (frame : Option ℕ) where
+module _ (pages : Pages) (sound : IsPageMap pages) (slot page : ℕ) (known : slot ≤ 16)
+    (inside : page < 256) (frame : Option ℕ) where
   pub with_page_is_map : IsPageMap (with_page pages slot page frame)
-  with_page_is_map = set_is_map pages sound slot known _ (length-set (pages_at pages slot) page frame ∙ sound.pages_of slot)
+  with_page_is_map =
+      set_is_map pages sound slot known _
+      (length-set (pages_at pages slot) page frame ∙ sound.pages_of slot)
 
   abbrev own : List (Option ℕ)
   own = slice_set (pages_at pages slot) page frame
@@ -55,7 +60,8 @@ module _ (pages : Pages) (sound : IsPageMap pages) (slot page : ℕ) (known : sl
   pub changes_page : ChangesPage pages (with_page pages slot page frame) slot page frame
   changes_page = record {
     this_page = ap (λ ps. get_or ps page None) (here pages sound slot known own)
-        ∙ get_or-set_same (pages_at pages slot) page frame None (let size = sound.pages_of slot in omega arith);
+        ∙ get_or-set_same (pages_at pages slot) page frame None (let size = sound.pages_of slot in
+        omega arith);
     other_pages = λ who other differs. elim (eqb_tells who slot) [
       | inl same ↦
           ap (λ n. frame_of (with_page pages slot page frame) n other) same.1
@@ -72,11 +78,14 @@ module _ (pages : Pages) (sound : IsPageMap pages) (slot : ℕ) (known : slot �
 
   pub drops_pages : DropsPages pages (without_pages pages slot) slot
   drops_pages = record {
-    none = λ page. ap (λ ps. get_or ps page None) (here pages sound slot known no_pages) ∙ no_frame page;
-    other_slots = λ other page differs. ap (λ ps. get_or ps page None) (there pages sound slot known no_pages other differs);
+    none = λ page. ap (λ ps. get_or ps page None) (here pages sound slot known no_pages)
+        ∙ no_frame page;
+    other_slots = λ other page differs. ap (λ ps. get_or ps page None)
+        (there pages sound slot known no_pages other differs);
   }
 
-pub dropped : (opened pages : Pages) → opened ≡ pages → IsPageMap opened → (slot at : ℕ) → slot ≤ 16 → at ≡ slot
+pub dropped : (opened pages : Pages) → opened ≡ pages → IsPageMap opened → (slot at : ℕ) → slot ≤ 16
+    → at ≡ slot
     → (own : List (Option ℕ)) → own ≡ no_pages → DropsPages pages (slice_set opened at own) slot
 dropped opened pages same sound slot at known at_is own own_is =
     rw (same, at_is, own_is) (drops_pages pages (subst IsPageMap same sound) slot known)

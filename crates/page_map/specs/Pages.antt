@@ -44,4 +44,5 @@ pub record ChangesPage (old new : Pages) (slot page : ℕ) (frame : Option ℕ) 
 -- no page of a slot is mapped, and every page of another slot is as it was
 pub record DropsPages (old new : Pages) (slot : ℕ) : Type 0 where
   pub none : (page : ℕ) → frame_of new slot page ≡ None
-  pub other_slots : (other page : ℕ) → other ≢ slot → frame_of new other page ≡ frame_of old other page
+  pub other_slots : (other page : ℕ) → other ≢ slot
+      → frame_of new other page ≡ frame_of old other page

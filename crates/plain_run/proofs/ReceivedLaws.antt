@@ -5,7 +5,8 @@ use Rattle.std.proofs.lemmas.Option.{none-some}
 use Rattle.step_text.proofs.FieldLaws.{hex8_of-exact}
 use Rattle.plain_run.specs.Received.{IsValue, value_of}
 
-value_found : (words : List (List ℕ)) (value : ℕ) → value_of words ≡ Some value → IsValue words value
+value_found : (words : List (List ℕ)) (value : ℕ) → value_of words ≡ Some value
+    → IsValue words value
 unfolding value_of
 value_found [] value h = absurd (none-some value h)
 value_found (word ∷ []) value h = (word, refl, (hex8_of-exact word value).0 h)
@@ -15,7 +16,8 @@ value_only : (words : List (List ℕ)) (value : ℕ) → IsValue words value →
 unfolding value_of
 value_only words value w = rw w.1 ((hex8_of-exact w.0 value).1 w.2)
 
-pub value_exact : (words : List (List ℕ)) (value : ℕ) → (value_of words ≡ Some value) ↔ IsValue words value
+pub value_exact : (words : List (List ℕ)) (value : ℕ)
+    → (value_of words ≡ Some value) ↔ IsValue words value
 value_exact words value = (value_found words value, value_only words value)
 
 pub value_nothing : value_of [] ≡ None

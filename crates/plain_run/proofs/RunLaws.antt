@@ -21,7 +21,8 @@ one_more (suc count) p values {m} some is =
 pub none_more : (count : ℕ) (p : State) (values : List ℕ) {over : Bool} → count ≤ 0 → p.over ≡ over
     → run_from count p values ≡ stops (if over then ending.Ended else ending.Steps)
 unfolding run_from
-none_more zero p values {over} none is = ap (λ (b : Bool). stops (if b then ending.Ended else ending.Steps)) is
+none_more zero p values {over} none is =
+    ap (λ (b : Bool). stops (if b then ending.Ended else ending.Steps)) is
 none_more (suc count) p values {over} none is = absurd (omega arith)
 
 -- nothing is added where no step is made
@@ -29,22 +30,33 @@ pub behind-stops : (text : List ℕ) (end : PlainEnd) → behind text (stops end
 behind-stops text end = ap (λ (t : List ℕ). (t, end)) (append-nil text)
 
 -- the line of a step and those of the run behind it
-pub behind-step : (text : List ℕ) (step : Step) (run : Run) → behind (text ++ step_line step) run ≡ behind text (record { steps = step ∷ run.steps; end = run.end })
-behind-step text step run = ap (λ (t : List ℕ). (t, run.end)) (append_assoc text (step_line step) (flat_map step_line run.steps))
+pub behind-step : (text : List ℕ) (step : Step) (run : Run)
+    → behind (text ++ step_line step) run ≡ behind text
+    (record { steps = step ∷ run.steps; end = run.end })
+behind-step text step run =
+    ap (λ (t : List ℕ). (t, run.end))
+    (append_assoc text (step_line step) (flat_map step_line run.steps))
 
 -- the whole, where no step is made
-pub stopped : {total : List ℕ × PlainEnd} (text : List ℕ) {run : Run} {end : PlainEnd} → run ≡ stops end → behind text run ≡ total → (text, end) ≡ total
-stopped text {run} {end} is whole = sym (behind-stops text end) ∙ (ap (behind text) (sym is) ∙ whole)
+pub stopped : {total : List ℕ × PlainEnd} (text : List ℕ) {run : Run} {end : PlainEnd}
+    → run ≡ stops end → behind text run ≡ total → (text, end) ≡ total
+stopped text {run} {end} is whole =
+    sym (behind-stops text end) ∙ (ap (behind text) (sym is) ∙ whole)
 
 -- the whole, where what is next is no step
-pub ended_next : {total : List ℕ × PlainEnd} (text : List ℕ) (count : ℕ) (p : State) (values : List ℕ) {m : Next} {end : PlainEnd}
-    → 0 < count → m ≡ next p values → ((run : Run) → goes_on m.answer run ≡ stops end) → behind text (run_from count p values) ≡ total
+pub ended_next : {total : List ℕ × PlainEnd} (text : List ℕ) (count : ℕ) (p : State)
+    (values : List ℕ) {m : Next} {end : PlainEnd}
+    → 0 < count → m ≡ next p values → ((run : Run) → goes_on m.answer run ≡ stops end)
+    → behind text (run_from count p values) ≡ total
     → (text, end) ≡ total
 ended_next text count p values {m} {end} some is ends whole =
-    stopped text (one_more count p values some is ∙ ends (run_from (count - 1) m.state m.values)) whole
+    stopped text (one_more count p values some is ∙ ends (run_from (count - 1) m.state m.values))
+    whole
 
 -- the whole, where one step is made
 pub went_on : {total : List ℕ × PlainEnd} (text new : List ℕ) (step : Step) (rest : Run) {run : Run}
-    → new ≡ text ++ step_line step → run ≡ goes_on (Did step) rest → behind text run ≡ total → behind new rest ≡ total
+    → new ≡ text ++ step_line step → run ≡ goes_on (Did step) rest → behind text run ≡ total
+    → behind new rest ≡ total
 went_on text new step rest {run} added is whole =
-    ap (λ (t : List ℕ). behind t rest) added ∙ (behind-step text step rest ∙ (ap (behind text) (sym is) ∙ whole))
+    ap (λ (t : List ℕ). behind t rest) added
+    ∙ (behind-step text step rest ∙ (ap (behind text) (sym is) ∙ whole))

@@ -40,21 +40,30 @@ values_in steps = filter_map (λ step. value_in step.received) steps
 
 -- the last step is that of `xexit`
 abbrev pub EndsByExit : List Step → Type 0
-EndsByExit steps = (before : List Step) × (last : Step) × (steps ≡ before ++ last ∷ []) × (last.end ≡ ended.Exit)
+EndsByExit steps =
+    (before : List Step) × (last : Step) × (steps ≡ before ++ last ∷ []) × (last.end ≡ ended.Exit)
 
--- the next instruction receives: whatever value it is given, it does a step that was given that value
+-- the next instruction receives: whatever value it is given, it does a step that was given that
+-- value
 abbrev pub Receives : State → Type 0
-Receives p = (value : ℕ) → (step : Step) × ((plain p (given.Value value)).0 ≡ Did step) × (given_of step.received ≡ given.Value value)
+Receives p =
+    (value : ℕ)
+    → (step : Step) × ((plain p (given.Value value)).0 ≡ Did step)
+    × (given_of step.received ≡ given.Value value)
 
--- Why a run of at most so many steps stopped, which made these steps to state p, with these values left.
+-- Why a run of at most so many steps stopped, which made these steps to state p, with these values
+-- left.
 abbrev pub Stops : PlainEnd → ℕ → List Step → State → List ℕ → Type 0
 Stops ending.Ended count steps p left = EndsByExit steps
 Stops ending.Steps count steps p left = (length steps ≡ count) × (p.over ≡ false)
-Stops (ending.Fault fault) count steps p left = (length steps < count) × ((plain p given.Nothing).0 ≡ Fault fault)
+Stops (ending.Fault fault) count steps p left =
+    (length steps < count) × ((plain p given.Nothing).0 ≡ Fault fault)
 Stops ending.Waiting count steps p left = (length steps < count) × (left ≡ []) × Receives p
 
--- A run is the image's program alone: its steps are those of the plain machine and so follow, all of them; they are
--- at most so many; what they received are the given values from the first on, and no signal; and it stopped for the
+-- A run is the image's program alone: its steps are those of the plain machine and so follow, all
+-- of them; they are
+-- at most so many; what they received are the given values from the first on, and no signal; and it
+-- stopped for the
 -- reason that it says.
 pub record IsAlone (image : PlainImage) (count : ℕ) (values : List ℕ) (run : Run) : Type 0 where
   pub state : State
@@ -68,8 +77,12 @@ pub record IsAlone (image : PlainImage) (count : ℕ) (values : List ℕ) (run :
 
 -- what is printed is the run of a program alone
 abbrev pub RunsAlone : Type 0
-RunsAlone = (image : PlainImage) (count : ℕ) (values : List ℕ) → IsAlone image count values (run_of image count values)
+RunsAlone =
+    (image : PlainImage) (count : ℕ) (values : List ℕ)
+    → IsAlone image count values (run_of image count values)
 
 -- and there is no other
 abbrev pub OneRun : Type 0
-OneRun = (image : PlainImage) (count : ℕ) (values : List ℕ) (run : Run) → IsAlone image count values run → run ≡ run_of image count values
+OneRun =
+    (image : PlainImage) (count : ℕ) (values : List ℕ) (run : Run) → IsAlone image count values run
+    → run ≡ run_of image count values

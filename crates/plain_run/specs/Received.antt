@@ -1,4 +1,5 @@
--- Received files: the values that a program run alone receives, one a line. This project's own format.
+-- Received files: the values that a program run alone receives, one a line. This project's own
+-- format.
 use Rattle.std.specs.Prelude.{◌≡◌, ℕ, List, [], ◌∷◌, Option, None, Result}
 use Rattle.xom_base.specs.Lines.{IsFirstBad, IsRows, Rows, lines_of, rows_of}
 use Rattle.step_text.specs.StepFields.{IsHex8, hex8_of}

@@ -24,7 +24,12 @@ pub record Next : Type 0 where
 
 -- given a value
 abbrev pub with_value : State → ℕ → List ℕ → Next
-with_value p value values = record { answer = (plain p (given.Value value)).0; state = (plain p (given.Value value)).1; values = values }
+with_value p value values = record {
+  answer = (plain p (given.Value value)).0;
+  state =
+      (plain p (given.Value value)).1;
+  values = values;
+}
 
 -- an instruction that needs something to be given gets the next value, where one is left
 abbrev pub after : State → PlainStep × State → List ℕ → Next
@@ -49,7 +54,8 @@ goes_on Over run = stops ending.Ended
 -- the run of at most so many further steps from a state, with these values for what it receives
 unfoldable pub run_from : ℕ → State → List ℕ → Run
 run_from zero p values = stops (if p.over then ending.Ended else ending.Steps)
-run_from (suc count) p values = goes_on (next p values).answer (run_from count (next p values).state (next p values).values)
+run_from (suc count) p values =
+    goes_on (next p values).answer (run_from count (next p values).state (next p values).values)
 
 -- the run of an image's program, of at most so many steps
 abbrev pub run_of : PlainImage → ℕ → List ℕ → Run

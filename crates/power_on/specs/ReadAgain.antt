@@ -21,18 +21,24 @@ pub record IsWhole (image : GuestImage) : Type 0 where
   pub envelope : length image.envelope ≡ envelope_size
   pub lines : All IsWholeLine image.lines
 
--- the line of this number is read: its ciphertext and its tag stand in the frame of its page, where the first page is in this frame
+-- the line of this number is read: its ciphertext and its tag stand in the frame of its page, where
+-- the first page is in this frame
 pub record IsReadAt (ram : List ℕ) (frame number : ℕ) (line : SealedLine) : Type 0 where
-  pub ciphertext : bytes_at ram (ciphertext_place (frame + number / frame_lines) (number % frame_lines)) line_size ≡ line.ct
-  pub tag : bytes_at ram (tag_place (frame + number / frame_lines) (number % frame_lines)) line_size ≡ line.tag
+  pub ciphertext : bytes_at ram (ciphertext_place (frame + number / frame_lines)
+      (number % frame_lines)) line_size ≡ line.ct
+  pub tag : bytes_at ram (tag_place (frame + number / frame_lines) (number % frame_lines))
+      line_size ≡ line.tag
 
--- a guest is read: its envelope at the start of this frame, and each of its lines in the frames behind
+-- a guest is read: its envelope at the start of this frame, and each of its lines in the frames
+-- behind
 pub record StandsAt (ram : List ℕ) (frame : ℕ) (image : GuestImage) : Type 0 where
   pub envelope : bytes_at ram (frame * frame_size) envelope_size ≡ image.envelope
-  pub lines : (number : ℕ) (line : SealedLine) → slice_get image.lines number ≡ Some line → IsReadAt ram (frame + 1) number line
+  pub lines : (number : ℕ) (line : SealedLine) → slice_get image.lines number ≡ Some line
+      → IsReadAt ram (frame + 1) number line
 
 -- RAM has room for the image of a kernel, in front of the guests, and for all guests
-pub record HasRoom (frames : ℕ) (kernel : Option PlainImage) (images : List GuestImage) : Type 0 where
+pub record HasRoom (frames : ℕ) (kernel : Option PlainImage) (images : List GuestImage) : Type
+    0 where
   pub kernel_low : length (kernel_bytes kernel) ≤ kernel_limit
   pub kernel_fits : length (kernel_bytes kernel) ≤ frames * frame_size
   pub guests : FitsAll frames first_frame images
@@ -40,11 +46,15 @@ pub record HasRoom (frames : ℕ) (kernel : Option PlainImage) (images : List Gu
 
 -- the image of the kernel is read from address 0 on
 abbrev pub KernelIsRead : Type 0
-KernelIsRead = (frames : ℕ) (kernel : Option PlainImage) (images : List GuestImage) → HasRoom frames kernel images
-    → bytes_at (ram_at_start frames kernel images) 0 (length (kernel_bytes kernel)) ≡ kernel_bytes kernel
+KernelIsRead = (frames : ℕ) (kernel : Option PlainImage) (images : List GuestImage)
+    → HasRoom frames kernel images
+    → bytes_at (ram_at_start frames kernel images) 0 (length (kernel_bytes kernel)) ≡ kernel_bytes
+    kernel
 
 -- each guest is read behind the guests before it
 abbrev pub GuestsAreRead : Type 0
-GuestsAreRead = (frames : ℕ) (kernel : Option PlainImage) (before : List GuestImage) (image : GuestImage) (behind : List GuestImage)
+GuestsAreRead = (frames : ℕ) (kernel : Option PlainImage) (before : List GuestImage)
+    (image : GuestImage) (behind : List GuestImage)
     → HasRoom frames kernel (before ++ image ∷ behind)
-    → StandsAt (ram_at_start frames kernel (before ++ image ∷ behind)) (frame_behind first_frame before) image
+    → StandsAt (ram_at_start frames kernel (before ++ image ∷ behind))
+    (frame_behind first_frame before) image

@@ -12,20 +12,25 @@ use Rattle.cli_runs.specs.declared.guest_image.GuestImage.{GuestImage}
 
 -- ---- Guests
 
--- RAM with sealed lines: line 0 of an image is the first of this frame, and these are the lines from this number on
+-- RAM with sealed lines: line 0 of an image is the first of this frame, and these are the lines
+-- from this number on
 abbrev pub with_lines : List ℕ → ℕ → ℕ → List SealedLine → List ℕ
 with_lines ram frame number [] = ram
 with_lines ram frame number (line ∷ lines) =
-    with_lines (with_line ram (frame + number / frame_lines) (number % frame_lines) line.ct line.tag) frame (number + 1) lines
+    with_lines (with_line ram (frame + number / frame_lines) (number % frame_lines) line.ct
+    line.tag) frame (number + 1) lines
 
 -- RAM with a guest: its envelope at the start of this frame, and its lines from the next frame on
 abbrev pub with_guest : List ℕ → ℕ → GuestImage → List ℕ
-with_guest ram frame image = with_lines (stored ram (frame * frame_size) image.envelope) (frame + 1) 0 image.lines
+with_guest ram frame image =
+    with_lines (stored ram (frame * frame_size) image.envelope) (frame + 1) 0 image.lines
 
--- RAM with guests, of which the first stands in this frame, and each other one right behind the one before it
+-- RAM with guests, of which the first stands in this frame, and each other one right behind the one
+-- before it
 abbrev pub with_guests : List ℕ → ℕ → List GuestImage → List ℕ
 with_guests ram frame [] = ram
-with_guests ram frame (image ∷ images) = with_guests (with_guest ram frame image) (frame + frames_of image) images
+with_guests ram frame (image ∷ images) =
+    with_guests (with_guest ram frame image) (frame + frames_of image) images
 
 -- ---- The kernel
 
@@ -43,11 +48,14 @@ null_entry (Some image) = image.entry
 
 -- so many frames of RAM: the kernel, the guests, and zeros
 abbrev pub ram_at_start : ℕ → Option PlainImage → List GuestImage → List ℕ
-ram_at_start frames kernel images = with_guests (stored (replicate (frames * frame_size) 0) 0 (kernel_bytes kernel)) first_frame images
+ram_at_start frames kernel images =
+    with_guests (stored (replicate (frames * frame_size) 0) 0 (kernel_bytes kernel)) first_frame
+    images
 
 -- the machine before the first event
 abbrev pub first_record : Versions → Key256 → ℕ → ℕ → Option PlainImage → List GuestImage → Record
-first_record v machine boot frames kernel images = power_on v machine boot (ram_at_start frames kernel images) (null_entry kernel)
+first_record v machine boot frames kernel images =
+    power_on v machine boot (ram_at_start frames kernel images) (null_entry kernel)
 
 -- ---- How it is loaded
 

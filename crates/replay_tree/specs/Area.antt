@@ -1,4 +1,5 @@
--- Where the blocks of a tree lie in its area of RAM: level by level from the leaves up, each level's blocks in order.
+-- Where the blocks of a tree lie in its area of RAM: level by level from the leaves up, each
+-- level's blocks in order.
 use Rattle.std.specs.Prelude.{ℕ, zero, suc, ◌+◌, ◌-◌, ◌*◌, ◌^◌, List, [], ◌∷◌, ◌++◌}
 use Rattle.line_ram.specs.Bytes.{bytes_at}
 use Rattle.replay_tree.specs.Tree.{joined, node, text_of}
@@ -43,12 +44,14 @@ area_bytes top numbers = joined (level_bytes top numbers) (top + 1)
 -- the texts of a level's first blocks
 unfoldable pub level_texts : (ℕ → ℕ) → ℕ → ℕ → List (List ℕ)
 level_texts numbers level zero = []
-level_texts numbers level (suc n) = level_texts numbers level n ++ text_of level (node numbers level n) ∷ []
+level_texts numbers level (suc n) =
+    level_texts numbers level n ++ text_of level (node numbers level n) ∷ []
 
 -- the texts of all blocks of the levels up to this one, the leaves' first
 unfoldable pub texts_up_to : ℕ → (ℕ → ℕ) → ℕ → List (List ℕ)
 texts_up_to top numbers zero = level_texts numbers 0 (width top 0)
-texts_up_to top numbers (suc level) = texts_up_to top numbers level ++ level_texts numbers (suc level) (width top (suc level))
+texts_up_to top numbers (suc level) =
+    texts_up_to top numbers level ++ level_texts numbers (suc level) (width top (suc level))
 
 -- the texts of all blocks of the levels below this one
 abbrev pub texts_below : ℕ → (ℕ → ℕ) → ℕ → List (List ℕ)

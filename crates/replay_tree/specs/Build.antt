@@ -16,7 +16,8 @@ digests_in area ram level n = joined (λ i. digest_of level (block_in top_level 
 
 unfoldable pub texts_in : ℕ → List ℕ → ℕ → ℕ → List (List ℕ)
 texts_in area ram level zero = []
-texts_in area ram level (suc n) = texts_in area ram level n ++ text_of level (block_in top_level area ram level n) ∷ []
+texts_in area ram level (suc n) =
+    texts_in area ram level n ++ text_of level (block_in top_level area ram level n) ∷ []
 
 -- how many bytes of the journal the blocks of the levels below this one use
 unfoldable pub room_below : ℕ → ℕ

@@ -1,4 +1,5 @@
--- What a version store does whose numbers lie in hostile RAM, as a tree of hashes with its root on chip.
+-- What a version store does whose numbers lie in hostile RAM, as a tree of hashes with its root on
+-- chip.
 use Rattle.std.specs.Prelude.{ℕ, ◌++◌, List, [], Option, Some, None, Result, Ok, Err, replicate}
 use Rattle.line_ram.specs.Bytes.{stored}
 use Rattle.xom_versions.specs.declared.store.Torn.{Torn}
@@ -38,21 +39,25 @@ version_texts top root area line ram = checked_texts (path_in top area ram line)
 -- what a raise hashes beside what it checks, if the check isn't torn
 abbrev pub new_texts : ℕ → Option ℕ → ℕ → ℕ → List ℕ → List (List ℕ)
 new_texts top (Some level) area line ram = []
-new_texts top None area line ram = renewed_texts (path_in top area ram line) line (raised_in top area line ram) top
+new_texts top None area line ram =
+    renewed_texts (path_in top area ram line) line (raised_in top area line ram) top
 
 abbrev pub new_root : ℕ → Option ℕ → List ℕ → ℕ → ℕ → List ℕ → List ℕ
 new_root top (Some level) root area line ram = root
-new_root top None root area line ram = digest_of top (renewed (path_in top area ram line) line (raised_in top area line ram) top)
+new_root top None root area line ram =
+    digest_of top (renewed (path_in top area ram line) line (raised_in top area line ram) top)
 
 abbrev pub new_ram : ℕ → Option ℕ → ℕ → ℕ → List ℕ → List ℕ
 new_ram top (Some level) area line ram = ram
-new_ram top None area line ram = ram_renewed top area (path_in top area ram line) line (raised_in top area line ram) top ram
+new_ram top None area line ram =
+    ram_renewed top area (path_in top area ram line) line (raised_in top area line ram) top ram
 
 -- ---- Any store: one without an area is torn at the top, with nothing hashed
 
 abbrev pub answer_of : ℕ → (ℕ → ℕ → List ℕ → ℕ) → Option ℕ → List ℕ → ℕ → List ℕ → Result ℕ Torn
 answer_of top number None root line ram = Err (record { level = top })
-answer_of top number (Some area) root line ram = torn_or (torn_in top root area line ram) (number area line ram)
+answer_of top number (Some area) root line ram =
+    torn_or (torn_in top root area line ram) (number area line ram)
 
 abbrev pub texts_of_check : ℕ → Option ℕ → List ℕ → ℕ → List ℕ → List (List ℕ)
 texts_of_check top None root line ram = []
@@ -60,15 +65,19 @@ texts_of_check top (Some area) root line ram = version_texts top root area line 
 
 abbrev pub texts_of_raise_in : ℕ → Option ℕ → List ℕ → ℕ → List ℕ → List (List ℕ)
 texts_of_raise_in top None root line ram = []
-texts_of_raise_in top (Some area) root line ram = version_texts top root area line ram ++ new_texts top (torn_in top root area line ram) area line ram
+texts_of_raise_in top (Some area) root line ram =
+    version_texts top root area line ram
+    ++ new_texts top (torn_in top root area line ram) area line ram
 
 abbrev pub root_after_raise : ℕ → Option ℕ → List ℕ → ℕ → List ℕ → List ℕ
 root_after_raise top None root line ram = root
-root_after_raise top (Some area) root line ram = new_root top (torn_in top root area line ram) root area line ram
+root_after_raise top (Some area) root line ram =
+    new_root top (torn_in top root area line ram) root area line ram
 
 abbrev pub ram_after_raise_in : ℕ → Option ℕ → List ℕ → ℕ → List ℕ → List ℕ
 ram_after_raise_in top None root line ram = ram
-ram_after_raise_in top (Some area) root line ram = new_ram top (torn_in top root area line ram) area line ram
+ram_after_raise_in top (Some area) root line ram =
+    new_ram top (torn_in top root area line ram) area line ram
 
 -- the calls of a tree whose one block without a parent is at this level
 abbrev pub tree_of : ℕ → Versions
@@ -77,10 +86,14 @@ tree_of top = record {
   store_after_build = λ area lines ram. in_area (Some area) (root_of top (start_version lines));
   ram_after_build = λ area lines ram. stored ram area (area_bytes top (start_version lines));
   texts_of_build = λ area lines ram. texts_up_to top (start_version lines) top;
-  answer_of_version = λ store line ram. answer_of top (version_in top) store.area store.root line ram;
+  answer_of_version = λ store line ram. answer_of top (version_in top) store.area store.root line
+      ram;
   texts_of_version = λ store line ram. texts_of_check top store.area store.root line ram;
   answer_of_raise = λ store line ram. answer_of top (raised_in top) store.area store.root line ram;
-  store_after_raise = λ store line ram. record store { root = root_after_raise top store.area store.root line ram };
+  store_after_raise = λ store line ram. record store {
+    root = root_after_raise top store.area
+        store.root line ram;
+  };
   ram_after_raise = λ store line ram. ram_after_raise_in top store.area store.root line ram;
   texts_of_raise = λ store line ram. texts_of_raise_in top store.area store.root line ram;
 }
@@ -89,7 +102,8 @@ tree_of top = record {
 abbrev pub tree : Versions
 tree = tree_of top_level
 
--- RAM after a raise that was answered: the blocks of the line's path are renewed from those that stand in the area
+-- RAM after a raise that was answered: the blocks of the line's path are renewed from those that
+-- stand in the area
 abbrev pub raised_ram_in : ℕ → Raised
 raised_ram_in top None line ram = ram
 raised_ram_in top (Some area) line ram = new_ram top None area line ram

@@ -1,4 +1,5 @@
--- The path of a line: the one block at each level that its version is under. It is checked from the root down and renewed from the leaf up.
+-- The path of a line: the one block at each level that its version is under. It is checked from the
+-- root down and renewed from the leaf up.
 use Rattle.std.specs.Prelude.{ℕ, zero, suc, ◌+◌, ◌*◌, ◌/◌, ◌%◌, List, [], ◌∷◌, ◌++◌, Option, Some, None, bytes_eq, if◌then◌else◌}
 use Rattle.std.specs.Int.{w64, from_be_bytes, to_be_bytes}
 use Rattle.line_ram.specs.Bytes.{bytes_at, stored}
@@ -36,7 +37,8 @@ path_offset top line level = block_offset top level (index_at level line)
 abbrev pub path_in : ℕ → ℕ → List ℕ → ℕ → ℕ → List ℕ
 path_in top area ram line level = block_in top area ram level (index_at level line)
 
--- ---- The check, of the block at each level, from a level down; the digest of its block is to be `wanted`
+-- ---- The check, of the block at each level, from a level down; the digest of its block is to be
+-- `wanted`
 
 -- the level of the first block whose digest is another than the one above says
 unfoldable pub torn_at : (ℕ → List ℕ) → ℕ → ℕ → List ℕ → Option ℕ
@@ -61,7 +63,8 @@ number_in path line = from_be_bytes w64 (part_in 0 line (path 0))
 
 -- ---- The renewal
 
--- the new block of a level, where the line gets this version: all but one part is of the block that was checked
+-- the new block of a level, where the line gets this version: all but one part is of the block that
+-- was checked
 unfoldable pub renewed : (ℕ → List ℕ) → ℕ → ℕ → ℕ → List ℕ
 renewed path line number zero = with_part 0 line (path 0) (to_be_bytes w64 number)
 renewed path line number (suc level) =
@@ -71,11 +74,13 @@ renewed path line number (suc level) =
 unfoldable pub renewed_texts : (ℕ → List ℕ) → ℕ → ℕ → ℕ → List (List ℕ)
 renewed_texts path line number zero = text_of 0 (renewed path line number 0) ∷ []
 renewed_texts path line number (suc level) =
-    renewed_texts path line number level ++ text_of (suc level) (renewed path line number (suc level)) ∷ []
+    renewed_texts path line number level ++ text_of (suc level)
+    (renewed path line number (suc level)) ∷ []
 
 -- RAM with the new blocks up to a level
 unfoldable pub ram_renewed : ℕ → ℕ → (ℕ → List ℕ) → ℕ → ℕ → ℕ → List ℕ → List ℕ
 ram_renewed top area path line number zero ram =
     stored ram (area + path_offset top line 0) (renewed path line number 0)
 ram_renewed top area path line number (suc level) ram =
-    stored (ram_renewed top area path line number level ram) (area + path_offset top line (suc level)) (renewed path line number (suc level))
+    stored (ram_renewed top area path line number level ram)
+    (area + path_offset top line (suc level)) (renewed path line number (suc level))

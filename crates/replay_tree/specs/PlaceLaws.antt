@@ -18,73 +18,100 @@ use Rattle.replay_tree.specs.CheckLaws.{index-low}
 abbrev pub area_length : ℕ → ℕ
 area_length top = level_offset top (top + 1)
 
-pub length-level : (top : ℕ) (numbers : ℕ → ℕ) (level : ℕ) → length (level_bytes top numbers level) ≡ block_size level * width top level
-length-level top numbers level = length-joined (node numbers level) (block_size level) (width top level) (λ i low. length-node numbers level i)
+pub length-level : (top : ℕ) (numbers : ℕ → ℕ) (level : ℕ)
+    → length (level_bytes top numbers level) ≡ block_size level * width top level
+length-level top numbers level =
+    length-joined (node numbers level) (block_size level) (width top level)
+    (λ i low. length-node numbers level i)
 
-pub length-levels : (top : ℕ) (numbers : ℕ → ℕ) (n : ℕ) → length (joined (level_bytes top numbers) n) ≡ level_offset top n
+pub length-levels : (top : ℕ) (numbers : ℕ → ℕ) (n : ℕ)
+    → length (joined (level_bytes top numbers) n) ≡ level_offset top n
 unfolding joined level_offset
 length-levels top numbers zero = refl
 length-levels top numbers (suc n) =
     length-append (joined (level_bytes top numbers) n) (level_bytes top numbers n)
-    ∙ (let before = length-levels top numbers n in let last = length-level top numbers n in omega arith)
+    ∙ (let before = length-levels top numbers n in let last = length-level top numbers n in
+    omega arith)
 
 pub length-area : (top : ℕ) (numbers : ℕ → ℕ) → length (area_bytes top numbers) ≡ area_length top
 length-area top numbers = length-levels top numbers (top + 1)
 
 -- ---- The path
 
-pub offset-grows : (top level upper : ℕ) → level ≤ upper → level_offset top level ≤ level_offset top upper
+pub offset-grows : (top level upper : ℕ) → level ≤ upper
+    → level_offset top level ≤ level_offset top upper
 unfolding level_offset
-offset-grows top level zero low = subst (λ l. level_offset top l ≤ level_offset top 0) {x = 0} {y = level} (omega arith) (omega arith)
+offset-grows top level zero low =
+    subst (λ l. level_offset top l ≤ level_offset top 0) {x = 0} {y = level} (omega arith)
+    (omega arith)
 offset-grows top level (suc upper) low = elim (eqb_tells level (suc upper)) [
   | inl is ↦ subst (λ l. level_offset top l ≤ level_offset top (suc upper)) (sym is.1) (omega arith)
-  | inr differs ↦ let below = offset-grows top level upper (let other = differs.1 in grind arith) in omega arith
+  | inr differs ↦ let below = offset-grows top level upper (let other = differs.1 in grind arith) in
+      omega arith
 ]
 
-pub index-within : (top line level : ℕ) → line < lines_of top → level ≤ top → index_at level line < width top level
+pub index-within : (top line level : ℕ) → line < lines_of top → level ≤ top
+    → index_at level line < width top level
 index-within top line level low few =
     index-low level line (width top level)
-    (let whole : 8 ^ (level + 1) * 8 ^ (top - level) ≡ 8 ^ (top + 1) = sym (pow-add 8 (level + 1) (top - level)) ∙ ap (λ e. 8 ^ e) {x = level + 1 + (top - level)} {y = top + 1} (omega arith) in omega arith)
+    (let whole : 8 ^ (level + 1) * 8 ^ (top - level) ≡ 8 ^ (top + 1) =
+    sym (pow-add 8 (level + 1) (top - level)) ∙ ap (λ e. 8 ^ e) {x = level + 1 + (top - level)}
+    {y = top + 1} (omega arith) in omega arith)
 
-next-offset : (top level : ℕ) → level_offset top (suc level) ≡ level_offset top level + block_size level * width top level
+next-offset : (top level : ℕ)
+    → level_offset top (suc level) ≡ level_offset top level + block_size level * width top level
 unfolding level_offset
 next-offset top level = refl
 
-pub path-within : (top line level : ℕ) → line < lines_of top → level ≤ top → path_offset top line level + block_size level ≤ area_length top
+pub path-within : (top line level : ℕ) → line < lines_of top → level ≤ top
+    → path_offset top line level + block_size level ≤ area_length top
 path-within top line level low few =
-    let fits = part-fits (block_size level) (index_at level line) (width top level) (index-within top line level low few) in
-    let next : level_offset top (suc level) ≡ level_offset top level + block_size level * width top level = next-offset top level in
+    let fits = part-fits (block_size level) (index_at level line) (width top level)
+    (index-within top line level low few) in
+    let next : level_offset top (suc level) ≡ level_offset top level + block_size level * width top
+    level = next-offset top level in
     let last = offset-grows top (suc level) (top + 1) (omega arith) in
     omega arith
 
 -- a block of it in RAM has its size
-pub length-block : (top area line level : ℕ) (ram : List ℕ) → HoldsRange ram area (area_length top) → line < lines_of top → level ≤ top
+pub length-block : (top area line level : ℕ) (ram : List ℕ) → HoldsRange ram area (area_length top)
+    → line < lines_of top → level ≤ top
     → length (path_in top area ram line level) ≡ block_size level
 length-block top area line level ram held low few =
     let within = path-within top line level low few in
-    length-take-le (block_size level) (drop (area + path_offset top line level) ram) (omega (arith, length-drop (area + path_offset top line level) ram))
+    length-take-le (block_size level) (drop (area + path_offset top line level) ram)
+    (omega (arith, length-drop (area + path_offset top line level) ram))
 
 -- and so has the new one
-pub length-renewed : (path : ℕ → List ℕ) (line number level : ℕ) → ((below : ℕ) → below ≤ level → length (path below) ≡ block_size below)
+pub length-renewed : (path : ℕ → List ℕ) (line number level : ℕ)
+    → ((below : ℕ) → below ≤ level → length (path below) ≡ block_size below)
     → length (renewed path line number level) ≡ block_size level
 unfolding renewed part_size
 length-renewed path line number zero whole =
     let part = low-part 0 line in let long = whole 0 (omega arith) in
-    length-stored (path 0) (to_be_bytes w64 number) (8 * part_at 0 line) (let size : length (to_be_bytes w64 number) ≡ 8 = refl in omega arith) ∙ long
+    length-stored (path 0) (to_be_bytes w64 number) (8 * part_at 0 line)
+    (let size : length (to_be_bytes w64 number) ≡ 8 = refl in omega arith) ∙ long
 length-renewed path line number (suc level) whole =
     let part = low-part (suc level) line in let long = whole (suc level) (omega arith) in
     let size = length-sha256 (text_of level (renewed path line number level)) in
-    length-stored (path (suc level)) (digest_of level (renewed path line number level)) (32 * part_at (suc level) line) (omega arith) ∙ long
+    length-stored (path (suc level)) (digest_of level (renewed path line number level))
+    (32 * part_at (suc level) line) (omega arith) ∙ long
 
 -- RAM keeps its size
-pub length-ram_renewed : (top area : ℕ) (path : ℕ → List ℕ) (line number level : ℕ) (ram : List ℕ) → HoldsRange ram area (area_length top) → line < lines_of top → level ≤ top
+pub length-ram_renewed : (top area : ℕ) (path : ℕ → List ℕ) (line number level : ℕ) (ram : List ℕ)
+    → HoldsRange ram area (area_length top) → line < lines_of top → level ≤ top
     → ((below : ℕ) → below ≤ level → length (path below) ≡ block_size below)
     → length (ram_renewed top area path line number level ram) ≡ length ram
 unfolding ram_renewed
 length-ram_renewed top area path line number zero ram held low few whole =
-    let within = path-within top line 0 low few in let long = length-renewed path line number 0 whole in
+    let within = path-within top line 0 low few in let long = length-renewed path line number 0
+    whole in
     length-stored ram (renewed path line number 0) (area + path_offset top line 0) (omega arith)
 length-ram_renewed top area path line number (suc level) ram held low few whole =
-    let within = path-within top line (suc level) low few in let long = length-renewed path line number (suc level) whole in
-    let before = length-ram_renewed top area path line number level ram held low (omega arith) (λ below small. whole below (omega arith)) in
-    length-stored (ram_renewed top area path line number level ram) (renewed path line number (suc level)) (area + path_offset top line (suc level)) (omega arith) ∙ before
+    let within = path-within top line (suc level) low few in let long = length-renewed path line
+    number (suc level) whole in
+    let before = length-ram_renewed top area path line number level ram held low (omega arith)
+    (λ below small. whole below (omega arith)) in
+    length-stored (ram_renewed top area path line number level ram)
+    (renewed path line number (suc level)) (area + path_offset top line (suc level)) (omega arith)
+    ∙ before

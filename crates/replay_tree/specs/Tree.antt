@@ -1,4 +1,5 @@
--- A tree of hashes over the versions of a guest's lines: each block above the leaves has the digests of eight blocks of the level below it, so one digest, the root, fixes them all.
+-- A tree of hashes over the versions of a guest's lines: each block above the leaves has the
+-- digests of eight blocks of the level below it, so one digest, the root, fixes them all.
 use Rattle.std.specs.Prelude.{◌≡◌, ℕ, zero, suc, ◌+◌, ◌*◌, ◌^◌, ◌<◌, List, [], ◌∷◌, ◌++◌}
 use Rattle.std.specs.Int.{w64, to_be_bytes}
 use Rattle.std.specs.List.{Contains}
@@ -21,7 +22,8 @@ text_of level block = level ∷ block
 abbrev pub digest_of : ℕ → List ℕ → List ℕ
 digest_of level block = sha256 (text_of level block)
 
--- the block of this index at this level: eight versions of eight bytes at level 0, eight digests of the level below above it
+-- the block of this index at this level: eight versions of eight bytes at level 0, eight digests of
+-- the level below above it
 unfoldable pub node : (ℕ → ℕ) → ℕ → ℕ → List ℕ
 node numbers zero i = joined (λ k. to_be_bytes w64 (numbers (8 * i + k))) 8
 node numbers (suc level) i = joined (λ k. digest_of level (node numbers level (8 * i + k))) 8
@@ -43,8 +45,10 @@ AreHashed entries numbers (suc level) i =
     Contains entries (hash_entry (text_of (suc level) (node numbers (suc level) i)))
     × ((k : ℕ) → k < 8 → AreHashed entries numbers level (8 * i + k))
 
--- the root is that of the numbers, each block of their tree was hashed, and each number fits its field
-pub record TreeStands (top : ℕ) (store : Store) (entries : List Entry) (numbers : ℕ → ℕ) : Type 0 where
+-- the root is that of the numbers, each block of their tree was hashed, and each number fits its
+-- field
+pub record TreeStands (top : ℕ) (store : Store) (entries : List Entry) (numbers : ℕ → ℕ) : Type
+    0 where
   pub root : store.root ≡ root_of top numbers
   pub hashed : AreHashed entries numbers top 0
   pub fields : (line : ℕ) → line < lines_of top → numbers line < 2 ^ 64

@@ -18,10 +18,12 @@ area-size : area_length top_level ≡ area_size
 unfolding level_offset part_size
 area-size = refl
 
-size-raised-in : (area : Option ℕ) (root : List ℕ) (line : ℕ) (ram : List ℕ) → IfSome area (λ at. HoldsRange ram at area_size) → line < line_limit
+size-raised-in : (area : Option ℕ) (root : List ℕ) (line : ℕ) (ram : List ℕ)
+    → IfSome area (λ at. HoldsRange ram at area_size) → line < line_limit
     → length (ram_after_raise_in top_level area root line ram) ≡ length ram
 size-raised-in area root line ram held low =
-    size-raised top_level area root line ram (subst (λ size. IfSome area (λ at. HoldsRange ram at size)) (sym area-size) held) low
+    size-raised top_level area root line ram
+    (subst (λ size. IfSome area (λ at. HoldsRange ram at size)) (sym area-size) held) low
 
 some-same : (a b : ℕ) → Some a ≡ Some b → a ≡ b
 some-same a b is = cc
@@ -32,28 +34,42 @@ unfolding index_at
 top-lines line is = grind arith
 
 same-area : (area other : Option ℕ) (root also : List ℕ) (line : ℕ) (ram : List ℕ) → area ≡ other
-    → is_ok (answer_of top_level (raised_in top_level) area root line ram) ≡ is_ok (answer_of top_level (raised_in top_level) other also line ram)
-    → ram_after_raise_in top_level area root line ram ≡ ram_after_raise_in top_level other also line ram
+    → is_ok (answer_of top_level (raised_in top_level) area root line ram) ≡ is_ok
+    (answer_of top_level (raised_in top_level) other also line ram)
+    → ram_after_raise_in top_level area root line ram ≡ ram_after_raise_in top_level other also line
+    ram
 same-area area other root also line ram same torn =
-    subst (λ at. is_ok (answer_of top_level (raised_in top_level) area root line ram) ≡ is_ok (answer_of top_level (raised_in top_level) at also line ram)
-    → ram_after_raise_in top_level area root line ram ≡ ram_after_raise_in top_level at also line ram) same (same-ram top_level area root also line ram) torn
+    subst (λ at. is_ok (answer_of top_level (raised_in top_level) area root line ram) ≡ is_ok
+    (answer_of top_level (raised_in top_level) at also line ram)
+    → ram_after_raise_in top_level area root line ram ≡ ram_after_raise_in top_level at also line
+    ram) same (same-ram top_level area root also line ram) torn
 
 pub tree_law : VersionLaw tree (TreeStands top_level)
 tree_law = record {
   builds = λ entries area lines ram few. build-stands top_level entries area lines;
   versions = λ entries store numbers line number ram stands low none is.
-      version-told top_level store.area store.root entries numbers line number ram stands.root stands.hashed (stands.fields line low) low none is;
+      version-told top_level store.area store.root entries numbers line number ram stands.root
+      stands.hashed (stands.fields line low) low none is;
   raises = λ entries store numbers line number ram stands low none is.
-      let raised = raise-told top_level store.area store.root entries numbers line number ram stands.root stands.hashed stands.fields low none is in
+      let raised = raise-told top_level store.area store.root entries numbers line number ram
+      stands.root stands.hashed stands.fields low none is in
       (raised.next, record { root = raised.tree; hashed = raised.hashed; fields = raised.fields });
   torn = λ entries store numbers line ram fault stands low is. record {
     root = torn-root top_level store.area store.root line ram fault is ∙ stands.root;
-    hashed = hashed-longer entries (map hash_entry (texts_of_raise_in top_level store.area store.root line ram)) numbers top_level 0 stands.hashed;
+    hashed = hashed-longer entries
+        (map hash_entry (texts_of_raise_in top_level store.area store.root line ram)) numbers
+        top_level 0 stands.hashed;
     fields = stands.fields;
   };
-  longer = λ entries more store numbers stands. record { root = stands.root; hashed = hashed-longer entries more numbers top_level 0 stands.hashed; fields = stands.fields };
+  longer = λ entries more store numbers stands. record {
+    root = stands.root;
+    hashed =
+        hashed-longer entries more numbers top_level 0 stands.hashed;
+    fields = stands.fields;
+  };
   alike = λ entries store numbers others same stands.
-      let lines : (line : ℕ) → index_at top_level line ≡ 0 → numbers line ≡ others line = λ line is. same line (top-lines line is) in
+      let lines : (line : ℕ) → index_at top_level line ≡ 0 → numbers line ≡ others line =
+      λ line is. same line (top-lines line is) in
       record {
         root = stands.root ∙ ap (digest_of top_level) (node-same numbers others top_level 0 lines);
         hashed = hashed-same entries numbers others top_level 0 lines stands.hashed;
@@ -62,7 +78,8 @@ tree_law = record {
   size_after_build = λ area lines ram held.
       let long = length-area top_level (start_version lines) in let whole = area-size in
       length-stored ram (area_bytes top_level (start_version lines)) area (omega arith);
-  size_after_raise = λ store line ram held low. size-raised-in store.area store.root line ram held low;
+  size_after_raise = λ store line ram held low. size-raised-in store.area store.root line ram held
+      low;
   area_after_build = λ area lines kept ram is. sym (some-same area kept is);
   area_after_raise = λ store line ram. refl;
   ram_by_area = λ store other line ram same torn.
@@ -72,7 +89,8 @@ tree_law = record {
 -- and hides nothing in RAM
 pub tree_in_the_open : RaisesInTheOpen tree tree_raised
 tree_in_the_open = record {
-  done = λ store line number ram is. ram-answered top_level store.area store.root line number ram is;
+  done = λ store line number ram is. ram-answered top_level store.area store.root line number ram
+      is;
   torn = λ store line ram fault is. ram-torn top_level store.area store.root line ram fault is;
   area = λ store line ram. refl;
 }

@@ -1,4 +1,5 @@
--- What the processor keeps of each compartment. Place 0 stands for the null compartment, which has no session; places 1 to 16 are the slots.
+-- What the processor keeps of each compartment. Place 0 stands for the null compartment, which has
+-- no session; places 1 to 16 are the slots.
 use Rattle.std.specs.Prelude.{ℕ, ◌+◌, ◌%◌, ◌^◌, Bool, true, false, List, Option, None, length, position, replicate, slice_index_or, slice_set, ◌≡◌}
 use Rattle.xom_base.specs.declared.key.ImageId.{ImageId}
 use Rattle.xom_base.specs.declared.key.Key256.{Key256}
@@ -13,7 +14,22 @@ pub record Sessions : Type 0 where
 
 -- the session of a free slot
 abbrev pub free : Session
-free = record { install = 0; id = record { 0 = replicate 16 0 }; key = record { 0 = replicate 32 0 }; entry = 0; lines = 0; pc = 0; npc = 0; mask = 0; epoch = 0; handler = 0; saved = None; state = state.Free }
+free = record {
+  install = 0;
+  id = record { 0 = replicate 16 0 };
+  key =
+      record { 0 = replicate 32 0 };
+  entry = 0;
+  lines = 0;
+  pc = 0;
+  npc = 0;
+  mask = 0;
+  epoch =
+      0;
+  handler = 0;
+  saved = None;
+  state = state.Free;
+}
 
 -- no slot holds a guest
 unfoldable pub none_held : List Session
@@ -44,7 +60,22 @@ pub record IsTable (sessions : List Session) : Type 0 where
 
 -- a guest that was just installed
 abbrev pub fresh : ℕ → ImageId → Key256 → ℕ → ℕ → Session
-fresh install id key entry lines = record { install = install; id = id; key = key; entry = entry; lines = lines; pc = 0; npc = 0; mask = 0; epoch = 0; handler = 0; saved = None; state = state.Fresh }
+fresh install id key entry lines = record {
+  install = install;
+  id = id;
+  key = key;
+  entry =
+      entry;
+  lines = lines;
+  pc = 0;
+  npc = 0;
+  mask = 0;
+  epoch = 0;
+  handler = 0;
+  saved = None;
+  state =
+      state.Fresh;
+}
 
 -- a guest that is started at its entry
 abbrev pub entered : Session → Session

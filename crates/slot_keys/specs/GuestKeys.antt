@@ -1,4 +1,5 @@
--- The keys that a slot's guest is sealed with, and a place for each compartment's. Place 0 stands for the null compartment, which has none; places 1 to 16 are the slots.
+-- The keys that a slot's guest is sealed with, and a place for each compartment's. Place 0 stands
+-- for the null compartment, which has none; places 1 to 16 are the slots.
 use Rattle.std.specs.Prelude.{ℕ, List, ◌≡◌, ◌≢◌, length, replicate, slice_index_or}
 use Rattle.xom_base.specs.declared.key.ImageId.{ImageId}
 use Rattle.xom_base.specs.declared.key.Key256.{Key256}
@@ -43,7 +44,8 @@ pub record IsKeyTable (table : List GuestKeys) : Type 0 where
 
 -- the keys of the slot are those of this install under this epoch
 abbrev pub AreKeysOf : List GuestKeys → ℕ → Key256 → ImageId → ℕ → ℕ → ℕ → Type 0
-AreKeysOf table slot key id boot install epoch = keys_at table slot ≡ keys_of_install key id boot install epoch
+AreKeysOf table slot key id boot install epoch =
+    keys_at table slot ≡ keys_of_install key id boot install epoch
 
 -- where the slot had the keys of this install under some epoch, it has those under the new one
 abbrev pub AreRenewed : List GuestKeys → List GuestKeys → ℕ → Key256 → ℕ → ℕ → ℕ → Type 0

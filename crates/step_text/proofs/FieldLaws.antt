@@ -30,26 +30,33 @@ is_word word name h = (bytes_eq-Decides word name).1 h
 -- a longer word is another one
 pub other_word : (word name : List ℕ) → length name < length word → bytes_eq word name ≡ false
 other_word word name longer =
-    false_from_ne_true (bytes_eq word name) (λ same. let e : length word ≡ length name = ap length (same_word word name same) in omega arith)
+    false_from_ne_true (bytes_eq word name) (λ same. let e : length word ≡ length name =
+    ap length (same_word word name same) in omega arith)
 
 -- a byte that is no digit stands in no word of digits
 no_digit : (base at d : ℕ) → base ≤ digit_value at → digit_value d < base → eqb d at ≡ false
 no_digit base at d other digit =
-    false_from_ne_true (eqb d at) (λ same. let e : digit_value d ≡ digit_value at = ap digit_value (eqb-true d at same) in omega arith)
+    false_from_ne_true (eqb d at) (λ same. let e : digit_value d ≡ digit_value at =
+    ap digit_value (eqb-true d at same) in omega arith)
 
-digits_without : (base at : ℕ) (word : List ℕ) → base ≤ digit_value at → AllByRecursion (λ d. digit_value d < base) word → AllByRecursion (λ b. eqb b at ≡ false) word
+digits_without : (base at : ℕ) (word : List ℕ) → base ≤ digit_value at
+    → AllByRecursion (λ d. digit_value d < base) word → AllByRecursion (λ b. eqb b at ≡ false) word
 digits_without base at [] other all = tt
-digits_without base at (d ∷ word) other all = (no_digit base at d other all.0, digits_without base at word other all.1)
+digits_without base at (d ∷ word) other all =
+    (no_digit base at d other all.0, digits_without base at word other all.1)
 
 -- neither in a number nor in a hexadecimal word
-pub number_without : (bound n at : ℕ) (word : List ℕ) → 16 ≤ digit_value at → eqb 48 at ≡ false → eqb 120 at ≡ false → Writes bound word n → AllByRecursion (λ b. eqb b at ≡ false) word
+pub number_without : (bound n at : ℕ) (word : List ℕ) → 16 ≤ digit_value at → eqb 48 at ≡ false
+    → eqb 120 at ≡ false → Writes bound word n → AllByRecursion (λ b. eqb b at ≡ false) word
 number_without bound n at word other zero x w =
     elim w.0 [
       | inl decimal ↦ digits_without 10 at word (omega arith) decimal.0.digits
-      | inr hex ↦ subst (AllByRecursion (λ b. eqb b at ≡ false)) (sym hex.1) (zero, (x, digits_without 16 at hex.0 other hex.2.digits))
+      | inr hex ↦ subst (AllByRecursion (λ b. eqb b at ≡ false)) (sym hex.1)
+          (zero, (x, digits_without 16 at hex.0 other hex.2.digits))
     ]
 
-pub hex8_without : (n at : ℕ) (word : List ℕ) → 16 ≤ digit_value at → IsHex8 word n → AllByRecursion (λ b. eqb b at ≡ false) word
+pub hex8_without : (n at : ℕ) (word : List ℕ) → 16 ≤ digit_value at → IsHex8 word n
+    → AllByRecursion (λ b. eqb b at ≡ false) word
 hex8_without n at word other is = digits_without 16 at word other is.1.digits
 
 -- ---- HEX8
@@ -70,7 +77,8 @@ hex8_of-exact word n = (hex8_found word n, hex8_only word n)
 -- ---- behind a name
 
 -- two words that begin with other bytes
-pub other_first : (a b : ℕ) (word name : List ℕ) → eqb a b ≡ false → bytes_eq (a ∷ word) (b ∷ name) ≡ false
+pub other_first : (a b : ℕ) (word name : List ℕ) → eqb a b ≡ false
+    → bytes_eq (a ∷ word) (b ∷ name) ≡ false
 other_first a b word name other =
     false_from_ne_true (bytes_eq (a ∷ word) (b ∷ name)) (λ same.
     let e : a ∷ word ≡ b ∷ name = same_word (a ∷ word) (b ∷ name) same in
@@ -78,15 +86,19 @@ other_first a b word name other =
     both_ways (eqb a b) other (eq-eqb a b first))
 
 -- the same of a word that is given by its first byte
-pub other_head : (a b : ℕ) (word rest name : List ℕ) → word ≡ a ∷ rest → eqb a b ≡ false → bytes_eq word (b ∷ name) ≡ false
+pub other_head : (a b : ℕ) (word rest name : List ℕ) → word ≡ a ∷ rest → eqb a b ≡ false
+    → bytes_eq word (b ∷ name) ≡ false
 other_head a b word rest name is other = rw is (other_first a b rest name other)
 
-starts : (word name : List ℕ) → (starts_with eqb word name ≡ true → word ≡ name ++ drop (length name) word) × ((rest : List ℕ) → word ≡ name ++ rest → starts_with eqb word name ≡ true)
+starts : (word name : List ℕ)
+    → (starts_with eqb word name ≡ true → word ≡ name ++ drop (length name) word)
+    × ((rest : List ℕ) → word ≡ name ++ rest → starts_with eqb word name ≡ true)
 starts word name = starts_is Decides-eqb word name (starts_with eqb word name) refl
 
 pub behind_name : (name rest : List ℕ) → behind name (name ++ rest) ≡ Some rest
 unfolding behind
-behind_name name rest = rw ((starts (name ++ rest) name).1 rest refl) (ap Some (drop_at name rest (length name) refl))
+behind_name name rest =
+    rw ((starts (name ++ rest) name).1 rest refl) (ap Some (drop_at name rest (length name) refl))
 
 pub behind_found : (name word rest : List ℕ) → behind name word ≡ Some rest → word ≡ name ++ rest
 unfolding behind
@@ -94,37 +106,51 @@ behind_found name word rest h =
     let t = cond_some (starts_with eqb word name) (drop (length name) word) rest h in
     (starts word name).0 t.0 ∙ ap (λ more. name ++ more) t.1
 
-pub behind_other : (a b : ℕ) (name word : List ℕ) → eqb b a ≡ false → behind (a ∷ name) (b ∷ word) ≡ None
+pub behind_other : (a b : ℕ) (name word : List ℕ) → eqb b a ≡ false
+    → behind (a ∷ name) (b ∷ word) ≡ None
 unfolding behind
 behind_other a b name word other =
     let away = false_from_ne_true (starts_with eqb (b ∷ word) (a ∷ name)) (λ begins.
-    let e : b ∷ word ≡ a ∷ (name ++ drop (length (a ∷ name)) (b ∷ word)) = (starts (b ∷ word) (a ∷ name)).0 begins in
+    let e : b ∷ word ≡ a ∷ (name ++ drop (length (a ∷ name)) (b ∷ word)) =
+    (starts (b ∷ word) (a ∷ name)).0 begins in
     let first : b ≡ a = cc in
     both_ways (eqb b a) other (eq-eqb b a first)) in
     rw away refl
 
-pub behind_head : (a b : ℕ) (name word rest : List ℕ) → word ≡ b ∷ rest → eqb b a ≡ false → behind (a ∷ name) word ≡ None
+pub behind_head : (a b : ℕ) (name word rest : List ℕ) → word ≡ b ∷ rest → eqb b a ≡ false
+    → behind (a ∷ name) word ≡ None
 behind_head a b name word rest is other = rw is (behind_other a b name rest other)
 
 -- ---- what stands behind a name
 
-pub named_hex8_found : (name word : List ℕ) (n : ℕ) → named_hex8_of name word ≡ Some n → IsNamedHex8 name word n
+pub named_hex8_found : (name word : List ℕ) (n : ℕ) → named_hex8_of name word ≡ Some n
+    → IsNamedHex8 name word n
 unfolding named_hex8_of
 named_hex8_found name word n h =
-    steps _ (behind name word) n h (λ rest front read. (rest, behind_found name word rest front, hex8_found rest n read))
+    steps _ (behind name word) n h
+    (λ rest front read. (rest, behind_found name word rest front, hex8_found rest n read))
 
-pub named_hex8_only : (name word : List ℕ) (n : ℕ) → IsNamedHex8 name word n → named_hex8_of name word ≡ Some n
+pub named_hex8_only : (name word : List ℕ) (n : ℕ) → IsNamedHex8 name word n
+    → named_hex8_of name word ≡ Some n
 unfolding named_hex8_of
 named_hex8_only name word n w = rw (w.1, behind_name name w.0) (hex8_only w.0 n w.2)
 
-pub named_number_found : (name word : List ℕ) (n : ℕ) → named_number_of name word ≡ Some n → IsNamedNumber name word n
+pub named_number_found : (name word : List ℕ) (n : ℕ) → named_number_of name word ≡ Some n
+    → IsNamedNumber name word n
 unfolding named_number_of
 named_number_found name word n h =
-    steps _ (behind name word) n h (λ rest front read. (rest, behind_found name word rest front, (number_below_of-exact (2 ^ 32) rest n).0 read))
+    steps _ (behind name word) n h
+    (λ rest front read. (
+      rest,
+      behind_found name word rest front,
+      (number_below_of-exact (2 ^ 32) rest n).0 read,
+    ))
 
-pub named_number_only : (name word : List ℕ) (n : ℕ) → IsNamedNumber name word n → named_number_of name word ≡ Some n
+pub named_number_only : (name word : List ℕ) (n : ℕ) → IsNamedNumber name word n
+    → named_number_of name word ≡ Some n
 unfolding named_number_of
-named_number_only name word n w = rw (w.1, behind_name name w.0) ((number_below_of-exact (2 ^ 32) w.0 n).1 w.2)
+named_number_only name word n w =
+    rw (w.1, behind_name name w.0) ((number_below_of-exact (2 ^ 32) w.0 n).1 w.2)
 
 pair_found : (word : List ℕ) (first second : ℕ) → pair_of word ≡ Some (first, second)
     → (a b : List ℕ) × (word ≡ a ++ (58 ∷ b)) × IsHex8 a first × IsHex8 b second
@@ -141,37 +167,51 @@ pair_found word first second h =
       subst (IsHex8 parts.1) e.1 (hex8_found parts.1 n low),
     ))))
 
-pair_only : (a b : List ℕ) (first second : ℕ) → IsHex8 a first → IsHex8 b second → pair_of (a ++ (58 ∷ b)) ≡ Some (first, second)
+pair_only : (a b : List ℕ) (first second : ℕ) → IsHex8 a first → IsHex8 b second
+    → pair_of (a ++ (58 ∷ b)) ≡ Some (first, second)
 unfolding pair_of
 pair_only a b first second high low =
-    rw (cut_of-at 58 a b (hex8_without first 58 a (omega arith) high), hex8_only a first high, hex8_only b second low) refl
+    rw (
+      cut_of-at 58 a b (hex8_without first 58 a (omega arith) high),
+      hex8_only a first high,
+      hex8_only b second low,
+    ) refl
 
-pub named_pair_found : (name word : List ℕ) (first second : ℕ) → named_pair_of name word ≡ Some (first, second) → IsNamedPair name word first second
+pub named_pair_found : (name word : List ℕ) (first second : ℕ)
+    → named_pair_of name word ≡ Some (first, second) → IsNamedPair name word first second
 unfolding named_pair_of
 named_pair_found name word first second h =
     steps _ (behind name word) (first, second) h (λ rest front read.
     let p = pair_found rest first second read in
     (p.0, p.1, behind_found name word rest front ∙ ap (λ more. name ++ more) p.2, p.3, p.4))
 
-pub named_pair_only : (name word : List ℕ) (first second : ℕ) → IsNamedPair name word first second → named_pair_of name word ≡ Some (first, second)
+pub named_pair_only : (name word : List ℕ) (first second : ℕ) → IsNamedPair name word first second
+    → named_pair_of name word ≡ Some (first, second)
 unfolding named_pair_of
 named_pair_only name word first second w =
     rw (w.2, behind_name name (w.0 ++ (58 ∷ w.1))) (pair_only w.0 w.1 first second w.3 w.4)
 
 -- ---- cells
 
-pub count_found : (bound : ℕ) (word : List ℕ) (n : ℕ) → count_below_of bound word ≡ Some n → Writes bound word n × (1 ≤ n)
+pub count_found : (bound : ℕ) (word : List ℕ) (n : ℕ) → count_below_of bound word ≡ Some n
+    → Writes bound word n × (1 ≤ n)
 unfolding count_below_of
 count_found bound word n h =
     steps _ (number_below_of bound word) n h (λ m read h.
-    let t = cond_some (leb 1 m) m n h in
-    (subst (Writes bound word) t.1 ((number_below_of-exact bound word m).0 read), subst (λ n. 1 ≤ n) t.1 (leb-true 1 m t.0)))
+    let t = cond_some (leb 1 m) m n h in (
+      subst (Writes bound word) t.1 ((number_below_of-exact bound word m).0 read),
+      subst (λ n. 1 ≤ n)
+          t.1 (leb-true 1 m t.0),
+    ))
 
-pub count_only : (bound : ℕ) (word : List ℕ) (n : ℕ) → Writes bound word n → 1 ≤ n → count_below_of bound word ≡ Some n
+pub count_only : (bound : ℕ) (word : List ℕ) (n : ℕ) → Writes bound word n → 1 ≤ n
+    → count_below_of bound word ≡ Some n
 unfolding count_below_of
-count_only bound word n w least = rw ((number_below_of-exact bound word n).1 w, le-leb 1 n least) refl
+count_only bound word n w least =
+    rw ((number_below_of-exact bound word n).1 w, le-leb 1 n least) refl
 
-pub cell_found : (word : List ℕ) (reg value : ℕ) → cell_of word ≡ Some (reg, value) → IsCell word reg value
+pub cell_found : (word : List ℕ) (reg value : ℕ) → cell_of word ≡ Some (reg, value)
+    → IsCell word reg value
 unfolding cell_of
 cell_found word reg value h =
     steps _ (behind (codes "r") word) (reg, value) h (λ rest front h.
@@ -182,13 +222,15 @@ cell_found word reg value h =
     let c = count_found 34 parts.0 m read in (
       parts.0,
       parts.1,
-      behind_found (codes "r") word rest front ∙ ap (λ more. codes "r" ++ more) (cut_of-whole 61 rest parts.0 parts.1 cuts),
+      behind_found (codes "r") word rest front ∙ ap (λ more. codes "r" ++ more)
+          (cut_of-whole 61 rest parts.0 parts.1 cuts),
       subst (Writes 34 parts.0) e.0 c.0,
       subst (λ n. 1 ≤ n) e.0 c.1,
       subst (IsHex8 parts.1) e.1 (hex8_found parts.1 n low),
     )))))
 
-pub cell_only : (word : List ℕ) (reg value : ℕ) → IsCell word reg value → cell_of word ≡ Some (reg, value)
+pub cell_only : (word : List ℕ) (reg value : ℕ) → IsCell word reg value
+    → cell_of word ≡ Some (reg, value)
 unfolding cell_of
 cell_only word reg value w =
     rw (w.2, behind_name (codes "r") (w.0 ++ (61 ∷ w.1))) (
@@ -197,11 +239,13 @@ cell_only word reg value w =
 
 -- ---- no value behind another name
 
-pub named_hex8_none : (name word : List ℕ) → behind name word ≡ None → named_hex8_of name word ≡ None
+pub named_hex8_none : (name word : List ℕ) → behind name word ≡ None
+    → named_hex8_of name word ≡ None
 unfolding named_hex8_of
 named_hex8_none name word none = rw none refl
 
-pub named_pair_none : (name word : List ℕ) → behind name word ≡ None → named_pair_of name word ≡ None
+pub named_pair_none : (name word : List ℕ) → behind name word ≡ None
+    → named_pair_of name word ≡ None
 unfolding named_pair_of
 named_pair_none name word none = rw none refl
 
@@ -211,6 +255,7 @@ cell_none word none = rw none refl
 
 -- ---- the first of two values that is there
 
-pub or_else_some : {A : Type 0} (first second : Option A) (x : A) → or_else first second ≡ Some x → (first ≡ Some x) ⊎ (second ≡ Some x)
+pub or_else_some : {A : Type 0} (first second : Option A) (x : A) → or_else first second ≡ Some x
+    → (first ≡ Some x) ⊎ (second ≡ Some x)
 or_else_some None second x h = inr h
 or_else_some (Some y) second x h = inl h

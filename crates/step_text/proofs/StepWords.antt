@@ -31,7 +31,9 @@ use Rattle.step_text.proofs.FieldLaws.{behind_head, cell_found, cell_none, cell_
 -- ---- a choice by a word
 
 -- the word is a name and the value that of the name, or it is another word
-either : {A : Type 0} (test : Bool) (x : A) (other : Option A) (y : A) → cond test (Some x) other ≡ Some y → ((test ≡ true) × (x ≡ y)) ⊎ ((test ≡ false) × (other ≡ Some y))
+either : {A : Type 0} (test : Bool) (x : A) (other : Option A) (y : A)
+    → cond test (Some x) other ≡ Some y
+    → ((test ≡ true) × (x ≡ y)) ⊎ ((test ≡ false) × (other ≡ Some y))
 either true x other y h = inl (refl, same_Some x y h)
 either false x other y h = inr (refl, h)
 
@@ -42,23 +44,30 @@ IsCellOrPair name word form.Nothing = word ≡ codes "-"
 IsCellOrPair name word (form.Cell reg value) = IsCell word reg value
 IsCellOrPair name word (form.Pair first second) = IsNamedPair name word first second
 
-cell_or_pair_found : (name word : List ℕ) (c : CellOrPair) → cell_or_pair_of name word ≡ Some c → IsCellOrPair name word c
+cell_or_pair_found : (name word : List ℕ) (c : CellOrPair) → cell_or_pair_of name word ≡ Some c
+    → IsCellOrPair name word c
 unfolding cell_or_pair_of
 cell_or_pair_found name word c h =
     elim (either (bytes_eq word (codes "-")) form.Nothing _ c h) [
       | inl t ↦ subst (IsCellOrPair name word) t.1 (same_word word (codes "-") t.0)
       | inr t ↦ elim (or_else_some _ _ c t.1) [
         | inl first ↦
-            let m = option_map_some (λ (cell : ℕ × ℕ). form.Cell cell.0 cell.1) (cell_of word) c first in
-            subst (IsCellOrPair name word) (same_Some (form.Cell m.0.0 m.0.1) c m.2) (cell_found word m.0.0 m.0.1 m.1)
+            let m = option_map_some (λ (cell : ℕ × ℕ). form.Cell cell.0 cell.1) (cell_of word) c
+            first in
+            subst (IsCellOrPair name word) (same_Some (form.Cell m.0.0 m.0.1) c m.2)
+            (cell_found word m.0.0 m.0.1 m.1)
         | inr second ↦
-            let m = option_map_some (λ (pair : ℕ × ℕ). form.Pair pair.0 pair.1) (named_pair_of name word) c second in
-            subst (IsCellOrPair name word) (same_Some (form.Pair m.0.0 m.0.1) c m.2) (named_pair_found name word m.0.0 m.0.1 m.1)
+            let m = option_map_some (λ (pair : ℕ × ℕ). form.Pair pair.0 pair.1)
+            (named_pair_of name word) c second in
+            subst (IsCellOrPair name word) (same_Some (form.Pair m.0.0 m.0.1) c m.2)
+            (named_pair_found name word m.0.0 m.0.1 m.1)
       ]
     ]
 
 -- the name begins neither as `-` nor as a cell does
-cell_or_pair_only : (head : ℕ) (rest word : List ℕ) (c : CellOrPair) → eqb head 45 ≡ false → eqb head 114 ≡ false → IsCellOrPair (head ∷ rest) word c → cell_or_pair_of (head ∷ rest) word ≡ Some c
+cell_or_pair_only : (head : ℕ) (rest word : List ℕ) (c : CellOrPair) → eqb head 45 ≡ false
+    → eqb head 114 ≡ false → IsCellOrPair (head ∷ rest) word c
+    → cell_or_pair_of (head ∷ rest) word ≡ Some c
 unfolding cell_or_pair_of
 cell_or_pair_only head rest word form.Nothing dash cell is = rw (is_word word (codes "-") is) refl
 cell_or_pair_only head rest word (form.Cell reg value) dash cell is =
@@ -70,14 +79,18 @@ cell_or_pair_only head rest word (form.Pair first second) dash cell is =
     rw (away, no_cell, named_pair_only (head ∷ rest) word first second is) refl
 
 -- what holds of each such word holds of the word of the value that is made of it
-made_found : {A : Type 0} (make : CellOrPair → A) (IsOf : List ℕ → A → Type 0) (name word : List ℕ) (x : A) → ((c : CellOrPair) → IsCellOrPair name word c → IsOf word (make c)) → option_map make (cell_or_pair_of name word) ≡ Some x → IsOf word x
+made_found : {A : Type 0} (make : CellOrPair → A) (IsOf : List ℕ → A → Type 0) (name word : List ℕ)
+    (x : A)
+    → ((c : CellOrPair) → IsCellOrPair name word c → IsOf word (make c))
+    → option_map make (cell_or_pair_of name word) ≡ Some x → IsOf word x
 made_found make IsOf name word x is h =
     let m = option_map_some make (cell_or_pair_of name word) x h in
     subst (IsOf word) (same_Some (make m.0) x m.2) (is m.0 (cell_or_pair_found name word m.0 m.1))
 
 -- ---- WRITES
 
-writes_by-is : (word : List ℕ) (c : CellOrPair) → IsCellOrPair (codes "hl=") word c → IsWrites word (writes_by c)
+writes_by-is : (word : List ℕ) (c : CellOrPair) → IsCellOrPair (codes "hl=") word c
+    → IsWrites word (writes_by c)
 writes_by-is word form.Nothing is = is
 writes_by-is word (form.Cell reg value) is = is
 writes_by-is word (form.Pair first second) is = is
@@ -88,9 +101,14 @@ writes_found word w h = made_found writes_by IsWrites (codes "hl=") word w (writ
 
 writes_only : (word : List ℕ) (w : Writes) → IsWrites word w → writes_of word ≡ Some w
 unfolding writes_of
-writes_only word writes.Nothing is = ap (option_map writes_by) (cell_or_pair_only 104 (codes "l=") word form.Nothing refl refl is)
-writes_only word (writes.One reg value) is = ap (option_map writes_by) (cell_or_pair_only 104 (codes "l=") word (form.Cell reg value) refl refl is)
-writes_only word (writes.Pair hi lo) is = ap (option_map writes_by) (cell_or_pair_only 104 (codes "l=") word (form.Pair hi lo) refl refl is)
+writes_only word writes.Nothing is =
+    ap (option_map writes_by) (cell_or_pair_only 104 (codes "l=") word form.Nothing refl refl is)
+writes_only word (writes.One reg value) is =
+    ap (option_map writes_by)
+    (cell_or_pair_only 104 (codes "l=") word (form.Cell reg value) refl refl is)
+writes_only word (writes.Pair hi lo) is =
+    ap (option_map writes_by)
+    (cell_or_pair_only 104 (codes "l=") word (form.Pair hi lo) refl refl is)
 
 pub writes_of-exact : (word : List ℕ) (w : Writes) → (writes_of word ≡ Some w) ↔ IsWrites word w
 writes_of-exact word w = (writes_found word w, writes_only word w)
@@ -111,7 +129,8 @@ stored_bytes_found word s h =
       more.0,
       more.1,
       bytes,
-      cut_of-whole 43 word parts.0 parts.1 cuts ∙ ap (λ more. parts.0 ++ (43 ∷ more)) (cut_of-whole 61 parts.1 more.0 more.1 cuts_more),
+      cut_of-whole 43 word parts.0 parts.1 cuts ∙ ap (λ more. parts.0 ++ (43 ∷ more))
+          (cut_of-whole 61 parts.1 more.0 more.1 cuts_more),
       (hex8_of-exact parts.0 address).0 high,
       c.0,
       c.1,
@@ -128,7 +147,8 @@ stored_found word s h =
     ]
 
 -- a word that begins with eight digits is no dash
-long_word : (a more word : List ℕ) (n : ℕ) → word ≡ a ++ more → IsHex8 a n → bytes_eq word (codes "-") ≡ false
+long_word : (a more word : List ℕ) (n : ℕ) → word ≡ a ++ more → IsHex8 a n
+    → bytes_eq word (codes "-") ≡ false
 long_word a more word n is hex =
     let sized : length a ≡ 8 = hex.1.sized in
     let long : length word ≡ length a + length more = ap length is ∙ length-append a more in
@@ -137,7 +157,18 @@ long_word a more word n is hex =
 stored_only : (word : List ℕ) (s : Stored) → IsStored word s → stored_of word ≡ Some s
 unfolding stored_of stored_bytes_of bytes_at_of
 stored_only word stored.Nothing is = rw (is_word word (codes "-") is) refl
-stored_only word (stored.Bytes address count value) (a, c, h, bytes, whole, high, counts, least, low, valued) =
+stored_only word (stored.Bytes address count value) (
+  a,
+  c,
+  h,
+  bytes,
+  whole,
+  high,
+  counts,
+  least,
+  low,
+  valued,
+) =
     rw (long_word a (43 ∷ (c ++ (61 ∷ h))) word address whole high) (
     rw whole (
     rw (cut_of-at 43 a (c ++ (61 ∷ h)) (hex8_without address 43 a (omega arith) high)) (
@@ -159,14 +190,19 @@ received_found word g h =
       | inr t ↦ elim (or_else_some _ _ g t.1) [
         | inl first ↦
             let m = option_map_some received.Cell (named_hex8_of (codes "cell=") word) g first in
-            subst (IsReceived word) (same_Some (received.Cell m.0) g m.2) (named_hex8_found (codes "cell=") word m.0 m.1)
+            subst (IsReceived word) (same_Some (received.Cell m.0) g m.2)
+            (named_hex8_found (codes "cell=") word m.0 m.1)
         | inr others ↦ elim (or_else_some _ _ g others) [
           | inl second ↦
-              let m = option_map_some (λ (pair : ℕ × ℕ). received.Null pair.0 pair.1) (named_pair_of (codes "null=") word) g second in
-              subst (IsReceived word) (same_Some (received.Null m.0.0 m.0.1) g m.2) (named_pair_found (codes "null=") word m.0.0 m.0.1 m.1)
+              let m = option_map_some (λ (pair : ℕ × ℕ). received.Null pair.0 pair.1)
+              (named_pair_of (codes "null=") word) g second in
+              subst (IsReceived word) (same_Some (received.Null m.0.0 m.0.1) g m.2)
+              (named_pair_found (codes "null=") word m.0.0 m.0.1 m.1)
           | inr third ↦
-              let m = option_map_some received.Signal (named_number_of (codes "signal=") word) g third in
-              subst (IsReceived word) (same_Some (received.Signal m.0) g m.2) (named_number_found (codes "signal=") word m.0 m.1)
+              let m = option_map_some received.Signal (named_number_of (codes "signal=") word) g
+              third in
+              subst (IsReceived word) (same_Some (received.Signal m.0) g m.2)
+              (named_number_found (codes "signal=") word m.0 m.1)
         ]
       ]
     ]
@@ -179,35 +215,48 @@ received_only word (received.Cell value) is =
     rw (away, named_hex8_only (codes "cell=") word value is) refl
 received_only word (received.Null address value) is =
     let away : bytes_eq word (codes "-") ≡ false = other_head 110 45 word _ _ is.2 refl in
-    let no_cell : named_hex8_of (codes "cell=") word ≡ None = named_hex8_none (codes "cell=") word (behind_head 99 110 _ word _ is.2 refl) in
+    let no_cell : named_hex8_of (codes "cell=") word ≡ None = named_hex8_none (codes "cell=") word
+    (behind_head 99 110 _ word _ is.2 refl) in
     rw (away, no_cell, named_pair_only (codes "null=") word address value is) refl
 received_only word (received.Signal n) is =
     let away : bytes_eq word (codes "-") ≡ false = other_head 115 45 word _ _ is.1 refl in
-    let no_cell : named_hex8_of (codes "cell=") word ≡ None = named_hex8_none (codes "cell=") word (behind_head 99 115 _ word _ is.1 refl) in
-    let no_null : named_pair_of (codes "null=") word ≡ None = named_pair_none (codes "null=") word (behind_head 110 115 _ word _ is.1 refl) in
+    let no_cell : named_hex8_of (codes "cell=") word ≡ None = named_hex8_none (codes "cell=") word
+    (behind_head 99 115 _ word _ is.1 refl) in
+    let no_null : named_pair_of (codes "null=") word ≡ None = named_pair_none (codes "null=") word
+    (behind_head 110 115 _ word _ is.1 refl) in
     rw (away, no_cell, no_null, named_number_only (codes "signal=") word n is) refl
 
-pub received_of-exact : (word : List ℕ) (g : Received) → (received_of word ≡ Some g) ↔ IsReceived word g
+pub received_of-exact : (word : List ℕ) (g : Received)
+    → (received_of word ≡ Some g) ↔ IsReceived word g
 received_of-exact word g = (received_found word g, received_only word g)
 
 -- ---- RELEASED
 
-released_by-is : (word : List ℕ) (c : CellOrPair) → IsCellOrPair (codes "null=") word c → IsReleased word (released_by c)
+released_by-is : (word : List ℕ) (c : CellOrPair) → IsCellOrPair (codes "null=") word c
+    → IsReleased word (released_by c)
 released_by-is word form.Nothing is = is
 released_by-is word (form.Cell reg value) is = is
 released_by-is word (form.Pair first second) is = is
 
 released_found : (word : List ℕ) (r : Released) → released_of word ≡ Some r → IsReleased word r
 unfolding released_of
-released_found word r h = made_found released_by IsReleased (codes "null=") word r (released_by-is word) h
+released_found word r h =
+    made_found released_by IsReleased (codes "null=") word r (released_by-is word) h
 
 released_only : (word : List ℕ) (r : Released) → IsReleased word r → released_of word ≡ Some r
 unfolding released_of
-released_only word released.Nothing is = ap (option_map released_by) (cell_or_pair_only 110 (codes "ull=") word form.Nothing refl refl is)
-released_only word (released.Cell reg value) is = ap (option_map released_by) (cell_or_pair_only 110 (codes "ull=") word (form.Cell reg value) refl refl is)
-released_only word (released.Null address value) is = ap (option_map released_by) (cell_or_pair_only 110 (codes "ull=") word (form.Pair address value) refl refl is)
+released_only word released.Nothing is =
+    ap (option_map released_by)
+    (cell_or_pair_only 110 (codes "ull=") word form.Nothing refl refl is)
+released_only word (released.Cell reg value) is =
+    ap (option_map released_by)
+    (cell_or_pair_only 110 (codes "ull=") word (form.Cell reg value) refl refl is)
+released_only word (released.Null address value) is =
+    ap (option_map released_by)
+    (cell_or_pair_only 110 (codes "ull=") word (form.Pair address value) refl refl is)
 
-pub released_of-exact : (word : List ℕ) (r : Released) → (released_of word ≡ Some r) ↔ IsReleased word r
+pub released_of-exact : (word : List ℕ) (r : Released)
+    → (released_of word ≡ Some r) ↔ IsReleased word r
 released_of-exact word r = (released_found word r, released_only word r)
 
 -- ---- END
@@ -221,7 +270,8 @@ end_found word e h =
         | inl u ↦ subst (IsEnd word) u.1 (same_word word (codes "exit") u.0)
         | inr u ↦
             let m = option_map_some ended.Call (named_number_of (codes "call=") word) e u.1 in
-            subst (IsEnd word) (same_Some (ended.Call m.0) e m.2) (named_number_found (codes "call=") word m.0 m.1)
+            subst (IsEnd word) (same_Some (ended.Call m.0) e m.2)
+            (named_number_found (codes "call=") word m.0 m.1)
       ]
     ]
 
@@ -258,7 +308,16 @@ step_found (pc ∷ npc ∷ w ∷ s ∷ g ∷ r ∷ e ∷ []) step h =
     steps _ (released_of r) step h (λ r_v r_is h.
     steps _ (end_of e) step h (λ e_v e_is h.
     subst (IsStep (pc ∷ npc ∷ w ∷ s ∷ g ∷ r ∷ e ∷ []))
-    (same_Some record { pc = pc_n; npc = npc_n; writes = w_v; stored = s_v; received = g_v; released = r_v; end = e_v } step h) (
+    (same_Some record {
+      pc = pc_n;
+      npc = npc_n;
+      writes = w_v;
+      stored = s_v;
+      received =
+          g_v;
+      released = r_v;
+      end = e_v;
+    } step h) (
       pc,
       npc,
       w,
@@ -280,10 +339,22 @@ step_only : (words : List (List ℕ)) (step : Step) → IsStep words step → st
 unfolding step_of
 step_only words step (pc, npc, w, s, g, r, e, is, pc_is, npc_is, w_is, s_is, g_is, r_is, e_is) =
     ap step_of is ∙ (
-    rw ((hex8_of-exact pc step.pc).1 pc_is, (hex8_of-exact npc step.npc).1 npc_is, writes_only w step.writes w_is, stored_only s step.stored s_is) (
-    rw (received_only g step.received g_is, released_only r step.released r_is, end_only e step.end e_is) refl))
+    rw (
+      (hex8_of-exact pc step.pc).1 pc_is,
+      (hex8_of-exact npc step.npc).1 npc_is,
+      writes_only w
+          step.writes w_is,
+      stored_only s step.stored s_is,
+    ) (
+    rw (
+      received_only g step.received g_is,
+      released_only r step.released r_is,
+      end_only e step.end
+          e_is,
+    ) refl))
 
-pub step_of-exact : (words : List (List ℕ)) (step : Step) → (step_of words ≡ Some step) ↔ IsStep words step
+pub step_of-exact : (words : List (List ℕ)) (step : Step)
+    → (step_of words ≡ Some step) ↔ IsStep words step
 step_of-exact words step = (step_found words step, step_only words step)
 
 -- ---- faults
@@ -316,5 +387,6 @@ fault_only word fault.Overflow is = rw is refl
 fault_only word fault.Address is = rw is refl
 fault_only word fault.Break is = rw is refl
 
-pub fault_of-exact : (word : List ℕ) (kind : OwnFault) → (fault_of word ≡ Some kind) ↔ IsFault word kind
+pub fault_of-exact : (word : List ℕ) (kind : OwnFault)
+    → (fault_of word ≡ Some kind) ↔ IsFault word kind
 fault_of-exact word kind = (fault_found word kind, fault_only word kind)

@@ -1,4 +1,5 @@
--- The fields of a recorded step as words of a line: what each word writes. Hexadecimal digits are in either case, and numbers are those of all texts. This project's own format.
+-- The fields of a recorded step as words of a line: what each word writes. Hexadecimal digits are
+-- in either case, and numbers are those of all texts. This project's own format.
 use Rattle.std.specs.Prelude.{◌≡◌, ℕ, ◌+◌, ◌-◌, ◌^◌, ◌==◌, ◌≤◌, nat_eq, nat_le, if◌then◌else◌, List, [], ◌∷◌, ◌++◌, length, drop, replicate, codes, Option, Some, None, option_map}
 use Rattle.std.specs.Int.{w32, from_be_bytes}
 use Rattle.std.specs.List.{starts_with}
@@ -62,7 +63,8 @@ abbrev pub IsStored : List ℕ → Stored → Type 0
 IsStored word stored.Nothing = word ≡ codes "-"
 IsStored word (stored.Bytes address count value) =
     (a c h bytes : List ℕ) × (word ≡ a ++ (codes "+" ++ (c ++ (codes "=" ++ h))))
-    × IsHex8 a address × WritesNumber 5 c count × (1 ≤ count) × IsHex count h bytes × (value ≡ low_bytes count bytes)
+    × IsHex8 a address × WritesNumber 5 c count × (1 ≤ count) × IsHex count h bytes
+    × (value ≡ low_bytes count bytes)
 
 -- RECEIVED
 abbrev pub IsReceived : List ℕ → Received → Type 0
@@ -205,7 +207,16 @@ step_of (pc ∷ npc ∷ w ∷ s ∷ g ∷ r ∷ e ∷ []) = do
   received ← received_of g
   released ← released_of r
   end ← end_of e
-  Some (record { pc = pc; npc = npc; writes = writes; stored = stored; received = received; released = released; end = end })
+  Some (record {
+    pc = pc;
+    npc = npc;
+    writes = writes;
+    stored = stored;
+    received =
+        received;
+    released = released;
+    end = end;
+  })
 step_of other = None
 
 unfoldable pub fault_of : List ℕ → Option OwnFault

@@ -1,4 +1,5 @@
--- The text of one recorded step, field by field, and the names of a guest's own faults. This project's own format.
+-- The text of one recorded step, field by field, and the names of a guest's own faults. This
+-- project's own format.
 use Rattle.std.specs.Prelude.{◌≡◌, ℕ, ◌-◌, List, ◌++◌, drop, codes}
 use Rattle.std.specs.Fmt.{decimal}
 use Rattle.std.specs.Int.{w32, to_be_bytes}
@@ -31,20 +32,23 @@ writes_text (writes.Pair hi lo) = codes "hl=" ++ (hex8 hi ++ (codes ":" ++ hex8 
 -- the bytes stored, behind their address and their number
 abbrev pub stored_text : Stored → List ℕ
 stored_text stored.Nothing = codes "-"
-stored_text (stored.Bytes address count value) = hex8 address ++ (codes "+" ++ (decimal count ++ (codes "=" ++ low_hex count value)))
+stored_text (stored.Bytes address count value) =
+    hex8 address ++ (codes "+" ++ (decimal count ++ (codes "=" ++ low_hex count value)))
 
 -- what came from outside; a word of RAM behind its address
 abbrev pub received_text : Received → List ℕ
 received_text received.Nothing = codes "-"
 received_text (received.Cell value) = codes "cell=" ++ hex8 value
-received_text (received.Null address value) = codes "null=" ++ (hex8 address ++ (codes ":" ++ hex8 value))
+received_text (received.Null address value) =
+    codes "null=" ++ (hex8 address ++ (codes ":" ++ hex8 value))
 received_text (received.Signal n) = codes "signal=" ++ decimal n
 
 -- what was given out; a word of RAM behind its address
 abbrev pub released_text : Released → List ℕ
 released_text released.Nothing = codes "-"
 released_text (released.Cell reg value) = codes "r" ++ (decimal reg ++ (codes "=" ++ hex8 value))
-released_text (released.Null address value) = codes "null=" ++ (hex8 address ++ (codes ":" ++ hex8 value))
+released_text (released.Null address value) =
+    codes "null=" ++ (hex8 address ++ (codes ":" ++ hex8 value))
 
 -- how the step ended
 abbrev pub end_text : StepEnd → List ℕ
@@ -55,11 +59,15 @@ end_text ended.Exit = codes "exit"
 -- the fields PC NPC WRITES STORED: where the guest was, and what it changed of its own
 abbrev pub own_fields : Step → List ℕ
 own_fields step =
-    hex8 step.pc ++ (codes " " ++ (hex8 step.npc ++ (codes " " ++ (writes_text step.writes ++ (codes " " ++ stored_text step.stored)))))
+    hex8 step.pc ++ (codes " "
+    ++ (hex8 step.npc ++ (codes " "
+    ++ (writes_text step.writes ++ (codes " " ++ stored_text step.stored)))))
 
 -- the fields RECEIVED RELEASED END: what passed to and from the guest
 abbrev pub outer_fields : Step → List ℕ
-outer_fields step = received_text step.received ++ (codes " " ++ (released_text step.released ++ (codes " " ++ end_text step.end)))
+outer_fields step =
+    received_text step.received
+    ++ (codes " " ++ (released_text step.released ++ (codes " " ++ end_text step.end)))
 
 -- all fields, PC NPC WRITES STORED RECEIVED RELEASED END, with one space between each two
 unfoldable pub step_fields : Step → List ℕ

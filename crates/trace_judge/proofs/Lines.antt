@@ -17,20 +17,27 @@ use Rattle.trace_judge.specs.Judgement.{line_in, verdict_by, verdict_of}
 use Rattle.trace_judge.specs.Laws.{IsRun, DoesFollow, RunsAreFollowed}
 
 -- the verdict on a run
-verdict-of_run : (owners : List Owner) (entries : List Entry) (n : ℕ) (id : ImageId) (owner : Owner) (q : State) → owner_of owners id ≡ Some owner → Reaches (start owner.plain) (steps_of n entries) q → verdict_of owners entries n id ≡ Follows (length (steps_of n entries))
+verdict-of_run : (owners : List Owner) (entries : List Entry) (n : ℕ) (id : ImageId) (owner : Owner)
+    (q : State)
+    → owner_of owners id ≡ Some owner → Reaches (start owner.plain) (steps_of n entries) q
+    → verdict_of owners entries n id ≡ Follows (length (steps_of n entries))
 verdict-of_run owners entries n id owner q owned reaches =
     ap (λ found. verdict_by found (steps_of n entries)) owned
     ∙ verdict-of_reaches (start owner.plain) (steps_of n entries) q 0 reaches
     ∙ ap Follows (omega arith)
 
 -- one more entry
-lines-cons : (owners : List Owner) (entries : List Entry) (entry : Entry) (lines : List GuestLine) → IsRun owners entries entry → All (DoesFollow entries) lines → All (DoesFollow entries) (cons_option (line_in owners entries entry) lines)
+lines-cons : (owners : List Owner) (entries : List Entry) (entry : Entry) (lines : List GuestLine)
+    → IsRun owners entries entry → All (DoesFollow entries) lines
+    → All (DoesFollow entries) (cons_option (line_in owners entries entry) lines)
 lines-cons owners entries (entry.Install n slot id place at size) lines run follow =
-    All-cons (DoesFollow entries) _ lines (verdict-of_run owners entries n id run.0 run.1 run.2 run.3) follow
+    All-cons (DoesFollow entries) _ lines (verdict-of_run owners entries n id run.0 run.1 run.2
+    run.3) follow
 lines-cons owners entries other lines run follow = follow
 
 -- the lines of some of the entries
-lines-follow : (owners : List Owner) (entries some : List Entry) → All (IsRun owners entries) some → All (DoesFollow entries) (filter_map (line_in owners entries) some)
+lines-follow : (owners : List Owner) (entries some : List Entry) → All (IsRun owners entries) some
+    → All (DoesFollow entries) (filter_map (line_in owners entries) some)
 lines-follow owners entries [] runs = All-nil (DoesFollow entries)
 lines-follow owners entries (entry ∷ some) runs =
     lines-cons owners entries entry (filter_map (line_in owners entries) some)
@@ -42,6 +49,8 @@ pub Follows-lines : RunsAreFollowed
 Follows-lines owners entries runs = lines-follow owners entries entries runs
 
 -- a fact of each entry that the journal gives, as a fact of all
-pub All-of_gets : {X : Type 0} (P : X → Type 0) (xs : List X) → ((i : ℕ) (x : X) → slice_get xs i ≡ Some x → P x) → All P xs
+pub All-of_gets : {X : Type 0} (P : X → Type 0) (xs : List X)
+    → ((i : ℕ) (x : X) → slice_get xs i ≡ Some x → P x) → All P xs
 All-of_gets P [] each = All-nil P
-All-of_gets P (x ∷ xs) each = All-cons P x xs (each 0 x refl) (All-of_gets P xs (λ i y got. each (i + 1) y (rw add-one got)))
+All-of_gets P (x ∷ xs) each =
+    All-cons P x xs (each 0 x refl) (All-of_gets P xs (λ i y got. each (i + 1) y (rw add-one got)))

@@ -17,25 +17,32 @@ use Rattle.trace_judge.proofs.GuestLaws.{never_running}
 abbrev told_with : List Step → GuestEnd → Told
 told_with steps end = record { steps = steps; end = end }
 
-end_behind : (found : Option GuestEnd) (n : ℕ) (rest : GuestEnd) (e : Entry) → (found ≡ Some Running → ⊥) → unwrap_or found (end_after_entry rest n e) ≡ end_after_entry (unwrap_or found rest) n e
+end_behind : (found : Option GuestEnd) (n : ℕ) (rest : GuestEnd) (e : Entry)
+    → (found ≡ Some Running → ⊥)
+    → unwrap_or found (end_after_entry rest n e) ≡ end_after_entry (unwrap_or found rest) n e
 end_behind None n rest e never = refl
 end_behind (Some Ended) n rest e never = refl
 end_behind (Some (Stopped rule)) n rest e never = refl
 end_behind (Some Killed) n rest e never = refl
 end_behind (Some Running) n rest e never = absurd (never refl)
 
-end_of-more : (n : ℕ) (es : List Entry) (e : Entry) → end_of n (es ++ e ∷ []) ≡ end_after_entry (end_of n es) n e
+end_of-more : (n : ℕ) (es : List Entry) (e : Entry)
+    → end_of n (es ++ e ∷ []) ≡ end_after_entry (end_of n es) n e
 end_of-more n [] e = refl
 end_of-more n (first ∷ es) e =
     ap (unwrap_or (end_in n first)) (end_of-more n es e)
     ∙ end_behind (end_in n first) n (end_of n es) e (never_running n first)
 
-told_of-more : (es : List Entry) (e : Entry) (n : ℕ) → told_of (es ++ e ∷ []) n ≡ told_after (told_of es n) n e
-told_of-more es e n = same_at_both told_with (filter_map-append (step_in n) es (e ∷ [])) (end_of-more n es e)
+told_of-more : (es : List Entry) (e : Entry) (n : ℕ)
+    → told_of (es ++ e ∷ []) n ≡ told_after (told_of es n) n e
+told_of-more es e n =
+    same_at_both told_with (filter_map-append (step_in n) es (e ∷ [])) (end_of-more n es e)
 
 -- one more entry of a list
-pub told_of-take : (es : List Entry) (i : ℕ) (e : Entry) → i < length es → e ≡ get_or es i e → (n : ℕ) → told_of (take (i + 1) es) n ≡ told_after (told_of (take i es) n) n e
+pub told_of-take : (es : List Entry) (i : ℕ) (e : Entry) → i < length es → e ≡ get_or es i e
+    → (n : ℕ) → told_of (take (i + 1) es) n ≡ told_after (told_of (take i es) n) n e
 told_of-take es i e inside item n =
     let next : suc i ≡ i + 1 = omega arith in
-    let more : take (i + 1) es ≡ take i es ++ e ∷ [] = subst (λ m. take m es ≡ take i es ++ e ∷ []) next (take-suc es i e inside ∙ ap (λ x. take i es ++ x ∷ []) (sym item)) in
+    let more : take (i + 1) es ≡ take i es ++ e ∷ [] = subst (λ m. take m es ≡ take i es ++ e ∷ [])
+    next (take-suc es i e inside ∙ ap (λ x. take i es ++ x ∷ []) (sym item)) in
     ap (λ xs. told_of xs n) more ∙ told_of-more (take i es) e n

@@ -77,15 +77,36 @@ end_after_entry end n e = end
 
 -- the line of a guest once these entries came
 abbrev pub line_after : Guest → List Entry → GuestLine
-line_after g more = record { install = g.install; slot = g.slot; id = g.id; verdict = verdict_after g.watch (steps_of g.install more); end = end_after g.end g.install more }
+line_after g more = record {
+  install = g.install;
+  slot = g.slot;
+  id = g.id;
+  verdict =
+      verdict_after g.watch (steps_of g.install more);
+  end = end_after g.end g.install more;
+}
 
 -- a guest after one more entry
 abbrev pub next_guest : Guest → Entry → Guest
-next_guest g e = record { install = g.install; slot = g.slot; id = g.id; watch = watch_after g.watch (step_in g.install e); end = end_after_entry g.end g.install e }
+next_guest g e = record {
+  install = g.install;
+  slot = g.slot;
+  id = g.id;
+  watch =
+      watch_after g.watch (step_in g.install e);
+  end = end_after_entry g.end g.install e;
+}
 
 -- an install before its first step
 abbrev pub new_guest : List Owner → ℕ → ℕ → ImageId → Guest
-new_guest owners n slot id = record { install = n; slot = slot; id = id; watch = watch_of (owner_of owners id); end = Running }
+new_guest owners n slot id = record {
+  install = n;
+  slot = slot;
+  id = id;
+  watch =
+      watch_of (owner_of owners id);
+  end = Running;
+}
 
 -- ---- All guests, install n at place n - 1
 
@@ -100,7 +121,8 @@ guests_after gs n e = guests_after_at gs (n - 1) (slice_get gs (n - 1)) e
 
 -- the guests after one more entry
 abbrev pub next_guests : List Owner → List Guest → Entry → List Guest
-next_guests owners gs (entry.Install n slot id place begin lines) = gs ++ new_guest owners n slot id ∷ []
+next_guests owners gs (entry.Install n slot id place begin lines) =
+    gs ++ new_guest owners n slot id ∷ []
 next_guests owners gs (entry.Step n step) = guests_after gs n (entry.Step n step)
 next_guests owners gs (entry.Stop n rule) = guests_after gs n (entry.Stop n rule)
 next_guests owners gs (entry.Kill n) = guests_after gs n (entry.Kill n)
@@ -122,9 +144,12 @@ abbrev pub Ranked : ℕ → ℕ → List Guest → Type 0
 Ranked m i [] = Unit {0}
 Ranked m i (g ∷ gs) = (g.install ≡ i) × IsCounted m g.watch × Ranked m (i + 1) gs
 
--- the guests are those of these entries: whatever comes yet, their lines will be those of the whole list
+-- the guests are those of these entries: whatever comes yet, their lines will be those of the whole
+-- list
 pub record IsFed (owners : List Owner) (gs : List Guest) (es : List Entry) : Type 0 where
-  pub lines : (more : List Entry) → map (λ g. line_after g more) gs ≡ filter_map (line_in owners (es ++ more)) es
-  pub fresh : (n : ℕ) → length gs < n → (more : List Entry) → (steps_of n (es ++ more) ≡ steps_of n more) × (end_of n (es ++ more) ≡ end_of n more)
+  pub lines : (more : List Entry)
+      → map (λ g. line_after g more) gs ≡ filter_map (line_in owners (es ++ more)) es
+  pub fresh : (n : ℕ) → length gs < n → (more : List Entry)
+      → (steps_of n (es ++ more) ≡ steps_of n more) × (end_of n (es ++ more) ≡ end_of n more)
   pub ranked : Ranked (length es) 1 gs
   pub counted : length gs ≡ install_count es

@@ -1,4 +1,5 @@
--- What a journal says of its guests beside their owners' programs, and where it names a forgery or a collision.
+-- What a journal says of its guests beside their owners' programs, and where it names a forgery or
+-- a collision.
 -- Entries count from 1. All is said of any list of entries, also of one that no machine made.
 use Rattle.std.specs.Prelude.{ℕ, ◌==◌, List, [], ◌∷◌, Option, Some, None, if◌then◌else◌}
 use Rattle.std.specs.List.{filter_map}
@@ -58,7 +59,13 @@ verdict_of owners entries n id = verdict_by (owner_of owners id) (steps_of n ent
 -- the line of an Install entry, with that entry's number, slot and id
 abbrev pub line_in : List Owner → List Entry → Entry → Option GuestLine
 line_in owners entries (entry.Install n slot id place at lines) =
-    Some (record { install = n; slot = slot; id = id; verdict = verdict_of owners entries n id; end = end_of n entries })
+    Some (record {
+      install = n;
+      slot = slot;
+      id = id;
+      verdict = verdict_of owners entries n id;
+      end = end_of n entries;
+    })
 line_in owners entries other = None
 
 -- one line for each Install entry, in their order

@@ -12,14 +12,16 @@ use Rattle.trace_judge.specs.HashSearch.{HasSearchedHashes}
 use Rattle.trace_judge.specs.SealSearch.{HasSearchedSeals, all_sealings}
 
 -- both searches were fed these entries, where owners sealed these
-pub record HasSearched (sealed : List (List ℕ × List ℕ)) (s : Searches) (es : List Entry) : Type 0 where
+pub record HasSearched (sealed : List (List ℕ × List ℕ)) (s : Searches) (es : List Entry) : Type
+    0 where
   pub sealings : all_sealings s.sealings ≡ sealed
   pub counted : s.count ≡ length es
   pub forgeries : HasSearchedSeals sealed s.forgeries es
   pub collisions : HasSearchedHashes s.collisions es
 
 -- the judge was made for this machine key and these owners, and fed these entries
-pub record HasJudged (machine : Key256) (owners : List Owner) (j : Judge) (es : List Entry) : Type 0 where
+pub record HasJudged (machine : Key256) (owners : List Owner) (j : Judge) (es : List Entry) : Type
+    0 where
   pub owners_are : j.owners.now ≡ owners
   pub searches : HasSearched (sealed_by machine owners) j.searches es
   pub guests : IsFed owners j.guests.items.items es

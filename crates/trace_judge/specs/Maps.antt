@@ -1,4 +1,5 @@
--- The maps of the searches, as functions. Both look by fingerprint for the first text that has it, and then among the others.
+-- The maps of the searches, as functions. Both look by fingerprint for the first text that has it,
+-- and then among the others.
 use Rattle.std.specs.Prelude.{ℕ, ◌||◌, not, Bool, false, List, Option, Some, None, Vec, Box, if◌then◌else◌}
 use Rattle.std.specs.declared.alloc.Global.{Global}
 use Rattle.std.specs.BTreeMap.{get, get_by}
@@ -18,7 +19,8 @@ use Rattle.trace_judge.specs.declared.names.Names.{Names}
 -- the first Hash of a digest, where it is the one of its fingerprint
 abbrev pub first_of : Option (Box Known Global) → List ℕ → Option First
 first_of None digest = None
-first_of (Some known) digest = if bytes_eq known.value.digest digest then Some known.value.first else None
+first_of (Some known) digest =
+    if bytes_eq known.value.digest digest then Some known.value.first else None
 
 -- another digest is the one of this fingerprint
 abbrev pub is_other_digest : Option (Box Known Global) → List ℕ → Bool
@@ -31,7 +33,9 @@ known_at hashes digest = get nat_cmp hashes.firsts (fingerprint_of digest)
 
 -- the first Hash of a digest, or none
 abbrev pub first_in : Hashes → List ℕ → Option First
-first_in hashes digest = option_or (first_of (known_at hashes digest) digest) (get_by (slice_cmp nat_cmp digest) hashes.others)
+first_in hashes digest =
+    option_or (first_of (known_at hashes digest) digest)
+    (get_by (slice_cmp nat_cmp digest) hashes.others)
 
 -- ---- Names
 
@@ -51,4 +55,6 @@ name_at names name = get nat_cmp names.firsts (fingerprint_of name)
 
 -- the name stands in the set
 abbrev pub has_name : Names → List ℕ → Bool
-has_name names name = is_name (name_at names name) name || contains_by (λ k. slice_cmp nat_cmp name k.items) names.others
+has_name names name =
+    is_name (name_at names name) name || contains_by (λ k. slice_cmp nat_cmp name k.items)
+    names.others

@@ -1,4 +1,5 @@
--- The rule of install numbers: the first is 1, each is one more than the last, and what is told of an install comes behind it.
+-- The rule of install numbers: the first is 1, each is one more than the last, and what is told of
+-- an install comes behind it.
 use Rattle.std.specs.Prelude.{ℕ, ◌+◌, ◌==◌, ◌&&◌, nat_le, Bool, true, List, [], ◌∷◌}
 use Rattle.xom_base.specs.declared.entry.Entry.{Entry}
 use Rattle.xom_base.specs.declared.entry.Entry.TheVariants as entry

@@ -1,4 +1,5 @@
--- The text of a report: a line for each guest, then one on forgery, then one on collision. Each line ends with byte 10.
+-- The text of a report: a line for each guest, then one on forgery, then one on collision. Each
+-- line ends with byte 10.
 use Rattle.std.specs.Prelude.{ℕ, List, [], ◌∷◌, ◌++◌, Option, Some, None, codes}
 use Rattle.std.specs.List.{flat_map}
 use Rattle.std.specs.Fmt.{decimal}
@@ -33,8 +34,10 @@ end_text Running = codes "open"
 -- an id is 32 hex digits
 abbrev pub line_text : GuestLine → List ℕ
 line_text line =
-    codes "guest " ++ (decimal line.install ++ (codes " slot " ++ (decimal line.slot ++ (codes " id " ++ (encode_lower line.id.0
-    ++ (codes " " ++ (verdict_text line.verdict ++ (codes " " ++ (end_text line.end ++ 10 ∷ [])))))))))
+    codes "guest " ++ (decimal line.install
+    ++ (codes " slot " ++ (decimal line.slot ++ (codes " id " ++ (encode_lower line.id.0
+    ++ (codes " " ++ (verdict_text line.verdict
+    ++ (codes " " ++ (end_text line.end ++ 10 ∷ [])))))))))
 
 abbrev pub forged_text : Option ℕ → List ℕ
 forged_text None = codes "forged none" ++ 10 ∷ []
@@ -42,8 +45,12 @@ forged_text (Some n) = codes "forged at entry " ++ (decimal n ++ 10 ∷ [])
 
 abbrev pub collision_text : Option (ℕ × ℕ) → List ℕ
 collision_text None = codes "collision none" ++ 10 ∷ []
-collision_text (Some pair) = codes "collision of entries " ++ (decimal pair.0 ++ (codes " and " ++ (decimal pair.1 ++ 10 ∷ [])))
+collision_text (Some pair) =
+    codes "collision of entries "
+    ++ (decimal pair.0 ++ (codes " and " ++ (decimal pair.1 ++ 10 ∷ [])))
 
 -- the whole text
 abbrev pub report_text : Report → List ℕ
-report_text report = flat_map line_text report.guests ++ (forged_text report.forged ++ collision_text report.collision)
+report_text report =
+    flat_map line_text report.guests
+    ++ (forged_text report.forged ++ collision_text report.collision)

@@ -21,10 +21,12 @@ name key message = length key ∷ (key ++ message)
 
 -- the set has the names of all Seals
 abbrev pub HasSeals : (List ℕ → Bool) → List Entry → Type 0
-HasSeals has es = (key message : List ℕ) → has (name key message) ≡ is_sealed key message (filter_map seal_in es)
+HasSeals has es =
+    (key message : List ℕ) → has (name key message) ≡ is_sealed key message (filter_map seal_in es)
 
 -- the answer so far is that of the list, and where there is none, the set has all Seals
-pub record FindsForgeries (sealed : List (List ℕ × List ℕ)) (found : Option ℕ) (has : List ℕ → Bool) (es : List Entry) : Type 0 where
+pub record FindsForgeries (sealed : List (List ℕ × List ℕ)) (found : Option ℕ) (has : List ℕ → Bool)
+    (es : List Entry) : Type 0 where
   pub answer : found ≡ forged sealed es
   pub seals : found ≡ None → HasSeals has es
 
@@ -34,7 +36,8 @@ answer_at_accept number known = if known then None else Some number
 
 -- the answer after one more entry, of this number
 abbrev pub next_forged : List (List ℕ × List ℕ) → ℕ → Option ℕ → (List ℕ → Bool) → Entry → Option ℕ
-next_forged sealed number None has (entry.Accept key message place) = answer_at_accept number (is_sealed key message sealed || has (name key message))
+next_forged sealed number None has (entry.Accept key message place) =
+    answer_at_accept number (is_sealed key message sealed || has (name key message))
 next_forged sealed number found has other = found
 
 -- the set after one more entry

@@ -16,7 +16,10 @@ is_doubted NoOwner = true
 
 -- the report names a forged entry, a collision, or a guest that departs or has no owner
 abbrev pub is_suspect : Report → Bool
-is_suspect report = is_some report.forged || (is_some report.collision || list_any (λ (line : GuestLine). is_doubted line.verdict) report.guests)
+is_suspect report =
+    is_some report.forged ||
+    (is_some report.collision || list_any (λ (line : GuestLine). is_doubted line.verdict)
+    report.guests)
 
 -- the entry says that a guest was stopped
 abbrev pub is_stop : Entry → Bool

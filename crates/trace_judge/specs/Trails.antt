@@ -28,7 +28,11 @@ told_of entries n = record { steps = steps_of n entries; end = end_of n entries 
 
 -- what is told of an install with one more entry
 abbrev pub told_after : Told → ℕ → Entry → Told
-told_after was n e = record { steps = was.steps ++ cons_option (step_in n e) []; end = end_after_entry was.end n e }
+told_after was n e = record {
+  steps = was.steps ++ cons_option (step_in n e) [];
+  end =
+      end_after_entry was.end n e;
+}
 
 -- what a trail tells, if there is one
 abbrev pub told_by : Option Trail → Told
@@ -42,5 +46,12 @@ told_of_install trails n = told_by (get nat_cmp trails.trails n)
 -- the line of an Install entry, by what is told of each install
 abbrev pub line_by : List Owner → (ℕ → Told) → Entry → Option GuestLine
 line_by owners known (entry.Install n slot id place at lines) =
-    Some (record { install = n; slot = slot; id = id; verdict = verdict_by (owner_of owners id) (known n).steps; end = (known n).end })
+    Some (record {
+      install = n;
+      slot = slot;
+      id = id;
+      verdict = verdict_by (owner_of owners id)
+          (known n).steps;
+      end = (known n).end;
+    })
 line_by owners known other = None

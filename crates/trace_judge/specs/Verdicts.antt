@@ -23,4 +23,5 @@ found_before verdicts n id = get pair_cmp verdicts.found (n, id)
 -- each is the verdict on what is told of its install
 abbrev pub AreVerdicts : List Owner → (ℕ → Told) → Verdicts → Type 0
 AreVerdicts owners known verdicts =
-    (n : ℕ) (id : ImageId) → IfSome (found_before verdicts n id.0) (λ v. v ≡ verdict_by (owner_of owners id) (known n).steps)
+    (n : ℕ) (id : ImageId) → IfSome (found_before verdicts n id.0)
+    (λ v. v ≡ verdict_by (owner_of owners id) (known n).steps)

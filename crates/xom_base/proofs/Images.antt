@@ -5,7 +5,8 @@ use Rattle.std.proofs.Math.Nat.{ℕ_set}
 use mathlib.Core.HLevel.{is_prop→PathP}
 use Rattle.xom_base.specs.declared.image.PlainImage.{PlainImage}
 
--- two images of one entry and the same bytes are the same image: the facts beside them have one proof each
+-- two images of one entry and the same bytes are the same image: the facts beside them have one
+-- proof each
 pub PlainImage-equal : (a b : PlainImage) → a.entry ≡ b.entry → a.bytes ≡ b.bytes → a ≡ b
 PlainImage-equal a b entry bytes = λ i. record {
   entry = entry i;

@@ -43,4 +43,13 @@ end-same ended.Exit = refl
 -- a step is the same as itself
 pub same_step-same : (a : Step) → same_step a a ≡ true
 unfolding same_step
-same_step-same a = grind (arith, nat_tests, writes-same a.writes, stored-same a.stored, received-same a.received, released-same a.released, end-same a.end)
+same_step-same a =
+    grind (
+      arith,
+      nat_tests,
+      writes-same a.writes,
+      stored-same a.stored,
+      received-same a.received,
+      released-same a.released,
+      end-same a.end,
+    )

@@ -1,4 +1,5 @@
--- Words of hexadecimal digits, which write bytes: two digits a byte, the high one first, in either case.
+-- Words of hexadecimal digits, which write bytes: two digits a byte, the high one first, in either
+-- case.
 use Rattle.std.specs.Prelude.{◌≡◌, ℕ, ◌+◌, ◌*◌, ◌/◌, ◌<◌, ◌≤◌, ◌&&◌, ◌==◌, nat_le, if◌then◌else◌, List, [], ◌∷◌, length, Option, Some, None}
 use Rattle.std.specs.Char.{digit_value, is_digit}
 use Rattle.std.specs.List.{AllByRecursion, list_all}
@@ -18,7 +19,8 @@ pub record IsHex (count : ℕ) (word bytes : List ℕ) : Type 0 where
 -- the same as a function: so many bytes, or none
 unfoldable pub hex_of : ℕ → List ℕ → Option (List ℕ)
 hex_of count word =
-    if (length word == 2 * count) && list_all (λ digit. is_digit digit 16) word then Some (pairs word) else None
+    if (length word == 2 * count) && list_all (λ digit. is_digit digit 16) word
+    then Some (pairs word) else None
 
 -- ---- words of any even number of digits
 

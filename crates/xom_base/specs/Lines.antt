@@ -12,7 +12,8 @@ use Rattle.xom_base.specs.declared.lines.TextFault.TheVariants as text_fault
 -- Byte 10 ends a line. Where the text doesn't end with it, what is left is a line too.
 abbrev pub lines_of : List ℕ → List (List ℕ)
 lines_of [] = []
-lines_of (byte ∷ bytes) = if byte == 10 then [] ∷ lines_of bytes else onto_first byte (lines_of bytes)
+lines_of (byte ∷ bytes) =
+    if byte == 10 then [] ∷ lines_of bytes else onto_first byte (lines_of bytes)
 
 -- ---- formats: relations
 
@@ -21,7 +22,8 @@ lines_of (byte ∷ bytes) = if byte == 10 then [] ∷ lines_of bytes else onto_f
 abbrev pub Format : Type 0 → Type 0 → Type 1
 Format S X = S → ℕ → List ℕ → Option X → S → Type 0
 
--- The lines, of which the first has this number, have these values in their order: from one state to
+-- The lines, of which the first has this number, have these values in their order: from one state
+-- to
 -- the other.
 abbrev pub Reads : {S X : Type 0} → Format S X → S → ℕ → List (List ℕ) → List X → S → Type 0
 Reads {S} {X} format s n [] values last = (values ≡ []) × (last ≡ s)
@@ -29,9 +31,11 @@ Reads {S} {X} format s n (line ∷ lines) values last =
     (value : Option X) × (next : S) × (more : List X) × format s n line value next
     × (values ≡ option_to_list value ++ more) × Reads format next (n + 1) lines more last
 
--- The line of this number is the first bad one of lines that begin with number n: those before it are
+-- The line of this number is the first bad one of lines that begin with number n: those before it
+-- are
 -- read, and then the format gives it no value and doesn't pass it over.
-pub record IsFirstBad {S X : Type 0} (format : Format S X) (s : S) (n : ℕ) (lines : List (List ℕ)) (bad : ℕ) : Type 0 where
+pub record IsFirstBad {S X : Type 0} (format : Format S X) (s : S) (n : ℕ) (lines : List (List ℕ))
+    (bad : ℕ) : Type 0 where
   pub before : List (List ℕ)
   pub line : List ℕ
   pub after : List (List ℕ)
@@ -42,7 +46,8 @@ pub record IsFirstBad {S X : Type 0} (format : Format S X) (s : S) (n : ℕ) (li
   pub reads : Reads format s n before values state
   pub has_none : (value : Option X) (next : S) → format state bad line value next → ⊥
 
--- A format whose lines are told by their words: a line with none is passed over, and changes nothing.
+-- A format whose lines are told by their words: a line with none is passed over, and changes
+-- nothing.
 abbrev pub OfWords : {S X : Type 0} → (S → ℕ → List (List ℕ) → X → S → Type 0) → Format S X
 OfWords row s n line None next = (words_of line ≡ []) × (next ≡ s)
 OfWords row s n line (Some value) next = row s n (words_of line) value next
@@ -53,24 +58,31 @@ Rows row = OfWords (λ s n words value next. row words value)
 
 -- ---- texts: relations
 
--- The text is in the format, with this value: its lines are read from the first state on, and the value
+-- The text is in the format, with this value: its lines are read from the first state on, and the
+-- value
 -- is made of theirs and of the last state.
 abbrev pub IsText : {S X A : Type 0} → Format S X → (List X → S → A) → S → List ℕ → A → Type 0
 IsText {S} {X} format make first text value =
-    (values : List X) × (last : S) × Reads format first 1 (lines_of text) values last × (value ≡ make values last)
+    (values : List X) × (last : S) × Reads format first 1 (lines_of text) values last
+    × (value ≡ make values last)
 
 -- The same, where a text ends in these states alone.
-abbrev pub IsWholeText : {S X A : Type 0} → Format S X → (S → Type 0) → (List X → S → A) → S → List ℕ → A → Type 0
+abbrev pub IsWholeText : {S X A : Type 0} → Format S X → (S → Type 0) → (List X → S → A) → S
+    → List ℕ → A → Type 0
 IsWholeText {S} {X} format Ends make first text value =
-    (values : List X) × (last : S) × (Reads format first 1 (lines_of text) values last × Ends last) × (value ≡ make values last)
+    (values : List X) × (last : S) × (Reads format first 1 (lines_of text) values last × Ends last)
+    × (value ≡ make values last)
 
 -- The text has these values: one a line, in their order, blank lines passed over.
 abbrev pub IsRows : {X : Type 0} → (List (List ℕ) → X → Type 0) → List ℕ → List X → Type 0
 IsRows row text values = Reads (Rows row) tt 1 (lines_of text) values tt
 
--- All lines are read, and the text may not end behind them: the line of this number, behind the last
--- one, is missing. An empty line counts, and a line end that is missing at the end makes no further line.
-pub record EndsEarly {S X : Type 0} (format : Format S X) (Ends : S → Type 0) (first : S) (text : List ℕ) (bad : ℕ) : Type 0 where
+-- All lines are read, and the text may not end behind them: the line of this number, behind the
+-- last
+-- one, is missing. An empty line counts, and a line end that is missing at the end makes no further
+-- line.
+pub record EndsEarly {S X : Type 0} (format : Format S X) (Ends : S → Type 0) (first : S)
+    (text : List ℕ) (bad : ℕ) : Type 0 where
   pub values : List X
   pub state : S
   pub number : bad ≡ 1 + length (lines_of text)
@@ -79,11 +91,13 @@ pub record EndsEarly {S X : Type 0} (format : Format S X) (Ends : S → Type 0) 
 
 -- the first bad line of a text: one of its own, or the one behind the last where it ends too early
 abbrev pub IsFirstBadOf : {S X : Type 0} → Format S X → (S → Type 0) → S → List ℕ → ℕ → Type 0
-IsFirstBadOf format Ends first text bad = IsFirstBad format first 1 (lines_of text) bad ⊎ EndsEarly format Ends first text bad
+IsFirstBadOf format Ends first text bad =
+    IsFirstBad format first 1 (lines_of text) bad ⊎ EndsEarly format Ends first text bad
 
 -- ---- formats: functions
 
--- What a format makes of one line: nothing where it is bad, else the value if it has one, and the next state.
+-- What a format makes of one line: nothing where it is bad, else the value if it has one, and the
+-- next state.
 abbrev pub LineStep : Type 0 → Type 0 → Type 0
 LineStep S X = S → ℕ → List ℕ → Option (Option X × S)
 
@@ -93,15 +107,19 @@ with_front front (Ok more) = Ok (front ++ more.0, more.1)
 with_front front (Err bad) = Err bad
 
 -- what follows of one line
-abbrev pub go_on : {S X : Type 0} → ℕ → Option (Option X × S) → (S → Result (List X × S) ℕ) → Result (List X × S) ℕ
+abbrev pub go_on : {S X : Type 0} → ℕ → Option (Option X × S) → (S → Result (List X × S) ℕ)
+    → Result (List X × S) ℕ
 go_on n None more = Err n
 go_on n (Some read) more = with_front (option_to_list read.0) (more read.1)
 
--- What lines give, of which the first has this number: their values and the last state, or the number
+-- What lines give, of which the first has this number: their values and the last state, or the
+-- number
 -- of the first bad one.
-unfoldable pub read_from : {S X : Type 0} → LineStep S X → S → ℕ → List (List ℕ) → Result (List X × S) ℕ
+unfoldable pub read_from : {S X : Type 0} → LineStep S X → S → ℕ → List (List ℕ)
+    → Result (List X × S) ℕ
 read_from step s n [] = Ok ([], s)
-read_from step s n (line ∷ lines) = go_on n (step s n line) (λ next. read_from step next (n + 1) lines)
+read_from step s n (line ∷ lines) =
+    go_on n (step s n line) (λ next. read_from step next (n + 1) lines)
 
 -- what lines give, of which the first has number 1, where the line of this number is missing if the
 -- text may not end behind them
@@ -110,8 +128,10 @@ at_end may_end missing (Ok read) = if may_end read.1 then Ok read else Err missi
 at_end may_end missing (Err bad) = Err bad
 
 -- what the lines of a text give that may end in some states alone
-abbrev pub whole_from : {S X : Type 0} → LineStep S X → (S → Bool) → S → List ℕ → Result (List X × S) ℕ
-whole_from step may_end first text = at_end may_end (1 + length (lines_of text)) (read_from step first 1 (lines_of text))
+abbrev pub whole_from : {S X : Type 0} → LineStep S X → (S → Bool) → S → List ℕ
+    → Result (List X × S) ℕ
+whole_from step may_end first text =
+    at_end may_end (1 + length (lines_of text)) (read_from step first 1 (lines_of text))
 
 -- the value that is made of what lines give
 abbrev pub made_of : {S X A : Type 0} → (List X → S → A) → Result (List X × S) ℕ → Result A ℕ
@@ -120,13 +140,17 @@ made_of make (Err bad) = Err bad
 
 -- the step makes of each line what the format says of it
 pub record Tells {S X : Type 0} (step : LineStep S X) (format : Format S X) : Type 0 where
-  pub reads : (s : S) (n : ℕ) (line : List ℕ) (value : Option X) (next : S) → step s n line ≡ Some (value, next) → format s n line value next
-  pub only : (s : S) (n : ℕ) (line : List ℕ) (value : Option X) (next : S) → format s n line value next → step s n line ≡ Some (value, next)
+  pub reads : (s : S) (n : ℕ) (line : List ℕ) (value : Option X) (next : S)
+      → step s n line ≡ Some (value, next) → format s n line value next
+  pub only : (s : S) (n : ℕ) (line : List ℕ) (value : Option X) (next : S)
+      → format s n line value next → step s n line ≡ Some (value, next)
 
 -- what a format makes of a line with these words: one with none is passed over
-abbrev pub with_words : {S X : Type 0} → (S → ℕ → List (List ℕ) → Option (X × S)) → S → ℕ → List (List ℕ) → Option (Option X × S)
+abbrev pub with_words : {S X : Type 0} → (S → ℕ → List (List ℕ) → Option (X × S)) → S → ℕ
+    → List (List ℕ) → Option (Option X × S)
 with_words row s n [] = Some (None, s)
-with_words row s n (word ∷ words) = option_map (λ read. (Some read.0, read.1)) (row s n (word ∷ words))
+with_words row s n (word ∷ words) =
+    option_map (λ read. (Some read.0, read.1)) (row s n (word ∷ words))
 
 -- the step of a format that is told by the words of its lines
 abbrev pub step_of : {S X : Type 0} → (S → ℕ → List (List ℕ) → Option (X × S)) → LineStep S X
@@ -151,7 +175,8 @@ abbrev pub FaultsLine : {S X : Type 0} → Option (Option X × S) → LineFault 
 FaultsLine step line_fault.Bad = step ≡ None
 FaultsLine step line_fault.NoMemory = Unit {0}
 
-abbrev pub AnswersLine : {S X : Type 0} → Option (Option X × S) → Result (Option X) LineFault → S → Type 0
+abbrev pub AnswersLine : {S X : Type 0} → Option (Option X × S) → Result (Option X) LineFault → S
+    → Type 0
 AnswersLine step (Ok value) next = step ≡ Some (value, next)
 AnswersLine step (Err fault) next = FaultsLine step fault
 
@@ -164,10 +189,13 @@ Faults read text_fault.NoMemory = Unit {0}
 abbrev pub AnswersRead : {A : Type 0} → Result A ℕ → Result A TextFault → Type 0
 AnswersRead read result = MatchResult result (λ value. read ≡ Ok value) (Faults read)
 
--- How the reader of a format answers, where a text is in the format with a value, and a line is its first
--- bad one: what is read is in the format; what is in the format is read as that value, unless memory
+-- How the reader of a format answers, where a text is in the format with a value, and a line is its
+-- first
+-- bad one: what is read is in the format; what is in the format is read as that value, unless
+-- memory
 -- ran out; a line that is answered is the first bad one.
-pub record AnswersText {A : Type 0} (IsOf : A → Type 0) (IsBad : ℕ → Type 0) (result : Result A TextFault) : Type 0 where
+pub record AnswersText {A : Type 0} (IsOf : A → Type 0) (IsBad : ℕ → Type 0)
+    (result : Result A TextFault) : Type 0 where
   pub found : IfOk result IsOf
   pub only : (value : A) → IsOf value → OrOut text_fault.NoMemory (Ok value) result
   pub bad : (n : ℕ) → result ≡ Err (text_fault.Line n) → IsBad n

@@ -23,7 +23,8 @@ IsDecimal word n = IsNumeral 10 word × (n ≡ value 10 word) × (n < 2 ^ 64)
 abbrev pub IsNumber : List ℕ → ℕ → Type 0
 IsNumber word n =
     IsDecimal word n
-    ⊎ ((digits : List ℕ) × (word ≡ codes "0x" ++ digits) × IsNumeral 16 digits × (length digits ≤ 16) × (n ≡ value 16 digits))
+    ⊎ ((digits : List ℕ) × (word ≡ codes "0x" ++ digits) × IsNumeral 16 digits
+    × (length digits ≤ 16) × (n ≡ value 16 digits))
 
 -- the word is a number, which is below the bound
 abbrev pub Writes : ℕ → List ℕ → ℕ → Type 0
@@ -41,7 +42,9 @@ is_numeral base word = nat_lt 0 (length word) && list_all (λ digit. is_digit di
 
 -- the number of a numeral below 2^64, or none
 unfoldable pub numeral_of : ℕ → List ℕ → Option ℕ
-numeral_of base word = if is_numeral base word && nat_lt (value base word) (2 ^ 64) then Some (value base word) else None
+numeral_of base word =
+    if is_numeral base word && nat_lt (value base word) (2 ^ 64) then Some (value base word)
+    else None
 
 -- the number of a word, or none
 unfoldable pub number_of : List ℕ → Option ℕ

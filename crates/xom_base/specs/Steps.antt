@@ -45,5 +45,7 @@ same_end a b = false
 -- each field is the same
 unfoldable pub same_step : Step → Step → Bool
 same_step a b =
-    (a.pc == b.pc) && ((a.npc == b.npc) && (same_writes a.writes b.writes && (same_stored a.stored b.stored
-    && (same_received a.received b.received && (same_released a.released b.released && same_end a.end b.end)))))
+    (a.pc == b.pc) && ((a.npc == b.npc)
+    && (same_writes a.writes b.writes && (same_stored a.stored b.stored
+    && (same_received a.received b.received && (same_released a.released b.released
+    && same_end a.end b.end)))))

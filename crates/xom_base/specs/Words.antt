@@ -34,7 +34,8 @@ word_len line = position_or_len ends_word line
 
 -- the word at the front, if there is one, and what stands behind it
 abbrev pub word_at : List ℕ → Option (List ℕ × List ℕ)
-word_at line = if word_len line == 0 then None else Some (take (word_len line) line, drop (word_len line) line)
+word_at line =
+    if word_len line == 0 then None else Some (take (word_len line) line, drop (word_len line) line)
 
 -- the first word of a line, if it has one, and what stands behind it
 abbrev pub next_of : List ℕ → Option (List ℕ × List ℕ)
@@ -51,7 +52,9 @@ after_word (Some parts) = parts.0 ∷ words_of parts.1
 abbrev pub with_byte : ℕ → List ℕ × List ℕ → List ℕ × List ℕ
 with_byte byte parts = (byte ∷ parts.0, parts.1)
 
--- what stands before the first byte that is this one, and what behind it; none where there is no such byte
+-- what stands before the first byte that is this one, and what behind it; none where there is no
+-- such byte
 unfoldable pub cut_of : ℕ → List ℕ → Option (List ℕ × List ℕ)
 cut_of at [] = None
-cut_of at (byte ∷ bytes) = if byte == at then Some ([], bytes) else option_map (with_byte byte) (cut_of at bytes)
+cut_of at (byte ∷ bytes) =
+    if byte == at then Some ([], bytes) else option_map (with_byte byte) (cut_of at bytes)

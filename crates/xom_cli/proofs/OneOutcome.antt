@@ -17,25 +17,35 @@ same-some : (o : Option Refusal) (a b : Refusal) → o ≡ Some a → o ≡ Some
 same-some o a b p q = cc
 
 -- one thing is said of the faults of a source
-said-one : (source text : List ℕ) (a b : AsmFault) (x y : Refusal) → IsFaultOf text a → IsFaultOf text b → said_of source a ≡ Some x → said_of source b ≡ Some y → x ≡ y
+said-one : (source text : List ℕ) (a b : AsmFault) (x y : Refusal) → IsFaultOf text a
+    → IsFaultOf text b → said_of source a ≡ Some x → said_of source b ≡ Some y → x ≡ y
 said-one source text a b x y p q says other =
-    same-some (said_of source b) x y (subst (λ (f : AsmFault). said_of source f ≡ Some x) (one_fault text a b p q) says) other
+    same-some (said_of source b) x y (subst (λ (f : AsmFault). said_of source f ≡ Some x)
+    (one_fault text a b p q) says) other
 
 -- the text of a source comes to one thing
-text-one : (source text target : List ℕ) (x y : Result Answer Refusal) → AssemblesText source text target x → AssemblesText source text target y → x ≡ y
-text-one source text target (Ok a) (Ok b) p q = ap Ok (p.2 ∙ ap (λ (image : PlainImage). image_answer image target) (one_image text p.0 q.0 p.1 q.1) ∙ sym q.2)
+text-one : (source text target : List ℕ) (x y : Result Answer Refusal)
+    → AssemblesText source text target x → AssemblesText source text target y → x ≡ y
+text-one source text target (Ok a) (Ok b) p q =
+    ap Ok
+    (p.2 ∙ ap (λ (image : PlainImage). image_answer image target) (one_image text p.0 q.0 p.1 q.1)
+    ∙ sym q.2)
 text-one source text target (Ok a) (Err r) p q = absurd (not_both text p.0 q.0 p.1 q.1)
 text-one source text target (Err r) (Ok b) p q = absurd (not_both text q.0 p.0 q.1 p.1)
-text-one source text target (Err r) (Err s) p q = ap Err (said-one source text p.0 q.0 r s p.1 q.1 p.2 q.2)
+text-one source text target (Err r) (Err s) p q =
+    ap Err (said-one source text p.0 q.0 r s p.1 q.1 p.2 q.2)
 
 -- so does what reading it gave
-read-one : (source target : List ℕ) (read : Result (List ℕ) Refusal) (x y : Result Answer Refusal) → AssemblesRead source target read x → AssemblesRead source target read y → x ≡ y
+read-one : (source target : List ℕ) (read : Result (List ℕ) Refusal) (x y : Result Answer Refusal)
+    → AssemblesRead source target read x → AssemblesRead source target read y → x ≡ y
 read-one source target (Ok text) x y p q = text-one source text target x y p q
 read-one source target (Err refusal) x y p q = p ∙ sym q
 
 -- so does each row
-row-one : (row : Row) (held : Held) (x y : Result Answer Refusal) → IsOutcome row held x → IsOutcome row held y → x ≡ y
-row-one (Asm source target) held x y p q = read-one source target (fetched held source source_limit) x y p q
+row-one : (row : Row) (held : Held) (x y : Result Answer Refusal) → IsOutcome row held x
+    → IsOutcome row held y → x ≡ y
+row-one (Asm source target) held x y p q =
+    read-one source target (fetched held source source_limit) x y p q
 row-one (Disasm image) held x y p q = sym p ∙ q
 row-one (Plain image steps received) held x y p q = sym p ∙ q
 row-one (Seal image key id machine sealed) held x y p q = sym p ∙ q
@@ -44,9 +54,11 @@ row-one (Trace run journal) held x y p q = sym p ∙ q
 row-one (Judge run journal) held x y p q = sym p ∙ q
 row-one (Debug run commands) held x y p q = sym p ∙ q
 
-printed-one : (o : Option Row) (held : Held) (p q : Printed) → IsPrintedBy o held p → IsPrintedBy o held q → p ≡ q
+printed-one : (o : Option Row) (held : Held) (p q : Printed) → IsPrintedBy o held p
+    → IsPrintedBy o held q → p ≡ q
 printed-one None held p q a b = a ∙ sym b
-printed-one (Some row) held p q a b = a.2 ∙ ap printed_text (row-one row held a.0 b.0 a.1 b.1) ∙ sym b.2
+printed-one (Some row) held p q a b =
+    a.2 ∙ ap printed_text (row-one row held a.0 b.0 a.1 b.1) ∙ sym b.2
 
 pub one_outcome : HaveOneOutcome
 unfolding IsPrinted

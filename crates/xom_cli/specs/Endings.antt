@@ -66,7 +66,8 @@ ending_after whole broken (Err sink_fault.NoMemory) = ending.NoMemory
 -- a text was put, and the call ends by that
 abbrev pub Prints : Output → Output → List ℕ → Ending → Ending → Ending → Type 0
 Prints before after text whole broken result =
-    (put : Result (Unit {0}) SinkFault) × TakesAll before.written after.written text before.faults after.faults put × (result ≡ ending_after whole broken put)
+    (put : Result (Unit {0}) SinkFault) × TakesAll before.written after.written text before.faults
+    after.faults put × (result ≡ ending_after whole broken put)
 
 -- nothing was put, and the call ends so
 abbrev pub IsSilent : Output → Output → Ending → Ending → Type 0
@@ -82,31 +83,44 @@ ending_of_refusal (Bad name fault) = ending.BadInput
 -- the file of an answer was put, where it has one
 abbrev pub PutsFile : Disk → Disk → Option OutputFile → Result (Unit {0}) FileFault → Type 0
 PutsFile before after None put = (after ≡ before) × (put ≡ Ok tt)
-PutsFile before after (Some file) put = Puts before.held after.held file.name file.bytes before.writes after.writes put × KeepsOthers before.held after.held file.name
+PutsFile before after (Some file) put =
+    Puts before.held after.held file.name file.bytes before.writes after.writes put
+    × KeepsOthers before.held after.held file.name
 
 -- its text was printed where the file was put, and nothing else was
 abbrev pub PrintsBehind : Output → Output → Answer → Result (Unit {0}) FileFault → Ending → Type 0
-PrintsBehind before after answer (Ok done) result = Prints before after answer.text (ending.Done answer.status) ending.WriteFault result
-PrintsBehind before after answer (Err file_fault.Failed) result = IsSilent before after ending.WriteFault result
-PrintsBehind before after answer (Err file_fault.TooLong) result = IsSilent before after ending.WriteFault result
-PrintsBehind before after answer (Err file_fault.NoMemory) result = IsSilent before after ending.NoMemory result
+PrintsBehind before after answer (Ok done) result =
+    Prints before after answer.text (ending.Done answer.status) ending.WriteFault result
+PrintsBehind before after answer (Err file_fault.Failed) result =
+    IsSilent before after ending.WriteFault result
+PrintsBehind before after answer (Err file_fault.TooLong) result =
+    IsSilent before after ending.WriteFault result
+PrintsBehind before after answer (Err file_fault.NoMemory) result =
+    IsSilent before after ending.NoMemory result
 
 -- ---- The call
 
 -- the file of an answer was put, and then its text
 abbrev pub Delivers : Disk → Disk → Output → Output → Answer → Ending → Type 0
 Delivers disk_before disk_after before after answer result =
-    (put : Result (Unit {0}) FileFault) × PutsFile disk_before disk_after answer.file put × PrintsBehind before after answer put result
+    (put : Result (Unit {0}) FileFault) × PutsFile disk_before disk_after answer.file put
+    × PrintsBehind before after answer put result
 
 -- the line of a refusal was printed, unless memory ran out
 abbrev pub PrintsRefusal : Output → Output → Refusal → Ending → Type 0
-PrintsRefusal before after refusal result = IsSilent before after ending.NoMemory result ⊎ Prints before after (line_of refusal) (ending_of_refusal refusal) (ending_of_refusal refusal) result
+PrintsRefusal before after refusal result =
+    IsSilent before after ending.NoMemory result
+    ⊎ Prints before after (line_of refusal) (ending_of_refusal refusal)
+    (ending_of_refusal refusal) result
 
 -- what was answered is delivered
 abbrev pub Finishes : Disk → Disk → Output → Output → Result Answer Stop → Ending → Type 0
-Finishes disk_before disk_after before after (Ok answer) result = IsDone answer.status × Delivers disk_before disk_after before after answer result
-Finishes disk_before disk_after before after (Err (stop.Refused refusal)) result = (disk_after ≡ disk_before) × PrintsRefusal before after refusal result
-Finishes disk_before disk_after before after (Err stop.NoMemory) result = (disk_after ≡ disk_before) × IsSilent before after ending.NoMemory result
+Finishes disk_before disk_after before after (Ok answer) result =
+    IsDone answer.status × Delivers disk_before disk_after before after answer result
+Finishes disk_before disk_after before after (Err (stop.Refused refusal)) result =
+    (disk_after ≡ disk_before) × PrintsRefusal before after refusal result
+Finishes disk_before disk_after before after (Err stop.NoMemory) result =
+    (disk_after ≡ disk_before) × IsSilent before after ending.NoMemory result
 
 -- what owners may believe of a row's run, where its command makes one
 abbrev pub RowFollows : Told → Row → Type 0
@@ -119,16 +133,23 @@ RowFollows told (Trace run journal) = RunFollows told run
 RowFollows told (Judge run journal) = Unit {0}
 RowFollows told (Debug run commands) = Unit {0}
 
--- The row's command answered, and what it answered is delivered. Where it was carried out, owners may believe what they may of its run.
+-- The row's command answered, and what it answered is delivered. Where it was carried out, owners
+-- may believe what they may of its run.
 abbrev pub EndsRow : Outside → Outside → Row → Ending → Type 0
 EndsRow before after row result =
-    (answered : Result Answer Stop) × Meets before.disk.held (IsOutcome row) before.reads after.reads answered × Finishes before.disk after.disk before.output after.output answered result
+    (answered : Result Answer Stop) × Meets before.disk.held (IsOutcome row) before.reads
+    after.reads answered × Finishes before.disk after.disk before.output after.output answered
+    result
     × IfOk answered (λ _. RowFollows before.disk.held row)
 
 -- the words matched no row, and that is printed
 abbrev pub EndsWords : Outside → Outside → Ending → Type 0
-EndsWords before after result = (after.disk ≡ before.disk) × (after.reads ≡ before.reads) × Prints before.output after.output words_line ending.NoRow ending.NoRow result
+EndsWords before after result =
+    (after.disk ≡ before.disk) × (after.reads ≡ before.reads)
+    × Prints before.output after.output words_line ending.NoRow ending.NoRow result
 
 -- a whole call
 abbrev pub Ends : List (List ℕ) → Outside → Outside → Ending → Type 0
-Ends words before after result = MatchOption (row_of words) (EndsWords before after result) (λ row. EndsRow before after row result)
+Ends words before after result =
+    MatchOption (row_of words) (EndsWords before after result)
+    (λ row. EndsRow before after row result)

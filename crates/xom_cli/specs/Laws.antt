@@ -5,4 +5,6 @@ use Rattle.xom_cli.specs.Outcome.{IsPrinted, Printed}
 
 -- over files that hold the same, words print one text, write one file and end with one status
 abbrev pub HaveOneOutcome : Type 0
-HaveOneOutcome = (words : List (List ℕ)) (held : Held) (p q : Printed) → IsPrinted words held p → IsPrinted words held q → p ≡ q
+HaveOneOutcome =
+    (words : List (List ℕ)) (held : Held) (p q : Printed) → IsPrinted words held p
+    → IsPrinted words held q → p ≡ q

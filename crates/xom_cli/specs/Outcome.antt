@@ -18,7 +18,8 @@ abbrev pub IsOutcome : Row → Held → Result Answer Refusal → Type 0
 IsOutcome (Asm source image) held result = Assembles source image held result
 IsOutcome (Disasm image) held result = disasm_of held image ≡ result
 IsOutcome (Plain image steps received) held result = plain_of held image steps received ≡ result
-IsOutcome (Seal image key id machine sealed) held result = seal_of held image key id machine sealed ≡ result
+IsOutcome (Seal image key id machine sealed) held result =
+    seal_of held image key id machine sealed ≡ result
 IsOutcome (Run run) held result = run_of held run ≡ result
 IsOutcome (Trace run journal) held result = trace_of held run journal ≡ result
 IsOutcome (Judge run journal) held result = judge_of held run journal ≡ result
@@ -35,11 +36,17 @@ printed_words = record { text = words_line; file = None; status = 1 }
 
 abbrev pub printed_text : Result Answer Refusal → Printed
 printed_text (Ok answer) = record { text = answer.text; file = answer.file; status = answer.status }
-printed_text (Err refusal) = record { text = line_of refusal; file = None; status = refusal_status refusal }
+printed_text (Err refusal) = record {
+  text = line_of refusal;
+  file = None;
+  status =
+      refusal_status refusal;
+}
 
 abbrev pub IsPrintedBy : Option Row → Held → Printed → Type 0
 IsPrintedBy None held p = p ≡ printed_words
-IsPrintedBy (Some row) held p = (result : Result Answer Refusal) × IsOutcome row held result × (p ≡ printed_text result)
+IsPrintedBy (Some row) held p =
+    (result : Result Answer Refusal) × IsOutcome row held result × (p ≡ printed_text result)
 
 -- This is what words print and write, and the status that they end with, over files that hold this.
 unfoldable pub IsPrinted : List (List ℕ) → Held → Printed → Type 0

@@ -15,10 +15,12 @@ pub data Row : Type 0 where
   -- runs a plain image alone, for at most so many steps, with a received file where one is named
   Plain : (image : List ℕ) → (steps : ℕ) → (received : Option (List ℕ)) → Row
   -- seals a plain image under an owner's key and id for a machine, and writes it
-  Seal : (image : List ℕ) → (key : Key256) → (id : ImageId) → (machine : Key256) → (sealed : List ℕ) → Row
+  Seal : (image : List ℕ) → (key : Key256) → (id : ImageId) → (machine : Key256) → (sealed : List ℕ)
+      → Row
   -- makes the run of a run file, and prints its console
   Run : (run : List ℕ) → Row
-  -- makes the run of a run file, prints its console and the judgement of its journal, and writes the journal where a file is named
+  -- makes the run of a run file, prints its console and the judgement of its journal, and writes
+  -- the journal where a file is named
   Trace : (run : List ℕ) → (journal : Option (List ℕ)) → Row
   -- judges a journal by the owners of a run file, and prints the report
   Judge : (run : List ℕ) → (journal : List ℕ) → Row
@@ -31,7 +33,8 @@ most_steps = 2 ^ 20
 
 -- the row of `plain`, where the word for the steps is such a number
 abbrev pub plain_row : List ℕ → List ℕ → Option (List ℕ) → Option Row
-plain_row image steps received = option_map (λ n. Plain image n received) (number_below_of (most_steps + 1) steps)
+plain_row image steps received =
+    option_map (λ n. Plain image n received) (number_below_of (most_steps + 1) steps)
 
 -- the row of `seal`, where the words for its keys and its id are their digits
 unfoldable pub seal_row : List ℕ → List ℕ → List ℕ → List ℕ → List ℕ → Option Row
@@ -57,7 +60,8 @@ row_of_two command a b =
     else (if bytes_eq command (codes "debug") then Some (Debug a b) else None))))
 
 abbrev pub row_of_three : List ℕ → List ℕ → List ℕ → List ℕ → Option Row
-row_of_three command a b c = if bytes_eq command (codes "plain") then plain_row a b (Some c) else None
+row_of_three command a b c =
+    if bytes_eq command (codes "plain") then plain_row a b (Some c) else None
 
 abbrev pub row_of_five : List ℕ → List ℕ → List ℕ → List ℕ → List ℕ → List ℕ → Option Row
 row_of_five command a b c d e = if bytes_eq command (codes "seal") then seal_row a b c d e else None

@@ -12,11 +12,14 @@ use Rattle.xom_model.specs.State.{Record}
 use Rattle.xom_debug.specs.Moments.{is_guest_running}
 
 runs_at : (sessions : List Session)
-    → prefix_len (λ (shown : SlotView). not (is_running shown.state)) (map shown_slot sessions) ≡ prefix_len (λ (s : Session). not (is_running s.state)) sessions
+    → prefix_len (λ (shown : SlotView). not (is_running shown.state)) (map shown_slot sessions)
+    ≡ prefix_len (λ (s : Session). not (is_running s.state)) sessions
 runs_at [] = refl
 runs_at (s ∷ sessions) = ap (λ n. cond (not (is_running s.state)) (1 + n) 0) (runs_at sessions)
 
-shown-running : (sessions : List Session) → position (λ (shown : SlotView). is_running shown.state) (map shown_slot sessions) ≡ running_in sessions
+shown-running : (sessions : List Session)
+    → position (λ (shown : SlotView). is_running shown.state) (map shown_slot sessions) ≡ running_in
+    sessions
 shown-running sessions = rw (runs_at sessions, length-map sessions shown_slot) refl
 
 pub running-seen : (r : Record) → is_guest_running (view_of r) ≡ is_some (running_slot r)

@@ -7,15 +7,20 @@ use Rattle.xom_base.specs.Options.{◌>>=◌}
 use Rattle.xom_debug.specs.declared.command.Command.{Command}
 use Rattle.xom_debug.specs.declared.command.Command.TheVariants as command
 
--- the words write the command; a register is 1 to 33, a slot 1 to 16, and at most 64 bytes are shown
+-- the words write the command; a register is 1 to 33, a slot 1 to 16, and at most 64 bytes are
+-- shown
 abbrev pub IsCommand : List (List ℕ) → Command → Type 0
-IsCommand words (command.Step count) = (n : List ℕ) × (words ≡ codes "step" ∷ n ∷ []) × IsNumber n count
+IsCommand words (command.Step count) =
+    (n : List ℕ) × (words ≡ codes "step" ∷ n ∷ []) × IsNumber n count
 IsCommand words command.UntilTrap = words ≡ codes "until" ∷ codes "trap" ∷ []
-IsCommand words (command.Reg reg) = (r : List ℕ) × (words ≡ codes "reg" ∷ r ∷ []) × Writes 34 r reg × (1 ≤ reg)
-IsCommand words (command.Slot slot) = (s : List ℕ) × (words ≡ codes "slot" ∷ s ∷ []) × Writes 17 s slot × (1 ≤ slot)
+IsCommand words (command.Reg reg) =
+    (r : List ℕ) × (words ≡ codes "reg" ∷ r ∷ []) × Writes 34 r reg × (1 ≤ reg)
+IsCommand words (command.Slot slot) =
+    (s : List ℕ) × (words ≡ codes "slot" ∷ s ∷ []) × Writes 17 s slot × (1 ≤ slot)
 IsCommand words command.Last = words ≡ codes "last" ∷ []
 IsCommand words (command.Ram address count) =
-    (a n : List ℕ) × (words ≡ codes "ram" ∷ a ∷ n ∷ []) × Writes (2 ^ 32) a address × Writes 65 n count
+    (a n : List ℕ) × (words ≡ codes "ram" ∷ a ∷ n ∷ []) × Writes (2 ^ 32) a address
+    × Writes 65 n count
 
 -- the text is these commands: one a line, in their order, blank lines passed over
 abbrev pub AreCommands : List ℕ → List Command → Type 0

@@ -1,4 +1,5 @@
--- What a debugger prints: a function of its commands, and of the events and the views of a run. Each line ends with byte 10.
+-- What a debugger prints: a function of its commands, and of the events and the views of a run.
+-- Each line ends with byte 10.
 use Rattle.std.specs.Prelude.{ℕ, zero, suc, ◌+◌, ◌^◌, nat_lt, if◌then◌else◌, List, [], ◌∷◌, ◌++◌, map, Option, Some, None, codes, unwrap_or}
 use Rattle.std.specs.List.{flat_map, range_with_len}
 use Rattle.std.specs.Fmt.{decimal}
@@ -60,7 +61,8 @@ numbered n (e ∷ events) = record { number = n; event = e } ∷ numbered (n + 1
 abbrev pub kept_events : ℕ
 kept_events = 64
 
--- the last of all events of a run so far, with their numbers, which count from 1; the oldest comes first
+-- the last of all events of a run so far, with their numbers, which count from 1; the oldest comes
+-- first
 abbrev pub last_of : List Event → List Noted
 last_of past = keep_last kept_events (numbered 1 past)
 
@@ -72,7 +74,8 @@ cell_text (Some value) tag = codes "null " ++ hex8 value
 cell_text None tag = codes "slot " ++ decimal tag
 
 abbrev pub cell_line : ℕ → Cell → List ℕ
-cell_line reg cell = codes "$" ++ (decimal reg ++ (codes " " ++ (cell_text (open_cell cell) cell.tag ++ codes "\n")))
+cell_line reg cell =
+    codes "$" ++ (decimal reg ++ (codes " " ++ (cell_text (open_cell cell) cell.tag ++ codes "\n")))
 
 -- the name of a state, without the rule of a stopped guest
 abbrev pub state_word : SlotState → List ℕ
@@ -84,7 +87,10 @@ state_word state.Ended = codes "Ended"
 state_word (state.Stopped rule) = codes "Stopped"
 
 abbrev pub slot_line : ℕ → SlotView → List ℕ
-slot_line slot shown = codes "slot " ++ (decimal slot ++ (codes " " ++ (state_word shown.state ++ (codes " epoch " ++ (decimal shown.epoch ++ codes "\n")))))
+slot_line slot shown =
+    codes "slot "
+    ++ (decimal slot ++ (codes " "
+    ++ (state_word shown.state ++ (codes " epoch " ++ (decimal shown.epoch ++ codes "\n")))))
 
 -- the byte at an address: 0 outside RAM, and also past the last address
 abbrev pub byte_at : View → ℕ → ℕ
@@ -98,7 +104,8 @@ ram_line view address count = encode_lower (bytes_from view address count) ++ co
 
 -- ---- Commands
 
--- what a command prints, of the events that are kept and of what is seen; the commands that make events print nothing
+-- what a command prints, of the events that are kept and of what is seen; the commands that make
+-- events print nothing
 abbrev pub said : Command → List Noted → View → List ℕ
 said (command.Step count) last view = []
 said command.UntilTrap last view = []
@@ -107,7 +114,8 @@ said (command.Slot slot) last view = slot_line slot (slot_at view.slots slot)
 said command.Last last view = flat_map noted_line last
 said (command.Ram address count) last view = ram_line view address count
 
--- where a debugger stands in a run: the events so far, what is seen now, and the moments that are still to come
+-- where a debugger stands in a run: the events so far, what is seen now, and the moments that are
+-- still to come
 pub record Place : Type 0 where
   pub past : List Event
   pub view : View
@@ -145,6 +153,7 @@ text_from (first ∷ commands) p =
     let after : Place = moved first p in
     said first (last_of after.past) after.view ++ text_from commands after
 
--- the text of a debugger: of its commands, of what is seen of the machine before the first event of a run, and of the moments of this run
+-- the text of a debugger: of its commands, of what is seen of the machine before the first event of
+-- a run, and of the moments of this run
 abbrev pub debug_text : List Command → View → List Moment → List ℕ
 debug_text commands view run = text_from commands (place [] view run)

@@ -23,12 +23,14 @@ IsPlaceFor ways slot place (Some address) = IsPlaceOf ways slot place
 -- what is stored lies within the line of the slot at this place
 abbrev pub StoresIn : List Way → ℕ → ℕ → Stored → Type 0
 StoresIn ways slot place stored.Nothing = Unit {0}
-StoresIn ways slot place (stored.Bytes address count value) = IsPlaceOf ways slot place × (1 ≤ count) × (count ≤ 4) × (address % 32 + count ≤ 32)
+StoresIn ways slot place (stored.Bytes address count value) =
+    IsPlaceOf ways slot place × (1 ≤ count) × (count ≤ 4) × (address % 32 + count ≤ 32)
 
 -- the place is filled and takes what is stored
 abbrev pub CanStore : List Way → ℕ → Stored → Type 0
 CanStore ways place stored.Nothing = Unit {0}
-CanStore ways place (stored.Bytes address count value) = IsFilled ways place × (1 ≤ count) × (count ≤ 4) × (address % 32 + count ≤ 32)
+CanStore ways place (stored.Bytes address count value) =
+    IsFilled ways place × (1 ≤ count) × (count ≤ 4) × (address % 32 + count ≤ 32)
 
 -- the slot's guest runs on in another core, under the same epoch
 pub record RunsOn (core new : CoreState) (slot : ℕ) : Type 0 where

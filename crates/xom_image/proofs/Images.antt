@@ -16,10 +16,14 @@ pub SealedImage-equal : (a b : SealedImage) → a.envelope ≡ b.envelope → a.
 SealedImage-equal a b envelope lines = λ i. record {
   envelope = envelope i;
   lines = lines i;
-  sized = is_prop→PathP (λ j. length (envelope j) ≡ 88) (λ j. ℕ_set (length (envelope j)) 88) a.sized b.sized i;
-  aligned = is_prop→PathP (λ j. entry_in (envelope j) % 4 ≡ 0) (λ j. ℕ_set (entry_in (envelope j) % 4) 0) a.aligned b.aligned i;
-  private = is_prop→PathP (λ j. entry_in (envelope j) < 2 ^ 20) (λ j. le_prop) a.private b.private i;
-  counted = is_prop→PathP (λ j. lines_in (envelope j) ≡ length (lines j)) (λ j. ℕ_set (lines_in (envelope j)) (length (lines j))) a.counted b.counted i;
+  sized = is_prop→PathP (λ j. length (envelope j) ≡ 88) (λ j. ℕ_set (length (envelope j)) 88)
+      a.sized b.sized i;
+  aligned = is_prop→PathP (λ j. entry_in (envelope j) % 4 ≡ 0)
+      (λ j. ℕ_set (entry_in (envelope j) % 4) 0) a.aligned b.aligned i;
+  private = is_prop→PathP (λ j. entry_in (envelope j) < 2 ^ 20) (λ j. le_prop) a.private b.private
+      i;
+  counted = is_prop→PathP (λ j. lines_in (envelope j) ≡ length (lines j))
+      (λ j. ℕ_set (lines_in (envelope j)) (length (lines j))) a.counted b.counted i;
   fits = is_prop→PathP (λ j. length (lines j) ≤ 2 ^ 15) (λ j. le_prop) a.fits b.fits i;
   whole = is_prop→PathP (λ j. AreWhole (lines j)) (λ j. AreWhole-prop (lines j)) a.whole b.whole i;
 }

@@ -30,16 +30,20 @@ pieces file =
     ∙ take-append-drop 8 file
 
 -- a file that breaks no rule is that of its own parts
-pub IsWhole-sealed_file : (file : List ℕ) → IsWhole sealed_format file → file ≡ sealed_file (envelope_at file) (lines_at file (number_at file 28))
+pub IsWhole-sealed_file : (file : List ℕ) → IsWhole sealed_format file
+    → file ≡ sealed_file (envelope_at file) (lines_at file (number_at file 28))
 unfolding sealed_file
 IsWhole-sealed_file file whole =
     let size : length file ≡ 96 + 64 * number_at file 28 = whole.size in
     sym (pieces file)
-    ∙ ap (λ head. head ++ (envelope_at file ++ drop 96 file)) (agreed-all sealed_head file whole.head)
-    ∙ ap (λ rest. sealed_head ++ (envelope_at file ++ rest)) (sym (lines_at-all file (number_at file 28) size))
+    ∙ ap (λ head. head ++ (envelope_at file ++ drop 96 file))
+    (agreed-all sealed_head file whole.head)
+    ∙ ap (λ rest. sealed_head ++ (envelope_at file ++ rest))
+    (sym (lines_at-all file (number_at file 28) size))
 
 -- the numbers of its envelope are those of the file
-field-in : (file : List ℕ) (place after : ℕ) → place + after ≡ 88 → 4 ≤ after → take 4 (drop place (envelope_at file)) ≡ take 4 (drop (8 + place) file)
+field-in : (file : List ℕ) (place after : ℕ) → place + after ≡ 88 → 4 ≤ after
+    → take 4 (drop place (envelope_at file)) ≡ take 4 (drop (8 + place) file)
 field-in file place after all within =
     ap (λ n. take 4 (drop place (take n (drop 8 file)))) (sym all)
     ∙ ap (take 4) (drop-take place after (drop 8 file))
@@ -55,15 +59,20 @@ unfolding number_at
 lines_in-file file = ap (from_be_bytes w32) (field-in file 20 68 refl (omega arith))
 
 -- What is read of a file keeps the rules of an image.
-module _ (file : List ℕ) (entry count : ℕ) (is : fields_at sealed_format file ≡ Ok (entry, count)) where
+module _ (file : List ℕ) (entry count : ℕ)
+    (is : fields_at sealed_format file ≡ Ok (entry, count)) where
   breaks_none : IsWhole sealed_format file
   breaks_none = (fields-told sealed_format file (entry, count) sealed_is_format is).0
 
   count_told : count ≡ number_at file 28
-  count_told = ap (λ (fields : ℕ × ℕ). fields.1) (fields-told sealed_format file (entry, count) sealed_is_format is).1
+  count_told =
+      ap (λ (fields : ℕ × ℕ). fields.1)
+      (fields-told sealed_format file (entry, count) sealed_is_format is).1
 
   pub told-room : 96 + 64 * count ≤ length file
-  told-room = let size : length file ≡ 96 + 64 * number_at file 28 = breaks_none.size in omega (arith, count_told)
+  told-room =
+      let size : length file
+      ≡ 96 + 64 * number_at file 28 = breaks_none.size in omega (arith, count_told)
 
   pub told-sized : length (envelope_at file) ≡ 88
   told-sized = length-take-le 88 (drop 8 file) (simp length-drop (omega (arith, told-room)))
@@ -78,19 +87,24 @@ module _ (file : List ℕ) (entry count : ℕ) (is : fields_at sealed_format fil
   told-counted = lines_in-file file ∙ sym (count_told) ∙ sym (length-lines_at file count)
 
   pub told-fits : length (lines_at file count) ≤ 2 ^ 15
-  told-fits = let most : number_at file 28 ≤ 2 ^ 15 = breaks_none.most in omega (arith, count_told, length-lines_at file count)
+  told-fits =
+      let most : number_at file 28 ≤ 2 ^ 15 = breaks_none.most in
+      omega (arith, count_told, length-lines_at file count)
 
   pub told-whole : AreWhole (lines_at file count)
   told-whole = lines_at-whole file count told-room
 
   -- it is in the grammar
   pub told-file : file ≡ sealed_file (envelope_at file) (lines_at file count)
-  told-file = IsWhole-sealed_file file breaks_none ∙ ap (λ n. sealed_file (envelope_at file) (lines_at file n)) (sym count_told)
+  told-file =
+      IsWhole-sealed_file file breaks_none
+      ∙ ap (λ n. sealed_file (envelope_at file) (lines_at file n)) (sym count_told)
 
 -- ---- From the image to its file
 
 -- a field of the envelope, looked up in the file
-field-of : (envelope rest : List ℕ) (place : ℕ) → place + 4 ≤ length envelope → take 4 (drop place (envelope ++ rest)) ≡ take 4 (drop place envelope)
+field-of : (envelope rest : List ℕ) (place : ℕ) → place + 4 ≤ length envelope
+    → take 4 (drop place (envelope ++ rest)) ≡ take 4 (drop place envelope)
 field-of envelope rest place within =
     ap (take 4) (drop-append-le place envelope rest (omega arith))
     ∙ take-append-le 4 (drop place envelope) rest (simp length-drop (omega arith))
@@ -115,22 +129,28 @@ module _ (envelope : List ℕ) (lines : List SealedLine) (sized : length envelop
   size_is : AreWhole lines → length (sealed_file envelope lines) ≡ 96 + 64 * length lines
   unfolding sealed_file
   size_is whole =
-      let joined : length (envelope ++ flat_map line_bytes lines) ≡ length envelope + length (flat_map line_bytes lines) = length-append envelope (flat_map line_bytes lines) in
-      let rest : length (flat_map line_bytes lines) ≡ 64 * length lines = lines-length lines whole in
+      let joined : length (envelope ++ flat_map line_bytes lines) ≡ length envelope + length
+      (flat_map line_bytes lines) = length-append envelope (flat_map line_bytes lines) in
+      let rest : length (flat_map line_bytes lines) ≡ 64 * length lines =
+      lines-length lines whole in
       omega arith
 
   lines_are : AreWhole lines → lines_at (sealed_file envelope lines) (length lines) ≡ lines
   unfolding sealed_file
   lines_are whole =
       let before : length (sealed_head ++ envelope) ≡ 96 = simp length-append (omega arith) in
-      ap (λ file. lines_at file (length lines)) (sym (append_assoc sealed_head envelope (flat_map line_bytes lines)))
+      ap (λ file. lines_at file (length lines))
+      (sym (append_assoc sealed_head envelope (flat_map line_bytes lines)))
       ∙ lines_at-lines (sealed_head ++ envelope) lines before whole
 
 -- the file of an image breaks no rule
-sealed_file-whole : (image : SealedImage) → IsWhole sealed_format (sealed_file image.envelope image.lines)
+sealed_file-whole : (image : SealedImage)
+    → IsWhole sealed_format (sealed_file image.envelope image.lines)
 sealed_file-whole image =
-    let entry : number_at (sealed_file image.envelope image.lines) 24 ≡ entry_in image.envelope = entry_is image.envelope image.lines image.sized in
-    let count : number_at (sealed_file image.envelope image.lines) 28 ≡ length image.lines = count_is image.envelope image.lines image.sized ∙ image.counted in
+    let entry : number_at (sealed_file image.envelope image.lines) 24 ≡ entry_in image.envelope =
+    entry_is image.envelope image.lines image.sized in
+    let count : number_at (sealed_file image.envelope image.lines) 28 ≡ length image.lines =
+    count_is image.envelope image.lines image.sized ∙ image.counted in
     record {
       head = head_is image.envelope image.lines image.sized;
       aligned = rw entry image.aligned;
@@ -140,22 +160,31 @@ sealed_file-whole image =
     }
 
 -- the file of an image is read as its envelope and its lines
-pub IsSealedFile-read : (file : List ℕ) (image : SealedImage) → IsSealedFile file image → sealed_image_at file ≡ Ok (image.envelope, image.lines)
+pub IsSealedFile-read : (file : List ℕ) (image : SealedImage) → IsSealedFile file image
+    → sealed_image_at file ≡ Ok (image.envelope, image.lines)
 unfolding sealed_image_at
 IsSealedFile-read file image is =
     let written = sealed_file image.envelope image.lines in
-    let count : number_at written 28 ≡ length image.lines = count_is image.envelope image.lines image.sized ∙ image.counted in
+    let count : number_at written 28 ≡ length image.lines = count_is image.envelope image.lines
+    image.sized ∙ image.counted in
     ap sealed_image_at is
-    ∙ ap (λ read. read >>= (λ fields. Ok (envelope_at written, lines_at written fields.1))) (whole-fields sealed_format written sealed_is_format (sealed_file-whole image))
+    ∙ ap (λ read. read >>= (λ fields. Ok (envelope_at written, lines_at written fields.1)))
+    (whole-fields sealed_format written sealed_is_format (sealed_file-whole image))
     ∙ ap (λ n. Ok (envelope_at written, lines_at written n)) count
-    ∙ ap (λ envelope. Ok (envelope, lines_at written (length image.lines))) (envelope_is image.envelope image.lines image.sized)
-    ∙ ap (λ lines. Ok (image.envelope, lines)) (lines_are image.envelope image.lines image.sized image.whole)
+    ∙ ap (λ envelope. Ok (envelope, lines_at written (length image.lines)))
+    (envelope_is image.envelope image.lines image.sized)
+    ∙ ap (λ lines. Ok (image.envelope, lines)) (lines_are image.envelope image.lines image.sized
+    image.whole)
 
 -- ---- What a reader promises follows from what it answers
 
-pub AnswersSealed-file : (file : List ℕ) (result : Result SealedImage ImageFault) → IfOk result (IsSealedFile file) → AnswersSealed (sealed_image_at file) result → AnswersFile (IsSealedFile file) (IsFirstBadSealed file) result
+pub AnswersSealed-file : (file : List ℕ) (result : Result SealedImage ImageFault)
+    → IfOk result (IsSealedFile file) → AnswersSealed (sealed_image_at file) result
+    → AnswersFile (IsSealedFile file) (IsFirstBadSealed file) result
 unfolding sealed_image_at
 AnswersSealed-file file =
     AnswersBy-file (λ (image : SealedImage). (image.envelope, image.lines))
-    (λ a b same. SealedImage-equal a b (ap (λ (p : List ℕ × List SealedLine). p.0) same) (ap (λ (p : List ℕ × List SealedLine). p.1) same))
-    sealed_format sealed_is_format file (λ fields. (envelope_at file, lines_at file fields.1)) (IsSealedFile file) (IsSealedFile-read file)
+    (λ a b same. SealedImage-equal a b (ap (λ (p : List ℕ × List SealedLine). p.0) same)
+    (ap (λ (p : List ℕ × List SealedLine). p.1) same))
+    sealed_format sealed_is_format file (λ fields. (envelope_at file, lines_at file fields.1))
+    (IsSealedFile file) (IsSealedFile-read file)

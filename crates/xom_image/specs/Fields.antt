@@ -1,4 +1,6 @@
--- What the files of plain and of sealed images have in common: a name with a version, an entry with a count behind it, and then so many parts of one size. Numbers have four bytes, the highest first. The formats are this project's own.
+-- What the files of plain and of sealed images have in common: a name with a version, an entry with
+-- a count behind it, and then so many parts of one size. Numbers have four bytes, the highest
+-- first. The formats are this project's own.
 use Rattle.std.specs.Prelude.{ℕ, ◌≡◌, ◌≢◌, ◌↔◌, ◌+◌, ◌*◌, ◌%◌, ◌^◌, ◌<◌, ◌≤◌, ◌⊎◌, ◌==◌, ◌&&◌, Bool, List, Result, Ok, Err, IfOk, IsOk, drop, length, min, nat_lt, slice_index, take, take_while, zip, if◌then◌else◌}
 use Rattle.std.specs.Int.{w32, from_be_bytes}
 use Rattle.xom_base.specs.Memory.{OrOut}
@@ -28,18 +30,22 @@ size_of format file = format.start + format.part * count_of format file
 
 -- a byte of the name or of the version differs here
 abbrev pub DiffersAt : Format → List ℕ → ℕ → Type 0
-DiffersAt format file n = (n < 8) × (n < length file) × (slice_index file n ≢ slice_index format.head n)
+DiffersAt format file n =
+    (n < 8) × (n < length file) × (slice_index file n ≢ slice_index format.head n)
 
 -- the entry, which is all there, is no multiple of 4 or not below 1,048,576
 abbrev pub HasBadEntryAt : Format → List ℕ → ℕ → Type 0
 HasBadEntryAt format file n =
-    (n ≡ format.entry) × (format.entry + 4 ≤ length file) × ((entry_of format file % 4 ≢ 0) ⊎ (2 ^ 20 ≤ entry_of format file))
+    (n ≡ format.entry) × (format.entry + 4 ≤ length file)
+    × ((entry_of format file % 4 ≢ 0) ⊎ (2 ^ 20 ≤ entry_of format file))
 
 -- the count, which is all there, is above the most that there may be
 abbrev pub HasBadCountAt : Format → List ℕ → ℕ → Type 0
-HasBadCountAt format file n = (n ≡ format.entry + 4) × (format.entry + 8 ≤ length file) × (format.most < count_of format file)
+HasBadCountAt format file n =
+    (n ≡ format.entry + 4) × (format.entry + 8 ≤ length file) × (format.most < count_of format file)
 
--- the file ends here, which is too early: before its parts begin, or before all the parts that it says
+-- the file ends here, which is too early: before its parts begin, or before all the parts that it
+-- says
 abbrev pub EndsEarlyAt : Format → List ℕ → ℕ → Type 0
 EndsEarlyAt format file n = (n ≡ length file) × (length file < size_of format file)
 
@@ -51,7 +57,8 @@ GoesOnAt format file n = (n ≡ size_of format file) × (n < length file)
 abbrev pub IsBadAt : Format → List ℕ → ℕ → Type 0
 IsBadAt format file n =
     DiffersAt format file n
-    ⊎ (HasBadEntryAt format file n ⊎ (HasBadCountAt format file n ⊎ (EndsEarlyAt format file n ⊎ GoesOnAt format file n)))
+    ⊎ (HasBadEntryAt format file n
+    ⊎ (HasBadCountAt format file n ⊎ (EndsEarlyAt format file n ⊎ GoesOnAt format file n)))
 
 -- this is the least place at which the file is bad
 pub record IsFirstBadOf (format : Format) (file : List ℕ) (n : ℕ) : Type 0 where
@@ -95,15 +102,19 @@ pub record IsFormat (format : Format) : Type 0 where
   pub before : format.entry + 8 ≤ format.start
 
 -- what a reader answers: what was read, unless there is an image for which memory ran out
-abbrev pub AnswersBy : {X Image : Type 0} → (Image → X) → Result X ℕ → Result Image ImageFault → Type 0
+abbrev pub AnswersBy : {X Image : Type 0} → (Image → X) → Result X ℕ → Result Image ImageFault
+    → Type 0
 AnswersBy parts read (Ok image) = read ≡ Ok (parts image)
 AnswersBy parts read (Err (fault.Bad n)) = read ≡ Err n
 AnswersBy parts read (Err fault.NoMemory) = IsOk read
 
--- How the reader of a format answers, where a file is that of an image, and a place is its first bad one:
--- what is read is in the format; what is in the format is read as that image, unless memory ran out; the
+-- How the reader of a format answers, where a file is that of an image, and a place is its first
+-- bad one:
+-- what is read is in the format; what is in the format is read as that image, unless memory ran
+-- out; the
 -- place that is answered is just the first bad one.
-pub record AnswersFile {Image : Type 0} (IsOf : Image → Type 0) (IsBad : ℕ → Type 0) (result : Result Image ImageFault) : Type 0 where
+pub record AnswersFile {Image : Type 0} (IsOf : Image → Type 0) (IsBad : ℕ → Type 0)
+    (result : Result Image ImageFault) : Type 0 where
   pub found : IfOk result IsOf
   pub only : (image : Image) → IsOf image → OrOut fault.NoMemory (Ok image) result
   pub bad : (n : ℕ) → (result ≡ Err (fault.Bad n)) ↔ IsBad n

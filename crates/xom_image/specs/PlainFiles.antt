@@ -1,4 +1,5 @@
--- The file of a plain image: "XOMP", the version 1, the entry, the length, and the bytes. Numbers have four bytes, the highest first. The format is this project's own.
+-- The file of a plain image: "XOMP", the version 1, the entry, the length, and the bytes. Numbers
+-- have four bytes, the highest first. The format is this project's own.
 use Rattle.std.specs.Prelude.{ℕ, ◌≡◌, ◌^◌, List, [], ◌∷◌, ◌++◌, Result, Ok, codes, drop, length}
 use Rattle.std.specs.Int.{w32, to_be_bytes}
 use Rattle.xom_base.specs.Results.{◌>>=◌}
@@ -15,7 +16,8 @@ plain_head = codes "XOMP" ++ (0 ∷ 0 ∷ 0 ∷ 1 ∷ [])
 
 -- the file of the image with this entry and these bytes
 unfoldable pub plain_file : ℕ → List ℕ → List ℕ
-plain_file entry bytes = plain_head ++ (to_be_bytes w32 entry ++ (to_be_bytes w32 (length bytes) ++ bytes))
+plain_file entry bytes =
+    plain_head ++ (to_be_bytes w32 entry ++ (to_be_bytes w32 (length bytes) ++ bytes))
 
 -- the file is that of the image, whose entry and length keep their ranges by its type
 abbrev pub IsPlainFile : List ℕ → PlainImage → Type 0

@@ -1,4 +1,5 @@
--- The file of a sealed image: "XOMS", the version 1, the envelope of 88 bytes, and then of each line the ciphertext and the tag, 32 bytes each. The format is this project's own.
+-- The file of a sealed image: "XOMS", the version 1, the envelope of 88 bytes, and then of each
+-- line the ciphertext and the tag, 32 bytes each. The format is this project's own.
 use Rattle.std.specs.Prelude.{ℕ, ◌≡◌, ◌+◌, ◌*◌, ◌^◌, List, [], ◌∷◌, ◌++◌, Result, Ok, codes, drop, map, take}
 use Rattle.std.specs.List.{flat_map, range_with_len}
 use Rattle.xom_base.specs.Results.{◌>>=◌}
@@ -28,7 +29,8 @@ IsSealedFile file image = file ≡ sealed_file image.envelope image.lines
 
 -- ---- Where a file is bad
 
--- The envelope stands at 8; in it the id comes first, so its entry stands at 24 and the number of lines at 28. From 96 on there are the lines of 64 bytes, at most 32,768.
+-- The envelope stands at 8; in it the id comes first, so its entry stands at 24 and the number of
+-- lines at 28. From 96 on there are the lines of 64 bytes, at most 32,768.
 abbrev pub sealed_format : Format
 sealed_format = record { head = sealed_head; entry = 24; start = 96; part = 64; most = 2 ^ 15 }
 
@@ -40,7 +42,10 @@ IsFirstBadSealed file n = IsFirstBadOf sealed_format file n
 
 -- the line whose bytes begin here
 abbrev pub line_at : List ℕ → ℕ → SealedLine
-line_at file place = record { ct = take 32 (drop place file); tag = take 32 (drop (place + 32) file) }
+line_at file place = record {
+  ct = take 32 (drop place file);
+  tag = take 32 (drop (place + 32) file);
+}
 
 -- the first lines of a file
 abbrev pub lines_at : List ℕ → ℕ → List SealedLine
@@ -57,5 +62,6 @@ sealed_image_at file = do
   Ok (envelope_at file, lines_at file fields.1)
 
 -- what a reader answers: what was read, unless there is an image for which memory ran out
-abbrev pub AnswersSealed : Result (List ℕ × List SealedLine) ℕ → Result SealedImage ImageFault → Type 0
+abbrev pub AnswersSealed : Result (List ℕ × List SealedLine) ℕ → Result SealedImage ImageFault
+    → Type 0
 AnswersSealed = AnswersBy (λ (image : SealedImage). (image.envelope, image.lines))

@@ -11,7 +11,8 @@ Appends-nothing None = refl
 Appends-nothing (Some text) = simp append-nil
 
 -- to append one text and then another is to append both
-pub Appends-then : (a b c : Option (List ℕ)) (x y : List ℕ) → Appends a b x → Appends b c y → Appends a c (x ++ y)
+pub Appends-then : (a b c : Option (List ℕ)) (x y : List ℕ) → Appends a b x → Appends b c y
+    → Appends a c (x ++ y)
 Appends-then None b c x y first second = rw first at second
 Appends-then (Some text) b c x y first second =
     let both = rw first at second in both ∙ ap Some (append_assoc text x y)
@@ -24,12 +25,16 @@ unchanged old new appends = appends ∙ sym (Appends-nothing old)
 rest_of : (i : ℕ) (text : List ℕ) → take (length text - i) (drop i text) ≡ drop i text
 rest_of i text = take_all _ _ (omega (arith, length-drop i text))
 
--- to append the first n bytes of the rest of a text is to append its first bytes, n more than before
-pub Appends-further : (a b c : Option (List ℕ)) (text : List ℕ) (i n : ℕ) → Appends a b (take i text) → Appends b c (take n (take (length text - i) (drop i text))) → Appends a c (take (i + n) text)
+-- to append the first n bytes of the rest of a text is to append its first bytes, n more than
+-- before
+pub Appends-further : (a b c : Option (List ℕ)) (text : List ℕ) (i n : ℕ)
+    → Appends a b (take i text) → Appends b c (take n (take (length text - i) (drop i text)))
+    → Appends a c (take (i + n) text)
 Appends-further a b c text i n first next =
     let P : List ℕ → Type 0 = Appends a c in
     let Q : List ℕ → Type 0 = λ rest. Appends b c (take n rest) in
-    subst P (sym (take-add i n text)) (Appends-then a b c (take i text) (take n (drop i text)) first (subst Q (rest_of i text) next))
+    subst P (sym (take-add i n text)) (Appends-then a b c (take i text) (take n (drop i text)) first
+    (subst Q (rest_of i text) next))
 
 -- for `grind`: what a put of the rest of a text appends
 pub ruleset further = (Appends-further, length-drop, length-take)

@@ -1,4 +1,5 @@
--- What files and sinks promise, by cases on what they answer. These promises are this project's own.
+-- What files and sinks promise, by cases on what they answer. These promises are this project's
+-- own.
 use Rattle.std.specs.Prelude.{◌≡◌, ◌≢◌, ℕ, ◌-◌, ◌^◌, ◌<◌, ◌≤◌, ◌⊎◌, List, ◌++◌, length, take, Option, Some, None, Result, Ok, Err, IfSome, IsSomeAnd, option_map}
 use Rattle.xom_io.specs.declared.files.FileFault.{FileFault}
 use Rattle.xom_io.specs.declared.files.FileFault.TheVariants.{Failed, TooLong, NoMemory}
@@ -19,7 +20,8 @@ Holds told name bytes = IfSome told (λ held. held name ≡ Some bytes)
 
 -- where it is told, the name holds some bytes, and of so many
 abbrev pub HoldsMany : Told → List ℕ → (ℕ → Type 0) → Type 0
-HoldsMany told name IsMany = IfSome told (λ held. IsSomeAnd (held name) (λ bytes. IsMany (length bytes)))
+HoldsMany told name IsMany =
+    IfSome told (λ held. IsSomeAnd (held name) (λ bytes. IsMany (length bytes)))
 
 -- it is told that the name isn't held
 abbrev pub Lacks : Told → List ℕ → Type 0
@@ -27,10 +29,14 @@ Lacks told name = IsSomeAnd told (λ held. held name ≡ None)
 
 -- What a get of a name answers. The count is that of reads, before the call and after it.
 abbrev pub Gets : Told → List ℕ → ℕ → ℕ → ℕ → Result (List ℕ) FileFault → Type 0
-Gets told name limit before after (Ok bytes) = (after ≡ before) × (length bytes ≤ limit) × Holds told name bytes
-Gets told name limit before after (Err Failed) = (before ≤ after) × (Rises before after ⊎ Lacks told name) × (Lacks told name → after ≡ before)
-Gets told name limit before after (Err TooLong) = (after ≡ before) × HoldsMany told name (λ many. limit < many)
-Gets told name limit before after (Err NoMemory) = (after ≡ before) × HoldsMany told name (λ many. many ≤ limit)
+Gets told name limit before after (Ok bytes) =
+    (after ≡ before) × (length bytes ≤ limit) × Holds told name bytes
+Gets told name limit before after (Err Failed) =
+    (before ≤ after) × (Rises before after ⊎ Lacks told name) × (Lacks told name → after ≡ before)
+Gets told name limit before after (Err TooLong) =
+    (after ≡ before) × HoldsMany told name (λ many. limit < many)
+Gets told name limit before after (Err NoMemory) =
+    (after ≡ before) × HoldsMany told name (λ many. many ≤ limit)
 
 -- Every name but this one holds what it held.
 abbrev pub KeepsOthers : Told → Told → List ℕ → Type 0
@@ -51,16 +57,22 @@ Appends old new bytes = new ≡ option_map (λ written. written ++ bytes) old
 
 -- What a sink answers to a put of a piece. The count is that of its faults.
 abbrev pub Takes : Option (List ℕ) → Option (List ℕ) → List ℕ → ℕ → ℕ → Result ℕ SinkFault → Type 0
-Takes old new piece before after (Ok n) = (after ≡ before) × (n ≤ length piece) × (0 < length piece → 0 < n) × Appends old new (take n piece)
-Takes old new piece before after (Err SinkFailed) = (0 < length piece) × (new ≡ old) × (before ≤ after) × Rises before after
-Takes old new piece before after (Err SinkNoMemory) = (0 < length piece) × (new ≡ old) × (after ≡ before)
+Takes old new piece before after (Ok n) =
+    (after ≡ before) × (n ≤ length piece) × (0 < length piece → 0 < n)
+    × Appends old new (take n piece)
+Takes old new piece before after (Err SinkFailed) =
+    (0 < length piece) × (new ≡ old) × (before ≤ after) × Rises before after
+Takes old new piece before after (Err SinkNoMemory) =
+    (0 < length piece) × (new ≡ old) × (after ≡ before)
 
 -- Some first bytes of a text were appended, and not all of it.
 abbrev pub AppendsPart : Option (List ℕ) → Option (List ℕ) → List ℕ → Type 0
 AppendsPart old new text = (n : ℕ) × (n < length text) × Appends old new (take n text)
 
 -- What comes of putting a whole text, piece by piece.
-abbrev pub TakesAll : Option (List ℕ) → Option (List ℕ) → List ℕ → ℕ → ℕ → Result (Unit {0}) SinkFault → Type 0
+abbrev pub TakesAll : Option (List ℕ) → Option (List ℕ) → List ℕ → ℕ → ℕ
+    → Result (Unit {0}) SinkFault → Type 0
 TakesAll old new text before after (Ok _) = (after ≡ before) × Appends old new text
-TakesAll old new text before after (Err SinkFailed) = AppendsPart old new text × (before ≤ after) × Rises before after
+TakesAll old new text before after (Err SinkFailed) =
+    AppendsPart old new text × (before ≤ after) × Rises before after
 TakesAll old new text before after (Err SinkNoMemory) = AppendsPart old new text × (after ≡ before)

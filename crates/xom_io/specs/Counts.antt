@@ -5,7 +5,8 @@ use Rattle.std.specs.Prelude.{ℕ, ◌+◌, ◌-◌, ◌^◌, min}
 abbrev pub raised : ℕ → ℕ
 raised count = min (count + 1) (2 ^ 64 - 1)
 
--- What is seen of files that tell nothing of what they hold: how many reads and how many writes failed.
+-- What is seen of files that tell nothing of what they hold: how many reads and how many writes
+-- failed.
 pub record Counts : Type 0 where
   pub reads : ℕ
   pub writes : ℕ

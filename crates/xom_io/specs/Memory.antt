@@ -5,7 +5,8 @@ use Rattle.std.specs.Coded.{Coded, code_by, coded×, coded_ℕ, coded_list, code
 use Rattle.xom_io.specs.Answers.{Told}
 use Rattle.xom_io.specs.Names.{Named}
 
--- A plan of the calls that are to fail: their numbers, and the number of the next call. There is none once every number below 2^64 was used, and no later call fails.
+-- A plan of the calls that are to fail: their numbers, and the number of the next call. There is
+-- none once every number below 2^64 was used, and no later call fails.
 pub record Plan : Type 0 where
   pub failing : List ℕ
   pub next : Option ℕ
@@ -49,7 +50,8 @@ pub record Sunk : Type 0 where
   pub plan : Plan
   pub faults : ℕ
 
--- How many bytes of a piece the sink takes: those for which there is room, and all of them where it has to grow.
+-- How many bytes of a piece the sink takes: those for which there is room, and all of them where it
+-- has to grow.
 abbrev pub part_of : ℕ → List ℕ → ℕ
 part_of room piece = if room == 0 then length piece else min (length piece) room
 
@@ -61,7 +63,14 @@ after_put plan piece = if length piece == 0 then plan else passed plan
 abbrev pub kept_code : Coded Kept
 kept_code =
     code_by (Named × ((List ℕ × Option ℕ) × (ℕ × ℕ)))
-    (coded× (code (coded_list coded_ℕ) (coded_list coded_ℕ)) (coded× (coded× (coded_list coded_ℕ) (coded_option coded_ℕ)) (coded× coded_ℕ coded_ℕ)))
+    (coded× (code (coded_list coded_ℕ) (coded_list coded_ℕ))
+    (coded× (coded× (coded_list coded_ℕ) (coded_option coded_ℕ)) (coded× coded_ℕ coded_ℕ)))
     (λ f. (f.names, ((f.plan.failing, f.plan.next), (f.reads, f.writes))))
-    (λ c. record { names = c.0; plan = record { failing = c.1.0.0; next = c.1.0.1 }; reads = c.1.1.0; writes = c.1.1.1 })
+    (λ c. record {
+      names = c.0;
+      plan = record { failing = c.1.0.0; next = c.1.0.1 };
+      reads =
+          c.1.1.0;
+      writes = c.1.1.1;
+    })
     (λ _. refl)

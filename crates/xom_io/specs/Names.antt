@@ -1,4 +1,5 @@
--- What names hold, as a finite map from the bytes of each name to its bytes. It is this project's own.
+-- What names hold, as a finite map from the bytes of each name to its bytes. It is this project's
+-- own.
 use Rattle.std.specs.Prelude.{ℕ, List, map, String, string_bytes}
 use Rattle.std.specs.Ordering.{nat_cmp}
 use Rattle.std.specs.Cmp.Lexicographic.{slice_cmp}

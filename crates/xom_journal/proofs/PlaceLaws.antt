@@ -13,17 +13,21 @@ past_end xs i none =
     ]
 
 -- one more in front
-pub front_some : {A : Type 0} (xs : List A) (i : ℕ) (x : A) → slice_get xs i ≡ Some x → take (i + 1) xs ≡ take i xs ++ x ∷ []
+pub front_some : {A : Type 0} (xs : List A) (i : ℕ) (x : A) → slice_get xs i ≡ Some x
+    → take (i + 1) xs ≡ take i xs ++ x ∷ []
 front_some xs i x some =
-    take_more xs i x (slice_get_within xs i x some) ∙ ap (λ y. take i xs ++ y ∷ []) (get_or_from_slice_get xs i x x some)
+    take_more xs i x (slice_get_within xs i x some) ∙ ap (λ y. take i xs ++ y ∷ [])
+    (get_or_from_slice_get xs i x x some)
 
-pub front_none : {A : Type 0} (xs : List A) (i : ℕ) → slice_get xs i ≡ None → take (i + 1) xs ≡ take i xs
+pub front_none : {A : Type 0} (xs : List A) (i : ℕ) → slice_get xs i ≡ None
+    → take (i + 1) xs ≡ take i xs
 front_none xs i none =
     let past : length xs ≤ i = past_end xs i none in
     take_all (i + 1) xs (omega arith) ∙ sym (take_all i xs past)
 
 -- the one at the place is the first behind it
-pub behind_some : {A : Type 0} (xs : List A) (i : ℕ) (x : A) → slice_get xs i ≡ Some x → drop i xs ≡ x ∷ drop (i + 1) xs
+pub behind_some : {A : Type 0} (xs : List A) (i : ℕ) (x : A) → slice_get xs i ≡ Some x
+    → drop i xs ≡ x ∷ drop (i + 1) xs
 behind_some xs i x some =
     let within : i < length xs = slice_get_within xs i x some in
     drop-cons xs i x within

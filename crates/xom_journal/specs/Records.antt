@@ -11,10 +11,12 @@ part at count bytes = take count (drop at bytes)
 
 -- the entry of a record, whose payload stands in these bytes
 abbrev pub entry_at : List ℕ → Record → Entry
-entry_at bytes (record_.Install n slot id place begin lines) = entry.Install n slot id place begin lines
+entry_at bytes (record_.Install n slot id place begin lines) =
+    entry.Install n slot id place begin lines
 entry_at bytes (record_.Step n step) = entry.Step n step
 entry_at bytes (record_.Trap n cause) = entry.Trap n cause
-entry_at bytes (record_.Seal at key message) = entry.Seal (part at key bytes) (part (at + key) message bytes)
+entry_at bytes (record_.Seal at key message) =
+    entry.Seal (part at key bytes) (part (at + key) message bytes)
 entry_at bytes (record_.Accept at key message place) =
     entry.Accept (part at key bytes) (part (at + key) message bytes) place
 entry_at bytes (record_.Hash at preimage digest) = entry.Hash (part at preimage bytes) digest
@@ -36,11 +38,13 @@ payload (entry.Out byte) = []
 
 -- the record of an entry, whose payload stands from here on
 abbrev pub record_at : ℕ → Entry → Record
-record_at at (entry.Install n slot id place begin lines) = record_.Install n slot id place begin lines
+record_at at (entry.Install n slot id place begin lines) = record_.Install n slot id place begin
+    lines
 record_at at (entry.Step n step) = record_.Step n step
 record_at at (entry.Trap n cause) = record_.Trap n cause
 record_at at (entry.Seal key message) = record_.Seal at (length key) (length message)
-record_at at (entry.Accept key message place) = record_.Accept at (length key) (length message) place
+record_at at (entry.Accept key message place) = record_.Accept at (length key) (length message)
+    place
 record_at at (entry.Hash preimage digest) = record_.Hash at (length preimage) digest
 record_at at (entry.Stop n rule) = record_.Stop n rule
 record_at at (entry.Kill n) = record_.Kill n
@@ -51,8 +55,10 @@ abbrev pub IsWithin : ℕ → Record → Type 0
 IsWithin size (record_.Install n slot id place begin lines) = Unit {0}
 IsWithin size (record_.Step n step) = Unit {0}
 IsWithin size (record_.Trap n cause) = Unit {0}
-IsWithin size (record_.Seal at key message) = (at + key + message ≤ size) × (key ≤ 96) × (message ≤ 96)
-IsWithin size (record_.Accept at key message place) = (at + key + message ≤ size) × (key ≤ 96) × (message ≤ 96)
+IsWithin size (record_.Seal at key message) =
+    (at + key + message ≤ size) × (key ≤ 96) × (message ≤ 96)
+IsWithin size (record_.Accept at key message place) =
+    (at + key + message ≤ size) × (key ≤ 96) × (message ≤ 96)
 IsWithin size (record_.Hash at preimage digest) = (at + preimage ≤ size) × (preimage ≤ 260)
 IsWithin size (record_.Stop n rule) = Unit {0}
 IsWithin size (record_.Kill n) = Unit {0}

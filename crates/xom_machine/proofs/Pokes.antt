@@ -22,24 +22,30 @@ event_at pokes i = (get_or pokes i no_poke).event
 -- ---- What is found
 
 -- one that no earlier one agrees with is the first
-first_is : (pokes : List Poke) (n i : ℕ) → i < length pokes → event_at pokes i ≡ n → ((j : ℕ) → j < i → event_at pokes j ≢ n) → slice_get pokes i ≡ poke_at pokes n
+first_is : (pokes : List Poke) (n i : ℕ) → i < length pokes → event_at pokes i ≡ n
+    → ((j : ℕ) → j < i → event_at pokes j ≢ n) → slice_get pokes i ≡ poke_at pokes n
 first_is [] n i inside is before = absurd (omega (arith, inside))
-first_is (poke ∷ pokes) n zero inside is before = sym (cond-true (poke.event == n) (Some poke) (poke_at pokes n) (eq-eqb poke.event n is))
+first_is (poke ∷ pokes) n zero inside is before =
+    sym (cond-true (poke.event == n) (Some poke) (poke_at pokes n) (eq-eqb poke.event n is))
 first_is (poke ∷ pokes) n (suc i) inside is before =
     first_is pokes n i (omega (arith, inside)) is (λ j below. before (suc j) (omega (arith, below)))
-    ∙ sym (cond-false (poke.event == n) (Some poke) (poke_at pokes n) (ne_eqb poke.event n (before 0 (omega arith))))
+    ∙ sym (cond-false (poke.event == n) (Some poke) (poke_at pokes n)
+    (ne_eqb poke.event n (before 0 (omega arith))))
 
 -- what stands at a place
-stands : (pokes : List Poke) (i : ℕ) (d : Poke) → i < length pokes → Some (get_or pokes i d) ≡ slice_get pokes i
+stands : (pokes : List Poke) (i : ℕ) (d : Poke) → i < length pokes
+    → Some (get_or pokes i d) ≡ slice_get pokes i
 stands [] i d inside = absurd (omega (arith, inside))
 stands (poke ∷ pokes) zero d inside = refl
 stands (poke ∷ pokes) (suc i) d inside = stands pokes i d (omega (arith, inside))
 
 -- where none agrees none is found
-none_is : (pokes : List Poke) (n : ℕ) → ((j : ℕ) → j < length pokes → event_at pokes j ≢ n) → poke_at pokes n ≡ None
+none_is : (pokes : List Poke) (n : ℕ) → ((j : ℕ) → j < length pokes → event_at pokes j ≢ n)
+    → poke_at pokes n ≡ None
 none_is [] n differs = refl
 none_is (poke ∷ pokes) n differs =
-    cond-false (poke.event == n) (Some poke) (poke_at pokes n) (ne_eqb poke.event n (differs 0 (omega arith)))
+    cond-false (poke.event == n) (Some poke) (poke_at pokes n)
+    (ne_eqb poke.event n (differs 0 (omega arith)))
     ∙ none_is pokes n (λ j below. differs (suc j) (omega (arith, below)))
 
 -- ---- Numbers that ascend
@@ -59,21 +65,29 @@ module _ (pokes : List Poke) (up : IsStrictlyIncreasing (map event_number pokes)
   climb : (i j : ℕ) → i < j → j < length pokes → event_at pokes i < event_at pokes j
   climb i j below inside =
       let next = up i (omega (arith, numbers)) in
-      let far = rises (map event_number pokes) up (i + 1) j (omega arith) (omega (arith, numbers)) in
+      let far = rises (map event_number pokes) up (i + 1) j (omega arith)
+      (omega (arith, numbers)) in
       omega (arith, next, far, event_map i (omega arith), event_map j inside)
 
-  comparisons_rise : (n : ℕ) → IsNonDecreasingBy (λ (poke : Poke). ordering_index (nat_cmp poke.event n)) pokes
-  comparisons_rise n = IsNonDecreasingBy-from_default (λ (poke : Poke). ordering_index (nat_cmp poke.event n)) pokes no_poke
+  comparisons_rise : (n : ℕ)
+      → IsNonDecreasingBy (λ (poke : Poke). ordering_index (nat_cmp poke.event n)) pokes
+  comparisons_rise n = IsNonDecreasingBy-from_default
+      (λ (poke : Poke). ordering_index (nat_cmp poke.event n)) pokes no_poke
       (λ i j below inside. let more = rise i j below inside in grind (arith, nat_tests, more))
 
-  pub searched_poke : (n : ℕ) (r : Result ℕ ℕ) → IsSearchInRange r (length pokes) → IsBinarySearchResult (λ (poke : Poke). nat_cmp poke.event n) pokes r
-      → MatchResult r (λ i. (d : Poke) → Some (get_or pokes i d) ≡ poke_at pokes n) (λ i. None ≡ poke_at pokes n)
+  pub searched_poke : (n : ℕ) (r : Result ℕ ℕ) → IsSearchInRange r (length pokes)
+      → IsBinarySearchResult (λ (poke : Poke). nat_cmp poke.event n) pokes r
+      → MatchResult r (λ i. (d : Poke) → Some (get_or pokes i d) ≡ poke_at pokes n)
+      (λ i. None ≡ poke_at pokes n)
   searched_poke n (Ok i) inside equal =
       let is : event_at pokes i ≡ n = ranked _ n _ (sym (equal no_poke)) in
-      λ d. stands pokes i d inside ∙ first_is pokes n i inside is (λ j below same. let less = climb j i below inside in omega (arith, less, is, same))
+      λ d. stands pokes i d inside ∙ first_is pokes n i inside is (λ j below same. let less =
+      climb j i below inside in omega (arith, less, is, same))
   searched_poke n (Err i) inside parted =
       let sides = parted (comparisons_rise n) in
       sym (none_is pokes n (λ j below same. elim (cases_lt j i) [
-        | inl before ↦ let less = ranked _ n _ (sym (sides.0 j no_poke (omega arith) before)) in omega (arith, less, same)
-        | inr past ↦ let more = ranked _ n _ (sym (sides.1 j no_poke past below)) in omega (arith, more, same)
+        | inl before ↦ let less = ranked _ n _ (sym (sides.0 j no_poke (omega arith) before)) in
+            omega (arith, less, same)
+        | inr past ↦ let more = ranked _ n _ (sym (sides.1 j no_poke past below)) in
+            omega (arith, more, same)
       ]))

@@ -10,7 +10,8 @@ use Rattle.std.proofs.lemmas.List.Folds.{list_any_at, list_any_none}
 use Rattle.std.proofs.lemmas.List.Sorted.{searched}
 
 -- each number is at most those behind it
-rises-by : (xs : List ℕ) → IsStrictlyIncreasing xs → (i gap : ℕ) → i + gap < length xs → get_or xs i 0 ≤ get_or xs (i + gap) 0
+rises-by : (xs : List ℕ) → IsStrictlyIncreasing xs → (i gap : ℕ) → i + gap < length xs
+    → get_or xs i 0 ≤ get_or xs (i + gap) 0
 rises-by xs up i zero inside = rw add-zero (omega arith)
 rises-by xs up i (suc gap) inside =
     let place : i + suc gap ≡ (i + gap) + 1 = omega arith in
@@ -18,13 +19,15 @@ rises-by xs up i (suc gap) inside =
     let next = up (i + gap) (omega arith) in
     rw place (omega arith)
 
-pub rises : (xs : List ℕ) → IsStrictlyIncreasing xs → (i j : ℕ) → i ≤ j → j < length xs → get_or xs i 0 ≤ get_or xs j 0
+pub rises : (xs : List ℕ) → IsStrictlyIncreasing xs → (i j : ℕ) → i ≤ j → j < length xs
+    → get_or xs i 0 ≤ get_or xs j 0
 rises xs up i j below inside =
     let place : i + (j - i) ≡ j = omega arith in
     subst (λ k. get_or xs i 0 ≤ get_or xs k 0) place (rises-by xs up i (j - i) (omega arith))
 
 -- the search finds a number exactly where it is among them
-pub found_among : (xs : List ℕ) (n : ℕ) (r : Result ℕ ℕ) → IsStrictlyIncreasing xs → IsBinarySearchResult (λ y. nat_cmp y n) xs r → is_ok r ≡ list_any (λ m. m == n) xs
+pub found_among : (xs : List ℕ) (n : ℕ) (r : Result ℕ ℕ) → IsStrictlyIncreasing xs
+    → IsBinarySearchResult (λ y. nat_cmp y n) xs r → is_ok r ≡ list_any (λ m. m == n) xs
 found_among xs n (Ok i) up result =
     let at = searched xs n (Ok i) result (rises xs up) in
     sym (list_any_at (λ m. m == n) xs i 0 at.0 (eq-eqb (get_or xs i 0) n at.1))

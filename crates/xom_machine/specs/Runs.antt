@@ -43,41 +43,57 @@ guests_of [] = 0
 guests_of (first ∷ events) = guests_in first.0 + guests_of events
 
 module _ (schedule : Schedule) where
-  -- Whose turn it is: that of the write of the bus that is listed for the event's number, else of the guest that runs, with its flag by its number among guest events, else of the kernel, which may ask for anything.
+  -- Whose turn it is: that of the write of the bus that is listed for the event's number, else of
+  -- the guest that runs, with its flag by its number among guest events, else of the kernel, which
+  -- may ask for anything.
   abbrev pub IsDueWhere : ℕ → Event → List ℕ → Option Poke → Option ℕ → Type 0
-  IsDueWhere guests e chunk (Some poke) at = (e ≡ event.Poke poke.address (length poke.bytes)) × (bytes_of e chunk ≡ poke.bytes)
-  IsDueWhere guests e chunk None (Some slot) = e ≡ event.Guest (is_flagged schedule.interrupts (guests + 1))
+  IsDueWhere guests e chunk (Some poke) at =
+      (e ≡ event.Poke poke.address (length poke.bytes)) × (bytes_of e chunk ≡ poke.bytes)
+  IsDueWhere guests e chunk None (Some slot) =
+      e ≡ event.Guest (is_flagged schedule.interrupts (guests + 1))
   IsDueWhere guests e chunk None None = (t : Turn) × (e ≡ event_of t)
 
   -- so it is of the event that comes where so many guest events came before
   abbrev pub IsDue : ℕ → Record → Event → List ℕ → Type 0
-  IsDue guests r e chunk = IsDueWhere guests e chunk (poke_at schedule.pokes (r.events + 1)) (running_slot r)
+  IsDue guests r e chunk =
+      IsDueWhere guests e chunk (poke_at schedule.pokes (r.events + 1)) (running_slot r)
 
-  -- the last record comes from the first by these events: each may come where it does, and it is its turn
+  -- the last record comes from the first by these events: each may come where it does, and it is
+  -- its turn
   abbrev pub IsRun : Versions → ℕ → Record → List Made → Record → Type 0
   IsRun v guests r [] last = last ≡ r
   IsRun v guests r (first ∷ events) last =
-      (fits r first.0 ≡ true) × IsDue guests r first.0 first.1 × IsRun v (guests + guests_in first.0) (on v r first.0 first.1).0 events last
+      (fits r first.0 ≡ true) × IsDue guests r first.0 first.1
+      × IsRun v (guests + guests_in first.0) (on v r first.0 first.1).0 events last
 
 -- ---- Events of a kernel that may tell its turns
 module _ {K : Type 0} (told : K → View → Option (Turn × (List ℕ × K))) (schedule : Schedule) where
-  -- the event is the kernel's turn, with its bytes first in the chunk, and that is its state then, where it tells its turn
+  -- the event is the kernel's turn, with its bytes first in the chunk, and that is its state then,
+  -- where it tells its turn
   abbrev pub IsTold : Record → K → Event → List ℕ → K → Type 0
-  IsTold r k e chunk k' = IfSome (told k (view_of r)) (λ t. (e ≡ event_of t.0) × (bytes_of e chunk ≡ bytes_of e t.1.0) × (k' ≡ t.1.1))
+  IsTold r k e chunk k' =
+      IfSome (told k (view_of r))
+      (λ t. (e ≡ event_of t.0) × (bytes_of e chunk ≡ bytes_of e t.1.0) × (k' ≡ t.1.1))
 
   -- whose turn it is; the kernel is asked only where it is the kernel's
   abbrev pub IsNextWhere : ℕ → Record → K → Event → List ℕ → K → Option Poke → Option ℕ → Type 0
-  IsNextWhere guests r k e chunk k' (Some poke) at = IsDueWhere schedule guests e chunk (Some poke) at × (k' ≡ k)
-  IsNextWhere guests r k e chunk k' None (Some slot) = IsDueWhere schedule guests e chunk None (Some slot) × (k' ≡ k)
-  IsNextWhere guests r k e chunk k' None None = IsDueWhere schedule guests e chunk None None × IsTold r k e chunk k'
+  IsNextWhere guests r k e chunk k' (Some poke) at =
+      IsDueWhere schedule guests e chunk (Some poke) at × (k' ≡ k)
+  IsNextWhere guests r k e chunk k' None (Some slot) =
+      IsDueWhere schedule guests e chunk None (Some slot) × (k' ≡ k)
+  IsNextWhere guests r k e chunk k' None None =
+      IsDueWhere schedule guests e chunk None None × IsTold r k e chunk k'
 
-  -- the event that comes next, with its chunk, where so many guest events came before, and the kernel's state then
+  -- the event that comes next, with its chunk, where so many guest events came before, and the
+  -- kernel's state then
   abbrev pub IsNext : ℕ → Record → K → Event → List ℕ → K → Type 0
-  IsNext guests r k e chunk k' = IsNextWhere guests r k e chunk k' (poke_at schedule.pokes (r.events + 1)) (running_slot r)
+  IsNext guests r k e chunk k' =
+      IsNextWhere guests r k e chunk k' (poke_at schedule.pokes (r.events + 1)) (running_slot r)
 
   module _ (v : Versions) where
     -- one event of a run, on the machine with its room
-    pub record WentOn (guests : ℕ) (m : Whole) (k : K) (guests' : ℕ) (m' : Whole) (k' : K) : Type 0 where
+    pub record WentOn (guests : ℕ) (m : Whole) (k : K) (guests' : ℕ) (m' : Whole) (k' : K) : Type
+        0 where
       pub event : Event
       pub chunk : List ℕ
       pub fits : fits m.state event ≡ true
@@ -94,19 +110,26 @@ module _ {K : Type 0} (told : K → View → Option (Turn × (List ℕ × K))) (
       pub guests_are : guests ≡ guests_of events
       pub few : guests ≤ count
       pub counted : m.state.events ≡ count
-      -- where the kernel tells its turns, so many more events lead to the record to which all of them lead
-      pub turns : (more : ℕ) → IfSome (run_from v told schedule (count + more) 0 first.state k0) (λ r. run_from v told schedule more guests m.state k ≡ Some r)
+      -- where the kernel tells its turns, so many more events lead to the record to which all of
+      -- them lead
+      pub turns : (more : ℕ)
+          → IfSome (run_from v told schedule (count + more) 0 first.state k0)
+          (λ r. run_from v told schedule more guests m.state k ≡ Some r)
       pub room : first.spare ≤ m.spare + count * EVENT_ROOM
 
     -- how a run ends, within so many events
     abbrev pub EndsBy : ℕ → ℕ → Whole → RunEnd → Type 0
-    EndsBy budget count m Halted = (count ≤ budget) × (m.state.halted ≡ true) × (m.state.fault ≡ None)
-    EndsBy budget count m (KernelFault at why) = (count ≤ budget) × (m.state.halted ≡ true) × (m.state.fault ≡ Some (at, why))
+    EndsBy budget count m Halted =
+        (count ≤ budget) × (m.state.halted ≡ true) × (m.state.fault ≡ None)
+    EndsBy budget count m (KernelFault at why) =
+        (count ≤ budget) × (m.state.halted ≡ true) × (m.state.fault ≡ Some (at, why))
     EndsBy budget count m Budget = (count ≡ budget) × (m.state.halted ≡ false)
-    EndsBy budget count m NoMemory = (count < budget) × (m.state.halted ≡ false) × (m.spare < EVENT_ROOM)
+    EndsBy budget count m NoMemory =
+        (count < budget) × (m.state.halted ≡ false) × (m.spare < EVENT_ROOM)
 
     -- a whole run
-    pub record Ran (budget : ℕ) (first : Whole) (k0 : K) (end : RunEnd) (last : Whole) : Type 0 where
+    pub record Ran (budget : ℕ) (first : Whole) (k0 : K) (end : RunEnd) (last : Whole) : Type
+        0 where
       pub guests : ℕ
       pub kernel : K
       pub so_far : SoFar first k0 last.state.events guests last kernel

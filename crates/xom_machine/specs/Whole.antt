@@ -24,4 +24,10 @@ pub record InTime (r : Record) : Type 0 where
 
 -- the machine with bytes put into RAM, or as it is where RAM doesn't hold their range
 abbrev pub with_loaded : Whole → ℕ → List ℕ → Whole
-with_loaded m address bytes = record m { state = record m.state { core = record m.state.core { ram = ram_after_write m.state.core.ram address bytes } } }
+with_loaded m address bytes =
+    record m {
+      state = record m.state {
+        core =
+            record m.state.core { ram = ram_after_write m.state.core.ram address bytes };
+      };
+    }

@@ -25,16 +25,20 @@ use Rattle.xom_model.proofs.WalkEvents.{Deeds, walk_event}
 appends_on : (a b c : CoreState) → Appends a b → Appends b c → Appends a c
 appends_on a b c first then = record {
   added = first.added ++ then.added;
-  entries = then.entries ∙ ap (λ es. es ++ then.added) first.entries ∙ append_assoc a.entries first.added then.added;
+  entries = then.entries ∙ ap (λ es. es ++ then.added) first.entries ∙ append_assoc a.entries
+      first.added then.added;
   last = let up = first.last in let on = then.last in omega arith;
   given = λ n has. elim (HasOne-either (GivesIt n) first.added then.added has) [
-    | inl before ↦ let its = first.given n before in let on = then.last in (its.0, let low = its.1 in omega arith)
-    | inr behind ↦ let its = then.given n behind in let up = first.last in (let high = its.0 in omega arith, its.1)
+    | inl before ↦ let its = first.given n before in let on = then.last in
+        (its.0, let low = its.1 in omega arith)
+    | inr behind ↦ let its = then.given n behind in let up = first.last in
+        (let high = its.0 in omega arith, its.1)
   ];
 }
 
 -- nothing, an entry or hashes, where no number is given
-appends_none : (core new : CoreState) → new.entries ≡ core.entries → new.installs ≡ core.installs → Appends core new
+appends_none : (core new : CoreState) → new.entries ≡ core.entries → new.installs ≡ core.installs
+    → Appends core new
 appends_none core new entries same = record {
   added = [];
   entries = entries ∙ sym (append-nil core.entries);
@@ -42,7 +46,8 @@ appends_none core new entries same = record {
   given = λ n nothing. absurd nothing;
 }
 
-appends_one : (core new : CoreState) (e : Entry) → new.entries ≡ core.entries ++ e ∷ [] → new.installs ≡ core.installs → ((n : ℕ) → ¬ GivesIt n e) → Appends core new
+appends_one : (core new : CoreState) (e : Entry) → new.entries ≡ core.entries ++ e ∷ []
+    → new.installs ≡ core.installs → ((n : ℕ) → ¬ GivesIt n e) → Appends core new
 appends_one core new e entries same none = record {
   added = e ∷ [];
   entries = entries;
@@ -50,7 +55,9 @@ appends_one core new e entries same none = record {
   given = λ n has. absurd (none n (HasOne-only (GivesIt n) e has));
 }
 
-appends_hashes : (core new : CoreState) (texts : List (List ℕ)) → new.entries ≡ core.entries ++ map hash_entry texts → new.installs ≡ core.installs → Appends core new
+appends_hashes : (core new : CoreState) (texts : List (List ℕ))
+    → new.entries ≡ core.entries ++ map hash_entry texts → new.installs ≡ core.installs
+    → Appends core new
 appends_hashes core new texts entries same = record {
   added = map hash_entry texts;
   entries = entries;
@@ -58,20 +65,27 @@ appends_hashes core new texts entries same = record {
   given = λ n has. absurd (HasOne-hashes (GivesIt n) (λ text nothing. nothing) texts has);
 }
 
-raise_appends : (v : Versions) (core : CoreState) (slot line : ℕ) → Appends core (after_raise v core slot line)
+raise_appends : (v : Versions) (core : CoreState) (slot line : ℕ)
+    → Appends core (after_raise v core slot line)
 unfolding after_raise
-raise_appends v core slot line = appends_hashes core (after_raise v core slot line) (v.texts_of_raise (store_of core slot) line core.ram) refl refl
+raise_appends v core slot line =
+    appends_hashes core (after_raise v core slot line)
+    (v.texts_of_raise (store_of core slot) line core.ram) refl refl
 
-written_appends : (v : Versions) (core : CoreState) (way : Way) (version : ℕ) → Appends core (written_back v core way version)
+written_appends : (v : Versions) (core : CoreState) (way : Way) (version : ℕ)
+    → Appends core (written_back v core way version)
 unfolding after_seal
 written_appends v core way version =
     let mid = after_raise v core way.slot way.line in
     appends_on core mid (written_back v core way version) (raise_appends v core way.slot way.line)
-    (appends_one mid (written_back v core way version) (seal_entry (who_of mid way.slot) way.line version way.bytes) refl refl (λ n nothing. nothing))
+    (appends_one mid (written_back v core way version) (seal_entry (who_of mid way.slot) way.line
+    version way.bytes) refl refl (λ n nothing. nothing))
 
 stop_appends : (core : CoreState) (slot : ℕ) (why : Rule) → Appends core (after_stop core slot why)
 unfolding without_guest
-stop_appends core slot why = appends_one core (after_stop core slot why) (entry.Stop (session_of core slot).install why) refl refl (λ n nothing. nothing)
+stop_appends core slot why =
+    appends_one core (after_stop core slot why) (entry.Stop (session_of core slot).install why) refl
+    refl (λ n nothing. nothing)
 
 exit_appends : (core : CoreState) (slot : ℕ) → Appends core (after_exit core slot).0
 unfolding without_guest
@@ -79,9 +93,12 @@ exit_appends core slot = appends_none core (after_exit core slot).0 refl refl
 
 kill_appends : (v : Versions) (core : CoreState) (slot : ℕ) → Appends core (after_kill v core slot)
 unfolding without_guest
-kill_appends v core slot = appends_one core (after_kill v core slot) (entry.Kill (session_of core slot).install) refl refl (λ n nothing. nothing)
+kill_appends v core slot =
+    appends_one core (after_kill v core slot) (entry.Kill (session_of core slot).install) refl refl
+    (λ n nothing. nothing)
 
-install_appends : (v : Versions) (core : CoreState) (slot place area : ℕ) (plain : Unwrapped) → Appends core (after_install v core slot place area plain)
+install_appends : (v : Versions) (core : CoreState) (slot place area : ℕ) (plain : Unwrapped)
+    → Appends core (after_install v core slot place area plain)
 unfolding after_install
 install_appends v core slot place area plain =
     let texts = v.texts_of_build area plain.lines core.ram in
@@ -105,24 +122,30 @@ appends_parts v slot = record {
   none = λ core. appends_none core core refl refl;
   on = appends_on;
   hash = λ core texts. appends_hashes core (core_with_hashes core texts) texts refl refl;
-  accept = λ core line version place ct runs. appends_one core _ (accept_entry (who_of core slot) line version ct place) refl refl (λ n nothing. nothing);
+  accept = λ core line version place ct runs. appends_one core _ (accept_entry (who_of core slot)
+      line version ct place) refl refl (λ n nothing. nothing);
   point = λ core line. appends_none core _ refl refl;
   bring = λ core place way clean may. appends_none core _ refl refl;
   seal = λ core place version way dirty raised may.
       let mid = written_back v core (way_at core.ways place) version in
-      appends_on core mid (with_way mid place way) (written_appends v core (way_at core.ways place) version) (appends_none mid (with_way mid place way) refl refl);
+      appends_on core mid (with_way mid place way) (written_appends v core (way_at core.ways place)
+      version) (appends_none mid (with_way mid place way) refl refl);
   tear = λ core place torn dirty raised.
       let its = way_at core.ways place in
-      appends_on core (after_raise v core its.slot its.line) (torn_off v core its torn) (raise_appends v core its.slot its.line) (stop_appends (after_raise v core its.slot its.line) its.slot (rule.TreeNode torn.level));
+      appends_on core (after_raise v core its.slot its.line) (torn_off v core its torn)
+      (raise_appends v core its.slot its.line)
+      (stop_appends (after_raise v core its.slot its.line) its.slot (rule.TreeNode torn.level));
   stop = λ core why live. stop_appends core slot why;
-  step = λ core place session step runs goes stores. appends_one core _ (entry.Step (session_of core slot).install step) refl refl (λ n nothing. nothing);
+  step = λ core place session step runs goes stores. appends_one core
+      _ (entry.Step (session_of core slot).install step) refl refl (λ n nothing. nothing);
 }
 
 appends_ends : (slot : ℕ) → Ends slot Appends Appends
 appends_ends slot = record {
   went = λ core. appends_none core core refl refl;
   after = appends_on;
-  trap = λ core why runs. appends_one core (after_trap core slot why).0 (entry.Trap (session_of core slot).install why) refl refl (λ n nothing. nothing);
+  trap = λ core why runs. appends_one core (after_trap core slot why).0
+      (entry.Trap (session_of core slot).install why) refl refl (λ n nothing. nothing);
   exit = λ core runs exited. exit_appends core slot;
 }
 
@@ -135,12 +158,17 @@ appends_deeds v slot = record {
   maps = λ core page frame may. appends_none core _ refl refl;
   kills = λ core some known taken. kill_appends v core slot;
   outs = λ core byte. appends_one core _ (entry.Out byte) refl refl (λ n nothing. nothing);
-  installs = λ core place area plain some known is_free opens fits. install_appends v core slot place area plain;
-  saves = λ core key ct name live same. appends_one core _ (entry.Seal key (register_message name ct)) refl refl (λ n nothing. nothing);
-  restores = λ core key ct name place live same. appends_one core _ (entry.Accept key (register_message name ct) place) refl refl (λ n nothing. nothing);
+  installs = λ core place area plain some known is_free opens fits. install_appends v core slot
+      place area plain;
+  saves = λ core key ct name live same. appends_one core
+      _ (entry.Seal key (register_message name ct)) refl refl (λ n nothing. nothing);
+  restores = λ core key ct name place live same. appends_one core
+      _ (entry.Accept key (register_message name ct) place) refl refl (λ n nothing. nothing);
   takes_back = λ core reg value live. appends_none core _ refl refl;
 }
 
 -- each event only appends
 pub events_append : EventsAppend
-events_append v r e bytes = walk_event v Appends Appends r e bytes (appends_parts v (slot_of_event r e)) (appends_ends (slot_of_event r e)) (appends_deeds v (slot_of_event r e))
+events_append v r e bytes =
+    walk_event v Appends Appends r e bytes (appends_parts v (slot_of_event r e))
+    (appends_ends (slot_of_event r e)) (appends_deeds v (slot_of_event r e))

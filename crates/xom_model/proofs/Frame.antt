@@ -1,4 +1,5 @@
--- One event changes one slot. What it owes about that slot, and about the rest, so that what holds of every slot still does.
+-- One event changes one slot. What it owes about that slot, and about the rest, so that what holds
+-- of every slot still does.
 use Rattle.std.proofs.Common.{◌≡◌, ◌≢◌, inl, inr, ℕ, ◌<◌, ◌≤◌, List, Some, length, sym, ◌∙◌, ap, subst, arith}
 use Rattle.std.proofs.lemmas.Bool.Decides.{eqb_tells}
 use Rattle.xom_base.specs.Entries.{steps_of}
@@ -21,23 +22,32 @@ use Rattle.xom_model.specs.Saves.{SavesAgree, SealsHold}
 use Rattle.xom_model.specs.Holds.{Agrees, FollowsAlone, RamFits, IsAlone, IsHeld, IsInstalled, IsLive, Private, Shape, SlotsHold, line_in}
 
 -- no slot but this one changed, and the journal grew by no other install
-pub record Owes (Stands : StandsFor) (owners : List Owner) (core new : CoreState) (slot : ℕ) : Type 0 where
+pub record Owes (Stands : StandsFor) (owners : List Owner) (core new : CoreState) (slot : ℕ) : Type
+    0 where
   pub live : IsLive core slot
   -- the other slots
   pub sessions : (other : ℕ) → other ≢ slot → session_of new other ≡ session_of core other
-  pub private : (other : ℕ) → other ≢ slot → other ≢ 0 → IsLive core other → (owner : Owner) (memory : ℕ → List ℕ) → owner_of owners (session_of core other).id ≡ Some owner → Private Stands core other owner memory → Private Stands new other owner memory
-  pub saves : (other : ℕ) → other ≢ slot → IsLive core other → (p : State) → SavesAgree (who_of core other) (session_of core other) (seals_of core.entries) p
+  pub private : (other : ℕ) → other ≢ slot → other ≢ 0 → IsLive core other
+      → (owner : Owner) (memory : ℕ → List ℕ)
+      → owner_of owners (session_of core other).id ≡ Some owner
+      → Private Stands core other owner memory → Private Stands new other owner memory
+  pub saves : (other : ℕ) → other ≢ slot → IsLive core other → (p : State)
+      → SavesAgree (who_of core other) (session_of core other) (seals_of core.entries) p
       → SavesAgree (who_of new other) (session_of new other) (seals_of new.entries) p
-  pub foreign : (reg : ℕ) → 1 ≤ reg → reg < 34 → (cell_at new.cells reg).tag ≢ 0 → (cell_at new.cells reg).tag ≢ slot → cell_at new.cells reg ≡ cell_at core.cells reg
+  pub foreign : (reg : ℕ) → 1 ≤ reg → reg < 34 → (cell_at new.cells reg).tag ≢ 0
+      → (cell_at new.cells reg).tag ≢ slot → cell_at new.cells reg ≡ cell_at core.cells reg
   -- the journal
-  pub steps : (install : ℕ) → install ≢ (session_of core slot).install → steps_of install new.entries ≡ steps_of install core.entries
-  pub installed : (install : ℕ) (id : ImageId) → IsInstalled new.entries install id → IsInstalled core.entries install id
+  pub steps : (install : ℕ) → install ≢ (session_of core slot).install
+      → steps_of install new.entries ≡ steps_of install core.entries
+  pub installed : (install : ℕ) (id : ImageId) → IsInstalled new.entries install id
+      → IsInstalled core.entries install id
   pub last : new.installs ≡ core.installs
   -- the slot
   pub install : (session_of new slot).install ≡ (session_of core slot).install
   pub id : (session_of new slot).id ≡ (session_of core slot).id
   pub tags : (reg : ℕ) → 1 ≤ reg → reg < 34 → (cell_at new.cells reg).tag ≡ slot → IsLive new slot
-  pub alone : (id : ImageId) → IsInstalled core.entries (session_of core slot).install id → IsAlone owners new.entries (session_of core slot).install id
+  pub alone : (id : ImageId) → IsInstalled core.entries (session_of core slot).install id
+      → IsAlone owners new.entries (session_of core slot).install id
   pub held : IsLive new slot → IsHeld Stands owners new slot
   -- the whole
   pub shape : Shape new
@@ -47,19 +57,26 @@ pub record Owes (Stands : StandsFor) (owners : List Owner) (core new : CoreState
   pub session_places : length new.sessions ≡ 17
 
 -- the same steps follow the same program
-pub FollowsAlone-same : (owners : List Owner) (old new : List Entry) (install : ℕ) (id : ImageId) (owner : Owner) (p : State) → steps_of install new ≡ steps_of install old → FollowsAlone owners old install id owner p → FollowsAlone owners new install id owner p
+pub FollowsAlone-same : (owners : List Owner) (old new : List Entry) (install : ℕ) (id : ImageId)
+    (owner : Owner) (p : State)
+    → steps_of install new ≡ steps_of install old → FollowsAlone owners old install id owner p
+    → FollowsAlone owners new install id owner p
 FollowsAlone-same owners old new install id owner p same alone = record {
   whose = alone.whose;
   reaches = subst (λ steps. Reaches (start owner.plain) steps p) (sym same) alone.reaches;
 }
 
-pub IsAlone-same : (owners : List Owner) (old new : List Entry) (install : ℕ) (id : ImageId) → steps_of install new ≡ steps_of install old → IsAlone owners old install id → IsAlone owners new install id
+pub IsAlone-same : (owners : List Owner) (old new : List Entry) (install : ℕ) (id : ImageId)
+    → steps_of install new ≡ steps_of install old → IsAlone owners old install id
+    → IsAlone owners new install id
 IsAlone-same owners old new install id same alone =
     (alone.0, alone.1, FollowsAlone-same owners old new install id alone.0 alone.1 same alone.2)
 
 -- a slot whose session, cells and steps are as they were agrees as it did
-pub Agrees-same : (s : Session) (cells new : List Cell) (entries longer : List Entry) (slot : ℕ) (owner : Owner) (p : State)
-    → ((reg : ℕ) → 1 ≤ reg → reg < 34 → (cell_at new reg).tag ≡ slot → cell_at new reg ≡ cell_at cells reg)
+pub Agrees-same : (s : Session) (cells new : List Cell) (entries longer : List Entry) (slot : ℕ)
+    (owner : Owner) (p : State)
+    → ((reg : ℕ) → 1 ≤ reg → reg < 34 → (cell_at new reg).tag ≡ slot → cell_at new reg ≡ cell_at
+    cells reg)
     → steps_of s.install longer ≡ steps_of s.install entries
     → Agrees s cells entries slot owner p → Agrees s new longer slot owner p
 Agrees-same s cells new entries longer slot owner p cell steps agrees = record {
@@ -75,58 +92,75 @@ Agrees-same s cells new entries longer slot owner p cell steps agrees = record {
   mask = agrees.mask;
   cells = λ reg some known tag.
       let same = cell reg some known tag in
-      agrees.cells reg some known (sym (ap (λ c. c.tag) same) ∙ tag) ∙ ap (λ c. Own c.value) (sym same);
+      agrees.cells reg some known (sym (ap (λ c. c.tag) same) ∙ tag) ∙ ap (λ c. Own c.value)
+      (sym same);
   places = agrees.places;
 }
 
-module _ (Stands : StandsFor) (owners : List Owner) (core new : CoreState) (slot : ℕ) (holds : SlotsHold Stands owners core) (owes : Owes Stands owners core new slot) where
+module _ (Stands : StandsFor) (owners : List Owner) (core new : CoreState) (slot : ℕ)
+    (holds : SlotsHold Stands owners core) (owes : Owes Stands owners core new slot) where
   -- the slot isn't the null compartment
   slot_some : slot ≢ 0
-  slot_some none = absurd (cc (ap (λ k. is_live (session_of core k).state) none, owes.live, holds.shape.null))
+  slot_some none =
+      absurd (cc (ap (λ k. is_live (session_of core k).state) none, owes.live, holds.shape.null))
 
   -- another live slot was live before
   live_before : (other : ℕ) → other ≢ slot → IsLive new other → IsLive core other
-  live_before other differs live = sym (ap (λ s. is_live s.state) (owes.sessions other differs)) ∙ live
+  live_before other differs live =
+      sym (ap (λ s. is_live s.state) (owes.sessions other differs)) ∙ live
 
   -- another live slot's install is another
-  install_differs : (other : ℕ) → other ≢ slot → IsLive core other → (session_of core other).install ≢ (session_of core slot).install
-  install_differs other differs live same = differs (holds.shape.apart other slot live owes.live same)
+  install_differs : (other : ℕ) → other ≢ slot → IsLive core other
+      → (session_of core other).install ≢ (session_of core slot).install
+  install_differs other differs live same =
+      differs (holds.shape.apart other slot live owes.live same)
 
   -- a live slot isn't the null compartment
   live_some : (other : ℕ) → IsLive core other → other ≢ 0
-  live_some other live none = absurd (cc (ap (λ k. is_live (session_of core k).state) none, live, holds.shape.null))
+  live_some other live none =
+      absurd (cc (ap (λ k. is_live (session_of core k).state) none, live, holds.shape.null))
 
   held_other : (other : ℕ) → other ≢ slot → IsLive new other → IsHeld Stands owners new other
   held_other other differs live =
       let before = live_before other differs live in
       let held = holds.held other before in
       let session = owes.sessions other differs in
-      let steps = owes.steps (session_of core other).install (install_differs other differs before) in
+      let steps = owes.steps (session_of core other).install
+      (install_differs other differs before) in
       let some = live_some other before in
-      let agrees = Agrees-same (session_of core other) core.cells new.cells core.entries new.entries other held.0 held.1
-      (λ reg from to tag. owes.foreign reg from to (λ none. some (sym tag ∙ none)) (λ own. differs (sym tag ∙ own)))
+      let agrees = Agrees-same (session_of core other) core.cells new.cells core.entries new.entries
+      other held.0 held.1
+      (λ reg from to tag. owes.foreign reg from to (λ none. some (sym tag ∙ none))
+      (λ own. differs (sym tag ∙ own)))
       steps held.3 in
-      let alone = FollowsAlone-same owners core.entries new.entries (session_of core other).install (session_of core other).id held.0 held.1 steps held.2 in (
+      let alone = FollowsAlone-same owners core.entries new.entries (session_of core other).install
+      (session_of core other).id held.0 held.1 steps held.2 in (
         held.0,
         held.1,
-        subst (λ (s : Session). FollowsAlone owners new.entries s.install s.id held.0 held.1) (sym session) alone,
-        subst (λ (s : Session). Agrees s new.cells new.entries other held.0 held.1) (sym session) agrees,
+        subst (λ (s : Session). FollowsAlone owners new.entries s.install s.id held.0 held.1)
+            (sym session) alone,
+        subst (λ (s : Session). Agrees s new.cells new.entries other held.0 held.1) (sym session)
+            agrees,
         owes.private other differs some before held.0 (line_in held.1.bytes) held.2.whose held.4,
         owes.saves other differs before held.1 held.5,
       )
 
   held_new : (other : ℕ) → IsLive new other → IsHeld Stands owners new other
   held_new other live = elim (eqb_tells other slot) [
-    | inl is ↦ subst (λ k. IsHeld Stands owners new k) (sym is.1) (owes.held (subst (λ k. IsLive new k) is.1 live))
+    | inl is ↦ subst (λ k. IsHeld Stands owners new k) (sym is.1)
+        (owes.held (subst (λ k. IsLive new k) is.1 live))
     | inr differs ↦ held_other other differs.1 live
   ]
 
-  alone_new : (install : ℕ) (id : ImageId) → IsInstalled new.entries install id → IsAlone owners new.entries install id
+  alone_new : (install : ℕ) (id : ImageId) → IsInstalled new.entries install id
+      → IsAlone owners new.entries install id
   alone_new install id installed =
       let before = owes.installed install id installed in
       elim (eqb_tells install (session_of core slot).install) [
-        | inl is ↦ subst (λ n. IsAlone owners new.entries n id) (sym is.1) (owes.alone id (subst (λ n. IsInstalled core.entries n id) is.1 before))
-        | inr differs ↦ IsAlone-same owners core.entries new.entries install id (owes.steps install differs.1) (holds.alone install id before)
+        | inl is ↦ subst (λ n. IsAlone owners new.entries n id) (sym is.1)
+            (owes.alone id (subst (λ n. IsInstalled core.entries n id) is.1 before))
+        | inr differs ↦ IsAlone-same owners core.entries new.entries install id
+            (owes.steps install differs.1) (holds.alone install id before)
       ]
 
   -- whether the slot's or another's, a live slot was live before
@@ -139,7 +173,8 @@ module _ (Stands : StandsFor) (owners : List Owner) (core new : CoreState) (slot
   -- no install number changed
   install_same : (other : ℕ) → (session_of new other).install ≡ (session_of core other).install
   install_same other = elim (eqb_tells other slot) [
-    | inl is ↦ subst (λ k. (session_of new k).install ≡ (session_of core k).install) (sym is.1) owes.install
+    | inl is ↦ subst (λ k. (session_of new k).install ≡ (session_of core k).install) (sym is.1)
+        owes.install
     | inr differs ↦ ap (λ s. s.install) (owes.sessions other differs.1)
   ]
 
@@ -149,7 +184,8 @@ module _ (Stands : StandsFor) (owners : List Owner) (core new : CoreState) (slot
     | inr differs ↦ ap (λ s. s.id) (owes.sessions other differs.1)
   ]
 
-  tags_new : (reg : ℕ) → 1 ≤ reg → reg < 34 → (cell_at new.cells reg).tag ≢ 0 → IsLive new (cell_at new.cells reg).tag
+  tags_new : (reg : ℕ) → 1 ≤ reg → reg < 34 → (cell_at new.cells reg).tag ≢ 0
+      → IsLive new (cell_at new.cells reg).tag
   tags_new reg from to some = elim (eqb_tells (cell_at new.cells reg).tag slot) [
     | inl is ↦ subst (λ k. IsLive new k) (sym is.1) (owes.tags reg from to is.1)
     | inr differs ↦
@@ -166,12 +202,16 @@ module _ (Stands : StandsFor) (owners : List Owner) (core new : CoreState) (slot
     held = held_new;
     tags = tags_new;
     ids = λ other live id installed.
-        holds.ids other (was_live other live) id (subst (λ n. IsInstalled core.entries n id) (install_same other) (owes.installed (session_of new other).install id installed))
+        holds.ids other (was_live other live) id (subst (λ n. IsInstalled core.entries n id)
+        (install_same other) (owes.installed (session_of new other).install id installed))
         ∙ sym (id_same other);
     steps = λ install above.
-        owes.steps install (λ same. absurd (let low : (session_of core slot).install ≤ core.installs = holds.shape.numbers slot in let is : new.installs ≡ core.installs = owes.last in omega arith))
+        owes.steps install (λ same. absurd
+        (let low : (session_of core slot).install ≤ core.installs = holds.shape.numbers slot in
+        let is : new.installs ≡ core.installs = owes.last in omega arith))
         ∙ holds.steps install (subst (λ n. n < install) owes.last above);
-    installs = λ install id installed. subst (λ n. install ≤ n) (sym owes.last) (holds.installs install id (owes.installed install id installed));
+    installs = λ install id installed. subst (λ n. install ≤ n) (sym owes.last)
+        (holds.installs install id (owes.installed install id installed));
     shape = owes.shape;
     fits = owes.fits;
     seals = owes.seals;

@@ -18,21 +18,27 @@ use Rattle.xom_model.specs.Named.{HasOne, UsesIt, names_install}
 use Rattle.xom_model.specs.Stops.{InstallsAreTold, StopsAreLast, StopsIt}
 
 -- a test of a field is a test of its number
-same_test : (n m : ℕ) → n < 2 ^ 64 → m < 2 ^ 64 → bytes_eq (to_be_bytes w64 n) (to_be_bytes w64 m) ≡ (n == m)
+same_test : (n m : ℕ) → n < 2 ^ 64 → m < 2 ^ 64
+    → bytes_eq (to_be_bytes w64 n) (to_be_bytes w64 m) ≡ (n == m)
 same_test n m below other =
     same_from_decides {P = n ≡ m} (bytes_eq (to_be_bytes w64 n) (to_be_bytes w64 m)) (n == m)
-    (Decides-like (bytes_eq (to_be_bytes w64 n) (to_be_bytes w64 m)) (same_numbers_8 n m below other) (ap (λ k. to_be_bytes w64 k)) (bytes_eq-Decides (to_be_bytes w64 n) (to_be_bytes w64 m)))
+    (Decides-like (bytes_eq (to_be_bytes w64 n) (to_be_bytes w64 m))
+    (same_numbers_8 n m below other) (ap (λ k. to_be_bytes w64 k))
+    (bytes_eq-Decides (to_be_bytes w64 n) (to_be_bytes w64 m)))
     (Decides-eqb n m)
 
-line_told : (n boot install line version : ℕ) (ct : List ℕ) → n < 2 ^ 64 → install < 2 ^ 64 → names_install n (line_message (Run boot install line version) ct) ≡ (install == n)
+line_told : (n boot install line version : ℕ) (ct : List ℕ) → n < 2 ^ 64 → install < 2 ^ 64
+    → names_install n (line_message (Run boot install line version) ct) ≡ (install == n)
 unfolding names_install line_message
 line_told n boot install line version ct low few = same_test install n few low
 
-register_told : (n : ℕ) (name : RegName) (ct : List ℕ) → n < 2 ^ 64 → name.install < 2 ^ 64 → names_install n (register_message name ct) ≡ (name.install == n)
+register_told : (n : ℕ) (name : RegName) (ct : List ℕ) → n < 2 ^ 64 → name.install < 2 ^ 64
+    → names_install n (register_message name ct) ≡ (name.install == n)
 unfolding names_install register_message
 register_told n name ct low few = same_test name.install n few low
 
-image_told : (n line : ℕ) (id : ImageId) (ct : List ℕ) → names_install n (line_message (Image id line) ct) ≡ false
+image_told : (n line : ℕ) (id : ImageId) (ct : List ℕ)
+    → names_install n (line_message (Image id line) ct) ≡ false
 unfolding names_install line_message
 image_told n line id ct = refl
 
@@ -41,32 +47,55 @@ unfolding names_install envelope_message
 envelope_told n envelope = refl
 
 pub installs_are_told : InstallsAreTold
-installs_are_told = record { line = line_told; register = register_told; image = image_told; envelope = envelope_told }
+installs_are_told = record {
+  line = line_told;
+  register = register_told;
+  image =
+      image_told;
+  envelope = envelope_told;
+}
 
 -- what names the install, among the messages of a guest's lines, is its own
-pub names-line : (n : ℕ) (who : Who) (line version : ℕ) (ct : List ℕ) → n < 2 ^ 64 → who.install < 2 ^ 64 → names_install n (message_as who line version ct) ≡ true → who.install ≡ n
+pub names-line : (n : ℕ) (who : Who) (line version : ℕ) (ct : List ℕ) → n < 2 ^ 64
+    → who.install < 2 ^ 64 → names_install n (message_as who line version ct) ≡ true
+    → who.install ≡ n
 names-line n who line version ct low few =
-    cond_both (is_image_at who line version) (Image who.id line) (run_name who line version) (λ (name : LineName). names_install n (line_message name ct) ≡ true → who.install ≡ n)
+    cond_both (is_image_at who line version) (Image who.id line) (run_name who line version)
+    (λ (name : LineName). names_install n (line_message name ct) ≡ true → who.install ≡ n)
     (λ _ names. absurd (let none = image_told n line who.id ct in cc))
-    (λ _ names. eqb-true who.install n (sym (line_told n who.boot who.install line version ct low few) ∙ names))
+    (λ _ names. eqb-true who.install n
+    (sym (line_told n who.boot who.install line version ct low few) ∙ names))
 
-pub names-register : (n : ℕ) (name : RegName) (ct : List ℕ) → n < 2 ^ 64 → name.install < 2 ^ 64 → names_install n (register_message name ct) ≡ true → name.install ≡ n
-names-register n name ct low few names = eqb-true name.install n (sym (register_told n name ct low few) ∙ names)
+pub names-register : (n : ℕ) (name : RegName) (ct : List ℕ) → n < 2 ^ 64 → name.install < 2 ^ 64
+    → names_install n (register_message name ct) ≡ true → name.install ≡ n
+names-register n name ct low few names =
+    eqb-true name.install n (sym (register_told n name ct low few) ∙ names)
 
 -- ---- One of the entries
 
-pub HasOne-either : (Is : Entry → Type 0) (entries more : List Entry) → HasOne Is (entries ++ more) → HasOne Is entries ⊎ HasOne Is more
+pub HasOne-either : (Is : Entry → Type 0) (entries more : List Entry) → HasOne Is (entries ++ more)
+    → HasOne Is entries ⊎ HasOne Is more
 HasOne-either Is [] more has = inr has
 HasOne-either Is (first ∷ entries) more has = elim has [
   | inl here ↦ inl (inl here)
-  | inr later ↦ elim (HasOne-either Is entries more later) [ inl before ↦ inl (inr before) | inr behind ↦ inr behind ]
+  | inr later ↦ elim (HasOne-either Is entries more later) [
+    | inl before ↦
+        inl (inr before)
+    | inr behind ↦ inr behind
+  ]
 ]
 
-pub HasOne-before : (Is : Entry → Type 0) (entries more : List Entry) → HasOne Is entries → HasOne Is (entries ++ more)
+pub HasOne-before : (Is : Entry → Type 0) (entries more : List Entry) → HasOne Is entries
+    → HasOne Is (entries ++ more)
 HasOne-before Is [] more has = absurd has
-HasOne-before Is (first ∷ entries) more has = elim has [ inl here ↦ inl here | inr later ↦ inr (HasOne-before Is entries more later) ]
+HasOne-before Is (first ∷ entries) more has = elim has [
+  | inl here ↦ inl here
+  | inr later ↦
+      inr (HasOne-before Is entries more later)
+]
 
-pub HasOne-behind : (Is : Entry → Type 0) (entries more : List Entry) → HasOne Is more → HasOne Is (entries ++ more)
+pub HasOne-behind : (Is : Entry → Type 0) (entries more : List Entry) → HasOne Is more
+    → HasOne Is (entries ++ more)
 HasOne-behind Is [] more has = has
 HasOne-behind Is (first ∷ entries) more has = inr (HasOne-behind Is entries more has)
 
@@ -75,17 +104,28 @@ pub HasOne-only : (Is : Entry → Type 0) (e : Entry) → HasOne Is (e ∷ []) �
 HasOne-only Is e has = elim has [ inl here ↦ here | inr nowhere ↦ absurd nowhere ]
 
 -- no Hash is such
-pub HasOne-hashes : (Is : Entry → Type 0) → ((text : List ℕ) → ¬ Is (hash_entry text)) → (texts : List (List ℕ)) → ¬ HasOne Is (map hash_entry texts)
+pub HasOne-hashes : (Is : Entry → Type 0) → ((text : List ℕ) → ¬ Is (hash_entry text))
+    → (texts : List (List ℕ)) → ¬ HasOne Is (map hash_entry texts)
 HasOne-hashes Is never [] has = has
-HasOne-hashes Is never (text ∷ texts) has = elim has [ inl here ↦ never text here | inr later ↦ HasOne-hashes Is never texts later ]
+HasOne-hashes Is never (text ∷ texts) has = elim has [
+  | inl here ↦ never text here
+  | inr later ↦
+      HasOne-hashes Is never texts later
+]
 
 -- ---- Stops that are last
 
 -- entries that use no install that was stopped before
-pub last_more : (entries more : List Entry) → StopsAreLast entries → StopsAreLast more → ((n : ℕ) → HasOne (StopsIt n) entries → ¬ HasOne (UsesIt n) more) → StopsAreLast (entries ++ more)
+pub last_more : (entries more : List Entry) → StopsAreLast entries → StopsAreLast more
+    → ((n : ℕ) → HasOne (StopsIt n) entries → ¬ HasOne (UsesIt n) more)
+    → StopsAreLast (entries ++ more)
 last_more [] more last then free_to = then
 last_more (first ∷ entries) more last then free_to = (
-  λ n stops used. elim (HasOne-either (UsesIt n) entries more used) [ inl before ↦ last.0 n stops before | inr behind ↦ free_to n (inl stops) behind ],
+  λ n stops used. elim (HasOne-either (UsesIt n) entries more used) [
+    | inl before ↦
+        last.0 n stops before
+    | inr behind ↦ free_to n (inl stops) behind
+  ],
   last_more entries more last.1 then (λ n was. free_to n (inr was)),
 )
 

@@ -30,27 +30,37 @@ not_left (SetReg reg value) why never = cc
 not_left (Kill slot) why never = cc
 not_left (Out byte) why never = cc
 
-null_not_left : (v : Versions) (r : Record) (answer : Answer) (why : Cause) → ¬ ((null_turn v r answer).1 ≡ outcome.Left why)
+null_not_left : (v : Versions) (r : Record) (answer : Answer) (why : Cause)
+    → ¬ ((null_turn v r answer).1 ≡ outcome.Left why)
 null_not_left v r (s, Err fault) why never = cc
 null_not_left v r (s, Ok None) why never = cc
 null_not_left v r (s, Ok (Some op)) why never = not_left op why never
 
 module _ (v : Versions) (r : Record) (why : Cause) (quiet : IsQuiet why) where
-  ran_quietly : (slot : ℕ) (result : CoreState × Option Cause) → (result.1 ≡ Some why → TrapsQuietly r.core result.0 slot why) → (ran_on r slot result).1 ≡ outcome.Left why → TrapsQuietly r.core (ran_on r slot result).0.core slot why
+  ran_quietly : (slot : ℕ) (result : CoreState × Option Cause)
+      → (result.1 ≡ Some why → TrapsQuietly r.core result.0 slot why)
+      → (ran_on r slot result).1 ≡ outcome.Left why
+      → TrapsQuietly r.core (ran_on r slot result).0.core slot why
   ran_quietly slot (core, None) so never = absurd (cc)
   ran_quietly slot (core, Some its) so is = so (cc)
 
-  turn_quietly : (interrupt : Bool) (at : Option ℕ) → running_slot r ≡ at → StopsHold r.core → (guest_turn v r interrupt at).1 ≡ outcome.Left why → TrapsQuietly r.core (guest_turn v r interrupt at).0.core (slot_or_none at) why
+  turn_quietly : (interrupt : Bool) (at : Option ℕ) → running_slot r ≡ at → StopsHold r.core
+      → (guest_turn v r interrupt at).1 ≡ outcome.Left why
+      → TrapsQuietly r.core (guest_turn v r interrupt at).0.core (slot_or_none at) why
   turn_quietly interrupt None none holds never = absurd (cc)
   turn_quietly interrupt (Some slot) runs holds is =
       let known = running-slot r.core slot runs holds.places holds.null in
       ran_quietly slot (guest v r.core slot interrupt)
-      (λ left. traps_change_nothing v r.core slot interrupt why (λ none. absurd (let low = known.0 in omega (arith, none))) (running-runs r.core slot runs) left quiet) is
+      (λ left. traps_change_nothing v r.core slot interrupt why
+      (λ none. absurd (let low = known.0 in omega (arith, none))) (running-runs r.core slot runs)
+      left quiet) is
 
 pub events_trap_quietly : EventsTrapQuietly
 unfolding on
 events_trap_quietly v r (event.Do op) bytes why holds is quiet = absurd (not_left op why is)
-events_trap_quietly v r (event.Guest interrupt) bytes why holds is quiet = turn_quietly v r why quiet interrupt (running_slot r) refl holds is
-events_trap_quietly v r event.Null bytes why holds is quiet = absurd (null_not_left v r (null_step (told_in r) (open_in r)) why is)
+events_trap_quietly v r (event.Guest interrupt) bytes why holds is quiet =
+    turn_quietly v r why quiet interrupt (running_slot r) refl holds is
+events_trap_quietly v r event.Null bytes why holds is quiet =
+    absurd (null_not_left v r (null_step (told_in r) (open_in r)) why is)
 events_trap_quietly v r (event.Write address count) bytes why holds is quiet = absurd (cc)
 events_trap_quietly v r (event.Poke address count) bytes why holds is quiet = absurd (cc)

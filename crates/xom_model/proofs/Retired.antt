@@ -24,13 +24,18 @@ set-AreCells reg value known = elim (eqb_tells reg 0) [
 ]
 
 -- the cells that a step writes are known
-made-AreCells : (pc npc : ℕ) (written : Writes) (wished : Wish) (word : ℕ) (got : ℕ) → AreCells written → IsInRange wished → AreCells (step_of_wish pc npc written wished word got).writes
+made-AreCells : (pc npc : ℕ) (written : Writes) (wished : Wish) (word : ℕ) (got : ℕ)
+    → AreCells written → IsInRange wished
+    → AreCells (step_of_wish pc npc written wished word got).writes
 made-AreCells pc npc written wish.Nothing word got cells range = cells
-made-AreCells pc npc written (wish.Load reg address how old) word got cells range = set-AreCells reg _ range.register
+made-AreCells pc npc written (wish.Load reg address how old) word got cells range =
+    set-AreCells reg _ range.register
 made-AreCells pc npc written (wish.Store address count value) word got cells range = cells
 made-AreCells pc npc written (wish.Release reg value) word got cells range = cells
-made-AreCells pc npc written (wish.Receive reg from) word got cells range = set-AreCells reg got range.0.1
-made-AreCells pc npc written (wish.NullLoad reg address) word got cells range = set-AreCells reg got range
+made-AreCells pc npc written (wish.Receive reg from) word got cells range =
+    set-AreCells reg got range.0.1
+made-AreCells pc npc written (wish.NullLoad reg address) word got cells range =
+    set-AreCells reg got range
 made-AreCells pc npc written (wish.NullStore address value) word got cells range = cells
 made-AreCells pc npc written (wish.Hand address) word got cells range = cells
 made-AreCells pc npc written wish.SigRet word got cells range = cells
@@ -39,16 +44,20 @@ made-AreCells pc npc written (wish.Call code) word got cells range = cells
 made-AreCells pc npc written (wish.Do operation) word got cells range = cells
 made-AreCells pc npc written (wish.Ask reg what) word got cells range = cells
 
-pub step_made-AreCells : (pc npc : ℕ) (effect : Effect) (word : ℕ) (got : ℕ) → Ranged effect → AreCells (step_made pc npc effect word got).writes
+pub step_made-AreCells : (pc npc : ℕ) (effect : Effect) (word : ℕ) (got : ℕ) → Ranged effect
+    → AreCells (step_made pc npc effect word got).writes
 unfolding step_made
-step_made-AreCells pc npc effect word got ranged = made-AreCells pc npc effect.writes effect.wish word got ranged.writes ranged.wish
+step_made-AreCells pc npc effect word got ranged =
+    made-AreCells pc npc effect.writes effect.wish word got ranged.writes ranged.wish
 
 -- and so is the one that it releases
-made-IsKnown : (pc npc : ℕ) (written : Writes) (wished : Wish) (word : ℕ) (got : ℕ) → IsInRange wished → IsKnown (step_of_wish pc npc written wished word got).released
+made-IsKnown : (pc npc : ℕ) (written : Writes) (wished : Wish) (word : ℕ) (got : ℕ)
+    → IsInRange wished → IsKnown (step_of_wish pc npc written wished word got).released
 made-IsKnown pc npc written wish.Nothing word got range = tt
 made-IsKnown pc npc written (wish.Load reg address how old) word got range = tt
 made-IsKnown pc npc written (wish.Store address count value) word got range = tt
-made-IsKnown pc npc written (wish.Release reg value) word got range = (range.0, let low : reg < 32 = range.1 in omega arith)
+made-IsKnown pc npc written (wish.Release reg value) word got range =
+    (range.0, let low : reg < 32 = range.1 in omega arith)
 made-IsKnown pc npc written (wish.Receive reg from) word got range = tt
 made-IsKnown pc npc written (wish.NullLoad reg address) word got range = tt
 made-IsKnown pc npc written (wish.NullStore address value) word got range = tt
@@ -59,14 +68,20 @@ made-IsKnown pc npc written (wish.Call code) word got range = tt
 made-IsKnown pc npc written (wish.Do operation) word got range = tt
 made-IsKnown pc npc written (wish.Ask reg what) word got range = tt
 
-pub step_made-IsKnown : (pc npc : ℕ) (effect : Effect) (word : ℕ) (got : ℕ) → Ranged effect → IsKnown (step_made pc npc effect word got).released
+pub step_made-IsKnown : (pc npc : ℕ) (effect : Effect) (word : ℕ) (got : ℕ) → Ranged effect
+    → IsKnown (step_made pc npc effect word got).released
 unfolding step_made
-step_made-IsKnown pc npc effect word got ranged = made-IsKnown pc npc effect.writes effect.wish word got ranged.wish
+step_made-IsKnown pc npc effect word got ranged =
+    made-IsKnown pc npc effect.writes effect.wish word got ranged.wish
 
 -- given what a step received, the plain machine does it
-answered-made : (p : State) (cells : List Cell) (ram : List ℕ) (pc npc next after : ℕ) (written : Writes) (wished : Wish) (word : ℕ)
-    → answer_to p (given_of (step_of_wish pc npc written wished word (received_by cells ram wished)).received) (Ok (record { writes = written; wish = wished; pc = next; npc = after }))
-    ≡ step_done p (record { writes = written; wish = wished; pc = next; npc = after }) (received_by cells ram wished)
+answered-made : (p : State) (cells : List Cell) (ram : List ℕ) (pc npc next after : ℕ)
+    (written : Writes) (wished : Wish) (word : ℕ)
+    → answer_to p (given_of (step_of_wish pc npc written wished word
+    (received_by cells ram wished)).received)
+    (Ok (record { writes = written; wish = wished; pc = next; npc = after }))
+    ≡ step_done p (record { writes = written; wish = wished; pc = next; npc = after })
+    (received_by cells ram wished)
 answered-made p cells ram pc npc next after written wish.Nothing word = refl
 answered-made p cells ram pc npc next after written (wish.Load reg address how old) word = refl
 answered-made p cells ram pc npc next after written (wish.Store address count value) word = refl
@@ -81,27 +96,44 @@ answered-made p cells ram pc npc next after written (wish.Call code) word = refl
 answered-made p cells ram pc npc next after written (wish.Do operation) word = refl
 answered-made p cells ram pc npc next after written (wish.Ask reg what) word = refl
 
-answered-step : (p : State) (cells : List Cell) (ram : List ℕ) (pc npc : ℕ) (effect : Effect) (word : ℕ)
-    → answer_to p (given_of (step_made pc npc effect word (received_by cells ram effect.wish)).received) (Ok effect) ≡ step_done p effect (received_by cells ram effect.wish)
+answered-step : (p : State) (cells : List Cell) (ram : List ℕ) (pc npc : ℕ) (effect : Effect)
+    (word : ℕ)
+    → answer_to p (given_of
+    (step_made pc npc effect word (received_by cells ram effect.wish)).received)
+    (Ok effect) ≡ step_done p effect (received_by cells ram effect.wish)
 unfolding step_made
-answered-step p cells ram pc npc effect word = answered-made p cells ram pc npc effect.pc effect.npc effect.writes effect.wish word
+answered-step p cells ram pc npc effect word =
+    answered-made p cells ram pc npc effect.pc effect.npc effect.writes effect.wish word
 
 -- the plain machine over a state that isn't over, where its instruction comes to a result
-pub plain-answered : (p : State) (given : Given) → p.over ≡ false → plain p given ≡ answer_to p given (effect_at (seen_of_cell p.cells) p.kept (instruction_in p.bytes p.pc) p.pc p.npc)
+pub plain-answered : (p : State) (given : Given) → p.over ≡ false
+    → plain p given ≡ answer_to p given (effect_at (seen_of_cell p.cells) p.kept
+    (instruction_in p.bytes p.pc) p.pc p.npc)
 unfolding plain
 plain-answered p given over = rw over refl
 
 -- the step of an effect that comes to a running guest is that of its program
-pub plain-does : (p : State) (cells : List Cell) (ram : List ℕ) (effect : Effect) → p.over ≡ false → effect_at (seen_of_cell p.cells) p.kept (instruction_in p.bytes p.pc) p.pc p.npc ≡ Ok effect
-    → plain p (given_of (step_made p.pc p.npc effect (word_for p.bytes effect.wish) (received_by cells ram effect.wish)).received)
-    ≡ (Did (step_made p.pc p.npc effect (word_for p.bytes effect.wish) (received_by cells ram effect.wish)), state_after_step p effect (step_made p.pc p.npc effect (word_for p.bytes effect.wish) (received_by cells ram effect.wish)))
+pub plain-does : (p : State) (cells : List Cell) (ram : List ℕ) (effect : Effect) → p.over ≡ false
+    → effect_at (seen_of_cell p.cells) p.kept (instruction_in p.bytes p.pc) p.pc p.npc ≡ Ok effect
+    → plain p (given_of (step_made p.pc p.npc effect (word_for p.bytes effect.wish)
+    (received_by cells ram effect.wish)).received)
+    ≡ (
+      Did (step_made p.pc p.npc effect (word_for p.bytes effect.wish)
+          (received_by cells ram effect.wish)),
+      state_after_step p effect
+          (step_made p.pc p.npc effect (word_for p.bytes effect.wish)
+          (received_by cells ram effect.wish)),
+    )
 plain-does p cells ram effect over comes =
     plain-answered p _ over
-    ∙ ap (answer_to p (given_of (step_made p.pc p.npc effect (word_for p.bytes effect.wish) (received_by cells ram effect.wish)).received)) comes
+    ∙ ap (answer_to p (given_of (step_made p.pc p.npc effect (word_for p.bytes effect.wish)
+    (received_by cells ram effect.wish)).received)) comes
     ∙ answered-step p cells ram p.pc p.npc effect (word_for p.bytes effect.wish)
 
 -- a signal that the program takes
-pub plain-signals : (p : State) (n : ℕ) → p.over ≡ false → (is_signal n && is_signal_ready p.handler p.kept) ≡ true → plain p (given.Signal n) ≡ (Did (signal_step p.pc p.npc n), state_after_signal p n)
+pub plain-signals : (p : State) (n : ℕ) → p.over ≡ false
+    → (is_signal n && is_signal_ready p.handler p.kept) ≡ true
+    → plain p (given.Signal n) ≡ (Did (signal_step p.pc p.npc n), state_after_signal p n)
 unfolding plain
 plain-signals p n over ready =
     ap (λ b. cond b (Over, p) (signal_answered p n)) over

@@ -38,7 +38,8 @@ way_free : (place : ℕ) → way_at no_ways place ≡ free_way
 unfolding no_ways
 way_free place = elim (less place 128) [
   | inl within ↦ get_or-replicate 128 place free_way free_way within
-  | inr past ↦ get_or_past (replicate 128 free_way) place free_way (omega (arith, length-replicate 128 free_way))
+  | inr past ↦ get_or_past (replicate 128 free_way) place free_way
+      (omega (arith, length-replicate 128 free_way))
 ]
 
 length-no_ways : length no_ways ≡ 128
@@ -51,7 +52,8 @@ unfolding nothing_mapped
 none_mapped slot page =
     ap (λ pages. get_or pages page None) (elim (less slot 17) [
       | inl within ↦ get_or-replicate 17 slot no_pages no_pages within
-      | inr past ↦ get_or_past (replicate 17 no_pages) slot no_pages (omega (arith, length-replicate 17 no_pages))
+      | inr past ↦ get_or_past (replicate 17 no_pages) slot no_pages
+          (omega (arith, length-replicate 17 no_pages))
     ]) ∙ frame-none page
 
 length-nothing_mapped : length nothing_mapped ≡ 17
@@ -61,9 +63,12 @@ length-nothing_mapped = length-replicate 17 no_pages
 pub start_holds : (v : Versions) (Stands : StandsFor) → HoldsAtStart v Stands
 start_holds v Stands owners machine boot ram low =
     let core = core_at_start v machine boot ram in
-    let rests : (slot : ℕ) → ¬ IsLive core slot = λ slot live. (let its = ap (λ s. is_live s.state) (free_at slot) in cc) in
-    let rests_too : (slot : ℕ) → ¬ IsRunning core slot = λ slot runs. (let its = ap (λ s. s.state) (free_at slot) in cc) in
-    let no_way : (place : ℕ) → (way_at core.ways place).slot ≡ 0 = λ place. ap (λ w. w.slot) (way_free place) in
+    let rests : (slot : ℕ) → ¬ IsLive core slot =
+    λ slot live. (let its = ap (λ s. is_live s.state) (free_at slot) in cc) in
+    let rests_too : (slot : ℕ) → ¬ IsRunning core slot =
+    λ slot runs. (let its = ap (λ s. s.state) (free_at slot) in cc) in
+    let no_way : (place : ℕ) → (way_at core.ways place).slot ≡ 0 = λ place. ap (λ w. w.slot)
+    (way_free place) in
     record {
       slots = record {
         alone = λ install id nothing. absurd nothing;

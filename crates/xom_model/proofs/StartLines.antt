@@ -33,18 +33,21 @@ module _ (bytes : List ℕ) (small : length bytes ≤ 2 ^ 20) (line : ℕ) (low 
   pub start_size : length (line_in (filled private_size bytes) line) ≡ 32
   start_size =
       ap length whole
-      ∙ length-take-le 32 (drop m (bytes ++ pad)) (let a = length-drop m (bytes ++ pad) in let b = length-append bytes pad in let c = len (2 ^ 20 - length bytes) in omega arith)
+      ∙ length-take-le 32 (drop m (bytes ++ pad)) (let a = length-drop m (bytes ++ pad) in let b =
+      length-append bytes pad in let c = len (2 ^ 20 - length bytes) in omega arith)
 
   -- behind the image
   pub start_zeros : line_count bytes ≤ line → line_in (filled private_size bytes) line ≡ zeros 32
   start_zeros past =
       let split : m ≡ length bytes + (m - length bytes) = omega arith in
       whole
-      ∙ ap (take 32) (ap (λ n. drop n (bytes ++ pad)) split ∙ drop-append-add bytes pad (m - length bytes) ∙ drop-replicate (m - length bytes) (2 ^ 20 - length bytes) 0)
+      ∙ ap (take 32) (ap (λ n. drop n (bytes ++ pad)) split ∙ drop-append-add bytes pad
+      (m - length bytes) ∙ drop-replicate (m - length bytes) (2 ^ 20 - length bytes) 0)
       ∙ take_zeros 32 (2 ^ 20 - length bytes - (m - length bytes)) (omega arith)
 
   -- in the image
-  pub start_image : line < line_count bytes → line_in (filled private_size bytes) line ≡ line_of bytes line
+  pub start_image : line < line_count bytes
+      → line_in (filled private_size bytes) line ≡ line_of bytes line
   start_image inside =
       let within : m ≤ length bytes = omega arith in
       let rest = drop m bytes in
@@ -55,7 +58,8 @@ module _ (bytes : List ℕ) (small : length bytes ≤ 2 ^ 20) (line : ℕ) (low 
             let all : take 32 rest ≡ rest = take_all 32 rest (omega arith) in
             ap (λ n. take n (rest ++ pad)) split
             ∙ take-append-add rest pad (32 - length rest)
-            ∙ ap (λ l. rest ++ l) (take_zeros (32 - length rest) (2 ^ 20 - length bytes) (omega arith))
+            ∙ ap (λ l. rest ++ l) (take_zeros (32 - length rest) (2 ^ 20 - length bytes)
+            (omega arith))
             ∙ ap (λ (t : List ℕ). t ++ zeros (32 - length t)) (sym all)
         | inr long ↦
             let size_32 : length (take 32 rest) ≡ 32 = length-take-le 32 rest long in

@@ -22,5 +22,6 @@ pub way_free : (place : ℕ) → way_at no_ways place ≡ free_way
 unfolding no_ways
 way_free place = elim (less place 128) [
   | inl within ↦ get_or-replicate 128 place free_way free_way within
-  | inr past ↦ get_or_past (replicate 128 free_way) place free_way (omega (arith, length-replicate 128 free_way))
+  | inr past ↦ get_or_past (replicate 128 free_way) place free_way
+      (omega (arith, length-replicate 128 free_way))
 ]

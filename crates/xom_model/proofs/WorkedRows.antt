@@ -1,4 +1,5 @@
--- Events and runs computed from their definitions, on machines with little RAM: what a reader may expect of them.
+-- Events and runs computed from their definitions, on machines with little RAM: what a reader may
+-- expect of them.
 use Rattle.std.proofs.Common.{◌≡◌, ℕ, List, [], ◌∷◌, Option, Some, None, refl}
 use Rattle.xom_base.specs.declared.event.Event.TheVariants as event
 use Rattle.xom_base.specs.declared.event.Op.TheVariants as op
@@ -29,11 +30,13 @@ unfolding on operation none_held
 free_slot = refl
 
 -- a kernel write takes the first bytes of the chunk, and is refused outside RAM
-kernel_write : (on chip (machine (1 ∷ 2 ∷ 3 ∷ 4 ∷ [])) (event.Write 1 2) (9 ∷ 8 ∷ 7 ∷ [])).0.core.ram ≡ 1 ∷ 9 ∷ 8 ∷ 4 ∷ []
+kernel_write : (on chip (machine (1 ∷ 2 ∷ 3 ∷ 4 ∷ [])) (event.Write 1 2)
+    (9 ∷ 8 ∷ 7 ∷ [])).0.core.ram ≡ 1 ∷ 9 ∷ 8 ∷ 4 ∷ []
 unfolding on ram_after_write
 kernel_write = refl
 
-write_outside : (on chip (machine (1 ∷ 2 ∷ 3 ∷ 4 ∷ [])) (event.Write 3 2) (9 ∷ 8 ∷ 7 ∷ [])).0.status ≡ 4
+write_outside : (on chip (machine (1 ∷ 2 ∷ 3 ∷ 4 ∷ [])) (event.Write 3 2) (9 ∷ 8 ∷ 7 ∷ [])).0.status
+    ≡ 4
 unfolding on ram_after_write
 write_outside = refl
 

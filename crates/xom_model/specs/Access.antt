@@ -21,17 +21,26 @@ use Rattle.xom_model.specs.Lines.{who_of, name_of, keys_of, sealed_as, seal_entr
 
 -- ---- Leaving for good
 
--- what is left where a slot's guest leaves for good: no cell, no line in the cache and no page of its own
+-- what is left where a slot's guest leaves for good: no cell, no line in the cache and no page of
+-- its own
 unfoldable pub without_guest : CoreState → ℕ → CoreState
 without_guest core slot =
-    record core { cells = scrubbed slot core.cells; ways = without_slot slot core.ways; pages = without_pages core.pages slot }
+    record core {
+      cells = scrubbed slot core.cells;
+      ways = without_slot slot core.ways;
+      pages =
+          without_pages core.pages slot;
+    }
 
 abbrev pub after_leaving : CoreState → ℕ → SlotState → CoreState
-after_leaving core slot final = with_session (without_guest core slot) slot (left (session_of core slot) final)
+after_leaving core slot final =
+    with_session (without_guest core slot) slot (left (session_of core slot) final)
 
 -- the guest is stopped for good by a rule
 abbrev pub after_stop : CoreState → ℕ → Rule → CoreState
-after_stop core slot why = with_entry (after_leaving core slot (state.Stopped why)) (entry.Stop (session_of core slot).install why)
+after_stop core slot why =
+    with_entry (after_leaving core slot (state.Stopped why))
+    (entry.Stop (session_of core slot).install why)
 
 -- ---- Where a line is placed
 
@@ -47,7 +56,8 @@ after_eviction place (core, None) = (with_way core place free_way, None)
 after_eviction place (core, Some why) = (core, Some why)
 
 -- one part, and then the rest, unless the slot was stopped
-abbrev pub and_then : CoreState × Option Rule → (CoreState → CoreState × Option Rule) → CoreState × Option Rule
+abbrev pub and_then : CoreState × Option Rule → (CoreState → CoreState × Option Rule)
+    → CoreState × Option Rule
 and_then (core, None) rest = rest core
 and_then (core, Some why) rest = (core, Some why)
 
@@ -64,19 +74,23 @@ module _ (v : Versions) where
 
   -- the core after a line was sealed under a version and written to its frame
   unfoldable pub after_seal : CoreState → ℕ → ℕ → List ℕ → ℕ → CoreState
-  after_seal core slot line bytes version = record (with_entry core (seal_entry (who_of core slot) line version bytes)) {
-    ram = with_sealed core.ram (frame_of core.pages slot (page_of line)) line (sealed_as (who_of core slot) line version bytes);
-  }
+  after_seal core slot line bytes version =
+      record (with_entry core (seal_entry (who_of core slot) line version bytes)) {
+        ram = with_sealed core.ram (frame_of core.pages slot (page_of line)) line
+            (sealed_as (who_of core slot) line version bytes);
+      }
 
   -- a torn tree is answered with its rule
   abbrev pub sealed_by_raise : CoreState → ℕ → ℕ → List ℕ → Result ℕ Torn → CoreState × Option Rule
   sealed_by_raise core slot line bytes (Err torn) = (core, Some (rule.TreeNode torn.level))
-  sealed_by_raise core slot line bytes (Ok version) = (after_seal core slot line bytes version, None)
+  sealed_by_raise core slot line bytes (Ok version) =
+      (after_seal core slot line bytes version, None)
 
   -- a line's bytes are sealed under its next version and written to its frame
   abbrev pub write_back : CoreState → ℕ → ℕ → List ℕ → CoreState × Option Rule
   write_back core slot line bytes =
-      sealed_by_raise (after_raise core slot line) slot line bytes (v.answer_of_raise (store_of core slot) line core.ram)
+      sealed_by_raise (after_raise core slot line) slot line bytes
+      (v.answer_of_raise (store_of core slot) line core.ram)
 
   -- a torn tree stops the slot whose line was to be written back
   abbrev pub or_stopped : ℕ → CoreState × Option Rule → CoreState × Option Rule
@@ -94,43 +108,57 @@ module _ (v : Versions) where
   -- ---- Access
 
   -- the new line stands in its place, unless its own slot was stopped
-  abbrev pub reach_after_victim : ℕ → ℕ → ℕ → ℕ → List ℕ → CoreState × Option Rule → CoreState × Reach
-  reach_after_victim victim place slot line bytes (core, None) = (with_way core place (new_way slot line bytes), reach.Ready place)
+  abbrev pub reach_after_victim : ℕ → ℕ → ℕ → ℕ → List ℕ → CoreState × Option Rule
+      → CoreState × Reach
+  reach_after_victim victim place slot line bytes (core, None) =
+      (with_way core place (new_way slot line bytes), reach.Ready place)
   reach_after_victim victim place slot line bytes (core, Some why) =
-      if victim == slot then (core, reach.Stopped why) else (with_way core place (new_way slot line bytes), reach.Ready place)
+      if victim == slot then (core, reach.Stopped why)
+      else (with_way core place (new_way slot line bytes), reach.Ready place)
 
-  -- A line is placed: its way is chosen first, and stays chosen; then a dirty victim is written back.
+  -- A line is placed: its way is chosen first, and stays chosen; then a dirty victim is written
+  -- back.
   unfoldable pub reach_after_placing : CoreState → ℕ → ℕ → List ℕ → CoreState × Reach
   reach_after_placing core slot line bytes =
       let place = place_for core.ways core.pointers line in
-      reach_after_victim (way_at core.ways place).slot place slot line bytes (cleared_at (with_pointers core line) place)
+      reach_after_victim (way_at core.ways place).slot place slot line bytes
+      (cleared_at (with_pointers core line) place)
 
   -- a line that was read is accepted where its tag is right, and else stops its slot
-  abbrev pub after_opening : CoreState → ℕ → ℕ → ℕ → ℕ → List ℕ → Option (List ℕ) → CoreState × Reach
-  after_opening core slot line version place ct None = (after_stop core slot (rule.LineTag line), reach.Stopped (rule.LineTag line))
-  after_opening core slot line version place ct (Some bytes) = reach_after_placing (with_entry core (accept_entry (who_of core slot) line version ct place)) slot line bytes
+  abbrev pub after_opening : CoreState → ℕ → ℕ → ℕ → ℕ → List ℕ → Option (List ℕ)
+      → CoreState × Reach
+  after_opening core slot line version place ct None =
+      (after_stop core slot (rule.LineTag line), reach.Stopped (rule.LineTag line))
+  after_opening core slot line version place ct (Some bytes) =
+      reach_after_placing (with_entry core (accept_entry (who_of core slot) line version ct place))
+      slot line bytes
 
   abbrev pub read_from : CoreState → ℕ → ℕ → ℕ → ℕ → CoreState × Reach
   read_from core slot line frame version =
       let sealed = sealed_at core.ram frame line in
       after_opening core slot line version (ct_place frame line) sealed.ct
-      (unsealed_line (name_of (who_of core slot) line version) (keys_of (who_of core slot) line version) sealed)
+      (unsealed_line (name_of (who_of core slot) line version)
+      (keys_of (who_of core slot) line version) sealed)
 
   -- version 0 means zeros, and RAM isn't read
   abbrev pub brought : CoreState → ℕ → ℕ → ℕ → Result ℕ Torn → CoreState × Reach
-  brought core slot line frame (Err torn) = (after_stop core slot (rule.TreeNode torn.level), reach.Stopped (rule.TreeNode torn.level))
+  brought core slot line frame (Err torn) =
+      (after_stop core slot (rule.TreeNode torn.level), reach.Stopped (rule.TreeNode torn.level))
   brought core slot line frame (Ok version) =
-      if version == 0 then reach_after_placing core slot line (replicate line_size 0) else read_from core slot line frame version
+      if version == 0 then reach_after_placing core slot line (replicate line_size 0)
+      else read_from core slot line frame version
 
   -- a cached line is ready; for another one its version is asked for
   abbrev pub reach_by_cache : CoreState → ℕ → ℕ → ℕ → Option ℕ → CoreState × Reach
   reach_by_cache core slot line frame (Some place) = (core, reach.Ready place)
   reach_by_cache core slot line frame None =
-      brought (core_with_hashes core (v.texts_of_version (store_of core slot) line core.ram)) slot line frame (v.answer_of_version (store_of core slot) line core.ram)
+      brought (core_with_hashes core (v.texts_of_version (store_of core slot) line core.ram)) slot
+      line frame (v.answer_of_version (store_of core slot) line core.ram)
 
   abbrev pub reach_in_frame : CoreState → ℕ → ℕ → Option ℕ → CoreState × Reach
   reach_in_frame core slot line None = (core, reach.PageFault (page_of line))
-  reach_in_frame core slot line (Some frame) = reach_by_cache core slot line frame (found core.ways slot line)
+  reach_in_frame core slot line (Some frame) =
+      reach_by_cache core slot line frame (found core.ways slot line)
 
   -- the private access to a line of a slot
   unfoldable pub access : CoreState → ℕ → ℕ → CoreState × Reach
@@ -146,4 +174,5 @@ module _ (v : Versions) where
   -- so many lines of a slot from this one on, in ascending order
   unfoldable pub after_flush : ℕ → ℕ → ℕ → CoreState → CoreState × Option Rule
   after_flush slot zero line core = (core, None)
-  after_flush slot (suc count) line core = and_then (taken_out core (found core.ways slot line)) (after_flush slot count (line + 1))
+  after_flush slot (suc count) line core =
+      and_then (taken_out core (found core.ways slot line)) (after_flush slot count (line + 1))

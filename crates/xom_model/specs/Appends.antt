@@ -13,13 +13,17 @@ abbrev pub GivesIt : ℕ → Entry → Type 0
 GivesIt install (entry.Install number slot id place start lines) = number ≡ install
 GivesIt install other = ⊥
 
--- Entries were added behind the journal's, and each number that they give is above the last one before, and at most the last one afterwards.
+-- Entries were added behind the journal's, and each number that they give is above the last one
+-- before, and at most the last one afterwards.
 pub record Appends (core new : CoreState) : Type 0 where
   pub added : List Entry
   pub entries : new.entries ≡ core.entries ++ added
   pub last : core.installs ≤ new.installs
-  pub given : (install : ℕ) → HasOne (GivesIt install) added → (core.installs < install) × (install ≤ new.installs)
+  pub given : (install : ℕ) → HasOne (GivesIt install) added
+      → (core.installs < install) × (install ≤ new.installs)
 
 -- each event does so
 abbrev pub EventsAppend : Type 0
-EventsAppend = (v : Versions) (r : Record) (e : Event) (bytes : List ℕ) → Appends r.core (on v r e bytes).0.core
+EventsAppend =
+    (v : Versions) (r : Record) (e : Event) (bytes : List ℕ)
+    → Appends r.core (on v r e bytes).0.core

@@ -7,7 +7,8 @@ use Rattle.xom_model.specs.State.{CoreState, Record, power_on, session_of}
 use Rattle.xom_model.specs.Event.{on}
 use Rattle.xom_model.specs.Epochs.{AreBelow}
 
--- No epoch is above this number, nor is the last install number, and no slot's install number is above the last.
+-- No epoch is above this number, nor is the last install number, and no slot's install number is
+-- above the last.
 pub record AreCounted (core : CoreState) (number : ℕ) : Type 0 where
   pub epochs : AreBelow core.sessions number
   pub last : core.installs ≤ number
@@ -20,4 +21,6 @@ CountedAtStart = (v : Versions) (machine : Key256) (boot : ℕ) (ram : List ℕ)
 
 -- and each event keeps it
 abbrev pub EventsKeepCounts : Type 0
-EventsKeepCounts = (v : Versions) (r : Record) (e : Event) (bytes : List ℕ) → AreCounted r.core r.events → AreCounted (on v r e bytes).0.core (on v r e bytes).0.events
+EventsKeepCounts =
+    (v : Versions) (r : Record) (e : Event) (bytes : List ℕ) → AreCounted r.core r.events
+    → AreCounted (on v r e bytes).0.core (on v r e bytes).0.events

@@ -23,12 +23,14 @@ running_slot r = running_in r.core.sessions
 abbrev pub chunk_size : ℕ
 chunk_size = 8192
 
--- an event may come: a guest event exactly where a guest runs, a bus write always, the others where none runs; a write has no more bytes than a chunk; and nothing comes after Halt or a kernel fault
+-- an event may come: a guest event exactly where a guest runs, a bus write always, the others where
+-- none runs; a write has no more bytes than a chunk; and nothing comes after Halt or a kernel fault
 abbrev pub fits : Record → Event → Bool
 fits r (event.Do op) = not r.halted && is_none (running_slot r)
 fits r (event.Guest interrupt) = not r.halted && is_some (running_slot r)
 fits r event.Null = not r.halted && is_none (running_slot r)
-fits r (event.Write address count) = not r.halted && (is_none (running_slot r) && nat_le count chunk_size)
+fits r (event.Write address count) =
+    not r.halted && (is_none (running_slot r) && nat_le count chunk_size)
 fits r (event.Poke address count) = not r.halted && nat_le count chunk_size
 
 abbrev pub is_halt : Op → Bool
@@ -41,12 +43,16 @@ outcome_of other = outcome.Went
 
 -- after an operation
 abbrev pub after_operation : Record → Op → CoreState × ℕ → Record × Outcome
-after_operation r op after = (record r { core = after.0; status = after.1; events = r.events + 1; halted = is_halt op }, outcome_of op)
+after_operation r op after = (
+  record r { core = after.0; status = after.1; events = r.events + 1; halted = is_halt op },
+  outcome_of op,
+)
 
 -- after a guest event: cause and who are set where the guest left
 abbrev pub ran_on : Record → ℕ → CoreState × Option Cause → Record × Outcome
 ran_on r slot (core, None) = (record r { core = core; events = r.events + 1 }, outcome.Went)
-ran_on r slot (core, Some why) = (record r { core = core; cause = why; who = slot; events = r.events + 1 }, outcome.Left why)
+ran_on r slot (core, Some why) =
+    (record r { core = core; cause = why; who = slot; events = r.events + 1 }, outcome.Left why)
 
 -- what null code is told, and what it may change
 abbrev pub told_in : Record → Told
@@ -56,23 +62,38 @@ abbrev pub open_in : Record → Open
 open_in r = record { cells = r.core.cells; ram = r.core.ram; pc = r.pc; npc = r.npc }
 
 abbrev pub with_open : Record → Open → Record
-with_open r s = record r { core = record r.core { cells = s.cells; ram = s.ram }; pc = s.pc; npc = s.npc }
+with_open r s = record r {
+  core = record r.core { cells = s.cells; ram = s.ram };
+  pc = s.pc;
+  npc =
+      s.npc;
+}
 
 abbrev pub with_ram : Record → List ℕ → Record
 with_ram r ram = record r { core = record r.core { ram = ram }; events = r.events + 1 }
 
 -- a kernel write that doesn't fit in RAM is refused
 abbrev pub after_kernel_write : Record → ℕ → List ℕ → Record × Outcome
-after_kernel_write r address bytes = (record (with_ram r (ram_after_write r.core.ram address bytes)) { status = if holds r.core.ram address (length bytes) then 0 else 4 }, outcome.Went)
+after_kernel_write r address bytes = (
+  record (with_ram r (ram_after_write r.core.ram address bytes)) {
+    status =
+        if holds r.core.ram address (length bytes) then 0 else 4;
+  },
+  outcome.Went,
+)
 
 module _ (v : Versions) where
   abbrev pub guest_turn : Record → Bool → Option ℕ → Record × Outcome
   guest_turn r interrupt None = (r, outcome.Went)
   guest_turn r interrupt (Some slot) = ran_on r slot (guest v r.core slot interrupt)
 
-  -- a fault ends the run; an operation that is asked for is carried out in the same event, done or refused
+  -- a fault ends the run; an operation that is asked for is carried out in the same event, done or
+  -- refused
   abbrev pub null_asked : Record → ℕ → Result (Option Op) NullFault → Record × Outcome
-  null_asked r at (Err why) = (record r { events = r.events + 1; halted = true; fault = Some (at, why) }, outcome.KernelFault at why)
+  null_asked r at (Err why) = (
+    record r { events = r.events + 1; halted = true; fault = Some (at, why) },
+    outcome.KernelFault at why,
+  )
   null_asked r at (Ok None) = (record r { events = r.events + 1 }, outcome.Went)
   null_asked r at (Ok (Some op)) = after_operation r op (operation v r.core op)
 
@@ -85,4 +106,5 @@ module _ (v : Versions) where
   on r (event.Guest interrupt) chunk = guest_turn r interrupt (running_slot r)
   on r event.Null chunk = null_turn r (null_step (told_in r) (open_in r))
   on r (event.Write address count) chunk = after_kernel_write r address (take count chunk)
-  on r (event.Poke address count) chunk = (with_ram r (ram_after_write r.core.ram address (take count chunk)), outcome.Went)
+  on r (event.Poke address count) chunk =
+      (with_ram r (ram_after_write r.core.ram address (take count chunk)), outcome.Went)

@@ -1,4 +1,5 @@
--- One event of the running guest: an instruction that retires, or what stands against it, and the trap or the end that may follow.
+-- One event of the running guest: an instruction that retires, or what stands against it, and the
+-- trap or the end that may follow.
 use Rattle.std.specs.Prelude.{ℕ, ◌+◌, ◌-◌, ◌%◌, ◌^◌, ◌==◌, Bool, List, Option, Some, None, Result, Ok, Err, slice_set, if◌then◌else◌}
 use Rattle.std.specs.Int.{w32, to_be_bytes}
 use Rattle.xom_base.specs.declared.entry.Entry.TheVariants as entry
@@ -49,7 +50,8 @@ seen_by slot cells reg = if reg == 0 then Value 0 else seen_as slot (cell_at cel
 abbrev pub null_word : List ℕ → ℕ → ℕ
 null_word ram address = if holds ram address 4 then word_at ram address else 0
 
--- what comes from outside: the value of a cell of the null compartment, and 0 of any other's; or a word of RAM
+-- what comes from outside: the value of a cell of the null compartment, and 0 of any other's; or a
+-- word of RAM
 abbrev pub open_value : Cell → ℕ
 open_value cell = if cell.tag == 0 then cell.value else 0
 
@@ -62,7 +64,8 @@ received_by cells ram other = 0
 abbrev pub given_out : List ℕ → Released → List ℕ
 given_out ram released.Nothing = ram
 given_out ram (released.Cell reg value) = ram
-given_out ram (released.Null address value) = if holds ram address 4 then stored_in_ram ram address (to_be_bytes w32 value) else ram
+given_out ram (released.Null address value) =
+    if holds ram address 4 then stored_in_ram ram address (to_be_bytes w32 value) else ram
 
 -- a written cell gets the slot's tag
 abbrev pub with_writes : ℕ → List Cell → Writes → List Cell
@@ -114,7 +117,8 @@ stored_at ways place stored.Nothing = ways
 stored_at ways place (stored.Bytes address count value) =
     slice_set ways place (stored_way (way_at ways place) address (low_bytes count value))
 
--- the core after a step with which the slot's session becomes this one, and which stores in the line at this place, if it stores
+-- the core after a step with which the slot's session becomes this one, and which stores in the
+-- line at this place, if it stores
 abbrev pub core_after_step : CoreState → ℕ → ℕ → Session → Step → CoreState
 core_after_step core slot place session step =
     with_entry
@@ -128,22 +132,34 @@ core_after_step core slot place session step =
 
 -- the core after the instruction retired with this step
 abbrev pub after_retirement : CoreState → ℕ → ℕ → Effect → Step → CoreState
-after_retirement core slot place effect step = core_after_step core slot place (session_after_step (session_of core slot) effect step) step
+after_retirement core slot place effect step =
+    core_after_step core slot place (session_after_step (session_of core slot) effect step) step
 
 -- a signal is delivered: its step keeps the pair and goes to the handler
 abbrev pub signal_of : Session → ℕ → Step
 signal_of s n = signal_step s.pc s.npc n
 
 abbrev pub session_after_signal : Session → ℕ → Session
-session_after_signal s n = record s { pc = s.handler; npc = (s.handler + 4) % 2 ^ 32; mask = mask_after s.mask (signal_of s n); saved = Some (s.pc, s.npc) }
+session_after_signal s n = record s {
+  pc = s.handler;
+  npc = (s.handler + 4) % 2 ^ 32;
+  mask =
+      mask_after s.mask (signal_of s n);
+  saved = Some (s.pc, s.npc);
+}
 
 abbrev pub after_delivery : CoreState → ℕ → ℕ → CoreState
-after_delivery core slot n = core_after_step core slot 0 (session_after_signal (session_of core slot) n) (signal_of (session_of core slot) n)
+after_delivery core slot n =
+    core_after_step core slot 0 (session_after_signal (session_of core slot) n)
+    (signal_of (session_of core slot) n)
 
 -- the guest leaves to come back: the pair is kept, and the epoch is raised
 abbrev pub after_trap : CoreState → ℕ → Cause → CoreState × Option Cause
-after_trap core slot why =
-    (with_entry (with_session core slot (paused (session_of core slot))) (entry.Trap (session_of core slot).install why), Some why)
+after_trap core slot why = (
+  with_entry (with_session core slot (paused (session_of core slot)))
+      (entry.Trap (session_of core slot).install why),
+  Some why,
+)
 
 -- the guest leaves for good
 abbrev pub after_exit : CoreState → ℕ → CoreState × Option Cause
@@ -153,12 +169,15 @@ after_exit core slot = (after_leaving core slot state.Ended, Some cause.Exit)
 abbrev pub after_step : CoreState → ℕ → Bool → StepEnd → CoreState × Option Cause
 after_step core slot interrupt (ended.Call code) = after_trap core slot (cause.Call code)
 after_step core slot interrupt ended.Exit = after_exit core slot
-after_step core slot interrupt ended.Goes = if interrupt then after_trap core slot cause.Interrupt else (core, None)
+after_step core slot interrupt ended.Goes =
+    if interrupt then after_trap core slot cause.Interrupt else (core, None)
 
--- an effect retires, where this word is what it loads from and the line at this place is what it stores in
+-- an effect retires, where this word is what it loads from and the line at this place is what it
+-- stores in
 abbrev pub retirement : CoreState → ℕ → Bool → Effect → ℕ → ℕ → CoreState × Option Cause
 retirement core slot interrupt effect word place =
-    let step = step_made (session_of core slot).pc (session_of core slot).npc effect word (received_by core.cells core.ram effect.wish) in
+    let step = step_made (session_of core slot).pc (session_of core slot).npc effect word
+    (received_by core.cells core.ram effect.wish) in
     after_step (after_retirement core slot place effect step) slot interrupt step.end
 
 -- the address of private memory that an instruction reads or writes
@@ -176,36 +195,44 @@ abbrev pub word_loaded : List ℕ → Wish → ℕ
 word_loaded bytes (wish.Load reg address how old) = word_in bytes address
 word_loaded bytes other = 0
 
--- what stands against an access: an unmapped page traps before anything changes, and a broken line has stopped the slot
+-- what stands against an access: an unmapped page traps before anything changes, and a broken line
+-- has stopped the slot
 abbrev pub data_reached : ℕ → Bool → Effect → CoreState × Reach → CoreState × Option Cause
-data_reached slot interrupt effect (core, reach.PageFault page) = after_trap core slot (cause.Page page)
+data_reached slot interrupt effect (core, reach.PageFault page) =
+    after_trap core slot (cause.Page page)
 data_reached slot interrupt effect (core, reach.Stopped why) = (core, Some (cause.Stopped why))
 data_reached slot interrupt effect (core, reach.Ready place) =
-    retirement core slot interrupt effect (word_loaded (way_at core.ways place).bytes effect.wish) place
+    retirement core slot interrupt effect (word_loaded (way_at core.ways place).bytes effect.wish)
+    place
 
 module _ (v : Versions) where
   -- the private access of an instruction's own bytes, if it has some
   abbrev pub data_of : CoreState → ℕ → Bool → Effect → Option ℕ → CoreState × Option Cause
   data_of core slot interrupt effect None = retirement core slot interrupt effect 0 0
-  data_of core slot interrupt effect (Some address) = data_reached slot interrupt effect (access v core slot (line_at address))
+  data_of core slot interrupt effect (Some address) = data_reached slot interrupt effect
+      (access v core slot (line_at address))
 
   -- an own fault traps before anything changes, and an effect goes on to its access
   abbrev pub after_effect : CoreState → ℕ → Bool → Result Effect OwnFault → CoreState × Option Cause
   after_effect core slot interrupt (Err why) = after_trap core slot (cause.Fault why)
-  after_effect core slot interrupt (Ok effect) = data_of core slot interrupt effect (address_in effect.wish)
+  after_effect core slot interrupt (Ok effect) =
+      data_of core slot interrupt effect (address_in effect.wish)
 
   -- what the word of an instruction comes to for the guest in a slot
   abbrev pub word_tried : CoreState → ℕ → ℕ → Result Effect OwnFault
   word_tried core slot word =
-      effect_at (seen_by slot core.cells) (session_of core slot).saved (instruction_or_fault (read word)) (session_of core slot).pc (session_of core slot).npc
+      effect_at (seen_by slot core.cells) (session_of core slot).saved
+      (instruction_or_fault (read word)) (session_of core slot).pc (session_of core slot).npc
 
   abbrev pub code_reached : ℕ → Bool → CoreState × Reach → CoreState × Option Cause
   code_reached slot interrupt (core, reach.PageFault page) = after_trap core slot (cause.Page page)
   code_reached slot interrupt (core, reach.Stopped why) = (core, Some (cause.Stopped why))
   code_reached slot interrupt (core, reach.Ready place) =
-      after_effect core slot interrupt (word_tried core slot (word_in (way_at core.ways place).bytes (session_of core slot).pc))
+      after_effect core slot interrupt
+      (word_tried core slot (word_in (way_at core.ways place).bytes (session_of core slot).pc))
 
-  -- an event of the guest in a slot, with the interrupt line after it; the cause where the guest leaves
+  -- an event of the guest in a slot, with the interrupt line after it; the cause where the guest
+  -- leaves
   unfoldable pub guest : CoreState → ℕ → Bool → CoreState × Option Cause
   guest core slot interrupt =
       if is_code (session_of core slot).pc

@@ -1,4 +1,7 @@
--- What the machine keeps at every moment between events, for every list of owners with distinct ids, while its journal is honest: each installed guest's recorded steps are its program's run alone; what the processor holds of a live guest is the state of that run; and what stands behind its lines, in the cache and in RAM, is that state's memory.
+-- What the machine keeps at every moment between events, for every list of owners with distinct
+-- ids, while its journal is honest: each installed guest's recorded steps are its program's run
+-- alone; what the processor holds of a live guest is the state of that run; and what stands behind
+-- its lines, in the cache and in RAM, is that state's memory.
 use Rattle.std.specs.Prelude.{◌≡◌, ◌≢◌, ℕ, ◌*◌, ◌<◌, ◌≤◌, ◌^◌, Bool, true, false, List, [], ◌∷◌, ◌⊎◌, Some, length, replicate}
 use Rattle.std.specs.Int.{bit_at}
 use Rattle.xom_base.specs.Entries.{steps_of}
@@ -32,14 +35,17 @@ use Rattle.xom_model.specs.State.{CoreState, lines_of, page_of, session_of, stor
 use Rattle.xom_model.specs.Lines.{Who, is_image_at, line_seals, run_pair, version_of_line, version_seals, who_of}
 use Rattle.xom_model.specs.Saves.{SavesAgree, SealsHold}
 
--- the recorded steps of an install are those of the plain machine over this owner's image, which is then in state p
-pub record FollowsAlone (owners : List Owner) (entries : List Entry) (install : ℕ) (id : ImageId) (owner : Owner) (p : State) : Type 0 where
+-- the recorded steps of an install are those of the plain machine over this owner's image, which is
+-- then in state p
+pub record FollowsAlone (owners : List Owner) (entries : List Entry) (install : ℕ) (id : ImageId)
+    (owner : Owner) (p : State) : Type 0 where
   pub whose : owner_of owners id ≡ Some owner
   pub reaches : Reaches (start owner.plain) (steps_of install entries) p
 
 -- an owner and a state of the plain machine are found for an install
 abbrev pub IsAlone : List Owner → List Entry → ℕ → ImageId → Type 0
-IsAlone owners entries install id = (owner : Owner) × (p : State) × FollowsAlone owners entries install id owner p
+IsAlone owners entries install id =
+    (owner : Owner) × (p : State) × FollowsAlone owners entries install id owner p
 
 -- 1 where the cell is the program's own
 abbrev pub own_bit : PlainCell → ℕ
@@ -58,8 +64,10 @@ IsLive core slot = is_live (session_of core slot).state ≡ true
 abbrev pub IsRunning : CoreState → ℕ → Type 0
 IsRunning core slot = (session_of core slot).state ≡ state.Running
 
--- What the processor holds of a guest, its session and its cells, is a state of its owner's program.
-pub record Agrees (s : Session) (registers : List Cell) (entries : List Entry) (slot : ℕ) (owner : Owner) (p : State) : Type 0 where
+-- What the processor holds of a guest, its session and its cells, is a state of its owner's
+-- program.
+pub record Agrees (s : Session) (registers : List Cell) (entries : List Entry) (slot : ℕ)
+    (owner : Owner) (p : State) : Type 0 where
   -- identity
   pub key : s.key ≡ owner.key
   pub entry : s.entry ≡ owner.plain.entry
@@ -71,9 +79,11 @@ pub record Agrees (s : Session) (registers : List Cell) (entries : List Entry) (
   pub over : p.over ≡ false
   pub handler : s.handler ≡ p.handler
   pub saved : s.saved ≡ p.kept
-  -- registers: the mask is what the program owns, and a cell with the slot's tag has the program's value
+  -- registers: the mask is what the program owns, and a cell with the slot's tag has the program's
+  -- value
   pub mask : (reg : ℕ) → 1 ≤ reg → reg < 34 → bit_at s.mask reg ≡ own_bit (plain_cell p.cells reg)
-  pub cells : (reg : ℕ) → 1 ≤ reg → reg < 34 → (cell_at registers reg).tag ≡ slot → plain_cell p.cells reg ≡ Own (cell_at registers reg).value
+  pub cells : (reg : ℕ) → 1 ≤ reg → reg < 34 → (cell_at registers reg).tag ≡ slot
+      → plain_cell p.cells reg ≡ Own (cell_at registers reg).value
   pub places : length p.cells ≡ 34
 
 -- ---- Private memory, line by line
@@ -91,35 +101,53 @@ abbrev pub IsOf : Way → ℕ → ℕ → Type 0
 IsOf way slot line = (way.slot ≡ slot) × (way.line ≡ line)
 
 -- What stands behind a line at its version: zeros, the owner's bytes, or the one Seal of that name.
-pub record Behind (owner : Owner) (who : Who) (line version : ℕ) (seals : List Sealing) (bytes : List ℕ) : Type 0 where
+pub record Behind (owner : Owner) (who : Who) (line version : ℕ) (seals : List Sealing)
+    (bytes : List ℕ) : Type 0 where
   pub zeros : version ≡ 0 → bytes ≡ replicate line_size 0
   pub owners : is_image_at who line version ≡ true → bytes ≡ image_line owner line
-  pub one : version ≢ 0 → is_image_at who line version ≡ false → version_seals who.install line version seals ≡ run_pair who line version bytes ∷ []
+  pub one : version ≢ 0 → is_image_at who line version ≡ false
+      → version_seals who.install line version seals ≡ run_pair who line version bytes ∷ []
 
--- A line of a live guest: where it is cached it has the program's bytes, where it isn't cached dirty they stand behind it, and no Seal names a later version of it.
-pub record LineHolds (owner : Owner) (who : Who) (slot line : ℕ) (ways : List Way) (seals : List Sealing) (bytes : List ℕ) : Type 0 where
+-- A line of a live guest: where it is cached it has the program's bytes, where it isn't cached
+-- dirty they stand behind it, and no Seal names a later version of it.
+pub record LineHolds (owner : Owner) (who : Who) (slot line : ℕ) (ways : List Way)
+    (seals : List Sealing) (bytes : List ℕ) : Type 0 where
   pub cached : (place : ℕ) → IsOf (way_at ways place) slot line → (way_at ways place).bytes ≡ bytes
-  pub behind : ((place : ℕ) → IsOf (way_at ways place) slot line → (way_at ways place).dirty ≡ false) → Behind owner who line (version_of_line who seals line) seals bytes
-  pub above : (version : ℕ) → version_of_line who seals line < version → version < 2 ^ 64 → version_seals who.install line version seals ≡ []
+  pub behind : ((place : ℕ) → IsOf (way_at ways place) slot line
+      → (way_at ways place).dirty ≡ false)
+      → Behind owner who line (version_of_line who seals line) seals bytes
+  pub above : (version : ℕ) → version_of_line who seals line < version → version < 2 ^ 64
+      → version_seals who.install line version seals ≡ []
   pub size : length bytes ≡ line_size
 
--- The cache and the journal as a whole: cached lines are of mapped pages, Seals are of no install to come, and what makes the others hold.
+-- The cache and the journal as a whole: cached lines are of mapped pages, Seals are of no install
+-- to come, and what makes the others hold.
 pub record Shape (core : CoreState) : Type 0 where
   -- a cached line is one of a live slot and of a mapped page, and has one place
-  pub live : (place : ℕ) → (way_at core.ways place).slot ≢ 0 → IsLive core (way_at core.ways place).slot
-  pub inside : (place : ℕ) → (way_at core.ways place).slot ≢ 0 → (way_at core.ways place).line < lines_of (session_of core (way_at core.ways place).slot)
+  pub live : (place : ℕ) → (way_at core.ways place).slot ≢ 0
+      → IsLive core (way_at core.ways place).slot
+  pub inside : (place : ℕ) → (way_at core.ways place).slot ≢ 0
+      → (way_at core.ways place).line < lines_of (session_of core (way_at core.ways place).slot)
   pub mapped : (place : ℕ) → (way_at core.ways place).slot ≢ 0
-      → (frame : ℕ) × (frame_of core.pages (way_at core.ways place).slot (page_of (way_at core.ways place).line) ≡ Some frame)
-  pub one : (place other : ℕ) → (way_at core.ways place).slot ≢ 0 → IsOf (way_at core.ways other) (way_at core.ways place).slot (way_at core.ways place).line → other ≡ place
-  pub clean : (place : ℕ) → (way_at core.ways place).slot ≡ 0 → (way_at core.ways place).dirty ≡ false
+      → (frame : ℕ) × (frame_of core.pages (way_at core.ways place).slot
+      (page_of (way_at core.ways place).line) ≡ Some frame)
+  pub one : (place other : ℕ) → (way_at core.ways place).slot ≢ 0
+      → IsOf (way_at core.ways other) (way_at core.ways place).slot (way_at core.ways place).line
+      → other ≡ place
+  pub clean : (place : ℕ) → (way_at core.ways place).slot ≡ 0
+      → (way_at core.ways place).dirty ≡ false
   -- a page is mapped only where its slot is live
   pub owned : (slot page frame : ℕ) → frame_of core.pages slot page ≡ Some frame → IsLive core slot
   -- the machine seals no image line and no envelope, and nothing of an install to come
-  pub no_image : (key : List ℕ) (id : ImageId) (line : ℕ) (ct : List ℕ) → is_sealed key (line_message (Image id line) ct) (seals_of core.entries) ≡ false
-  pub no_envelope : (key envelope : List ℕ) → is_sealed key (envelope_message envelope) (seals_of core.entries) ≡ false
-  pub to_come : (install line : ℕ) → core.installs < install → install < 2 ^ 64 → line < line_limit → line_seals install line (seals_of core.entries) ≡ []
+  pub no_image : (key : List ℕ) (id : ImageId) (line : ℕ) (ct : List ℕ)
+      → is_sealed key (line_message (Image id line) ct) (seals_of core.entries) ≡ false
+  pub no_envelope : (key envelope : List ℕ)
+      → is_sealed key (envelope_message envelope) (seals_of core.entries) ≡ false
+  pub to_come : (install line : ℕ) → core.installs < install → install < 2 ^ 64 → line < line_limit
+      → line_seals install line (seals_of core.entries) ≡ []
   -- live slots have different install numbers, and the null compartment is none
-  pub apart : (slot other : ℕ) → IsLive core slot → IsLive core other → (session_of core slot).install ≡ (session_of core other).install → slot ≡ other
+  pub apart : (slot other : ℕ) → IsLive core slot → IsLive core other
+      → (session_of core slot).install ≡ (session_of core other).install → slot ≡ other
   pub null : is_live (session_of core 0).state ≡ false
   -- no install number is above the last
   pub numbers : (slot : ℕ) → (session_of core slot).install ≤ core.installs
@@ -134,7 +162,8 @@ pub record Shape (core : CoreState) : Type 0 where
 
 -- each frame that holds a page lies in RAM
 abbrev pub FramesFit : Pages → List ℕ → Type 0
-FramesFit pages ram = (slot page frame : ℕ) → frame_of pages slot page ≡ Some frame → HoldsFrame ram frame
+FramesFit pages ram =
+    (slot page frame : ℕ) → frame_of pages slot page ≡ Some frame → HoldsFrame ram frame
 
 -- so does the area that a live slot's store keeps
 abbrev pub AreasFit : CoreState → Type 0
@@ -145,43 +174,54 @@ pub record RamFits (core : CoreState) : Type 0 where
   pub frames : FramesFit core.pages core.ram
   pub areas : AreasFit core
 
--- Private memory is a function from lines to bytes: each line holds, and the version store stands for the versions.
-pub record Private (Stands : StandsFor) (core : CoreState) (slot : ℕ) (owner : Owner) (memory : ℕ → List ℕ) : Type 0 where
-  pub lines : (line : ℕ) → line < lines_of (session_of core slot) → LineHolds owner (who_of core slot) slot line core.ways (seals_of core.entries) (memory line)
-  pub stands : Stands (store_of core slot) core.entries (version_of_line (who_of core slot) (seals_of core.entries))
+-- Private memory is a function from lines to bytes: each line holds, and the version store stands
+-- for the versions.
+pub record Private (Stands : StandsFor) (core : CoreState) (slot : ℕ) (owner : Owner)
+    (memory : ℕ → List ℕ) : Type 0 where
+  pub lines : (line : ℕ) → line < lines_of (session_of core slot)
+      → LineHolds owner (who_of core slot) slot line core.ways (seals_of core.entries) (memory line)
+  pub stands : Stands (store_of core slot) core.entries (version_of_line (who_of core slot)
+      (seals_of core.entries))
 
 -- a live slot's guest agrees with its program after its recorded steps
 abbrev pub IsHeld : StandsFor → List Owner → CoreState → ℕ → Type 0
 IsHeld Stands owners core slot =
     (owner : Owner) × (p : State)
-    × FollowsAlone owners core.entries (session_of core slot).install (session_of core slot).id owner p
+    × FollowsAlone owners core.entries (session_of core slot).install (session_of core slot).id
+    owner p
     × Agrees (session_of core slot) core.cells core.entries slot owner p
     × Private Stands core slot owner (line_in p.bytes)
     × SavesAgree (who_of core slot) (session_of core slot) (seals_of core.entries) p
 
 -- the entry installs a guest under this number and id
 abbrev pub Installs : Entry → ℕ → ImageId → Type 0
-Installs (entry.Install number slot its_id place start lines) install id = (number ≡ install) × (its_id ≡ id)
+Installs (entry.Install number slot its_id place start lines) install id =
+    (number ≡ install) × (its_id ≡ id)
 Installs other install id = ⊥
 
 -- an entry of the journal does
 abbrev pub IsInstalled : List Entry → ℕ → ImageId → Type 0
 IsInstalled [] install id = ⊥
-IsInstalled (first ∷ entries) install id = Installs first install id ⊎ IsInstalled entries install id
+IsInstalled (first ∷ entries) install id =
+    Installs first install id ⊎ IsInstalled entries install id
 
 -- slot by slot
 pub record SlotsHold (Stands : StandsFor) (owners : List Owner) (core : CoreState) : Type 0 where
   -- every installed guest's steps are its program's run alone
-  pub alone : (install : ℕ) (id : ImageId) → IsInstalled core.entries install id → IsAlone owners core.entries install id
+  pub alone : (install : ℕ) (id : ImageId) → IsInstalled core.entries install id
+      → IsAlone owners core.entries install id
   -- what a live slot holds is a state of that run
   pub held : (slot : ℕ) → IsLive core slot → IsHeld Stands owners core slot
   -- a tag stands only where its slot is live
-  pub tags : (reg : ℕ) → 1 ≤ reg → reg < 34 → (cell_at core.cells reg).tag ≢ 0 → IsLive core (cell_at core.cells reg).tag
+  pub tags : (reg : ℕ) → 1 ≤ reg → reg < 34 → (cell_at core.cells reg).tag ≢ 0
+      → IsLive core (cell_at core.cells reg).tag
   -- an install number has one id, that of its session
-  pub ids : (slot : ℕ) → IsLive core slot → (id : ImageId) → IsInstalled core.entries (session_of core slot).install id → id ≡ (session_of core slot).id
+  pub ids : (slot : ℕ) → IsLive core slot → (id : ImageId)
+      → IsInstalled core.entries (session_of core slot).install id → id ≡ (session_of core slot).id
   -- no install number is above the last
   pub steps : (install : ℕ) → core.installs < install → steps_of install core.entries ≡ []
-  pub installs : (install : ℕ) (id : ImageId) → IsInstalled core.entries install id → install ≤ core.installs
+  pub installs : (install : ℕ) (id : ImageId) → IsInstalled core.entries install id
+      → install ≤ core.installs
   -- the cache and the journal, and the lengths of lists
   pub cell_places : length core.cells ≡ 34
   pub session_places : length core.sessions ≡ 17
@@ -193,7 +233,8 @@ pub record SlotsHold (Stands : StandsFor) (owners : List Owner) (core : CoreStat
 -- over all slots: at most one guest runs, and each cell that it owns has its slot's tag
 pub record RunningHolds (core : CoreState) : Type 0 where
   pub one : (slot other : ℕ) → IsRunning core slot → IsRunning core other → slot ≡ other
-  pub tagged : (slot reg : ℕ) → IsRunning core slot → 1 ≤ reg → reg < 34 → bit_at (session_of core slot).mask reg ≡ 1 → (cell_at core.cells reg).tag ≡ slot
+  pub tagged : (slot reg : ℕ) → IsRunning core slot → 1 ≤ reg → reg < 34
+      → bit_at (session_of core slot).mask reg ≡ 1 → (cell_at core.cells reg).tag ≡ slot
 
 pub record Holds (Stands : StandsFor) (owners : List Owner) (core : CoreState) : Type 0 where
   pub slots : SlotsHold Stands owners core

@@ -18,7 +18,8 @@ seals_of entries = filter_map seal_in entries
 -- each Accept is of what an owner sealed or an earlier entry
 abbrev pub NoForgery : List Sealing → List Entry → Type 0
 NoForgery sealed entries =
-    (before behind : List Entry) (key message : List ℕ) (place : ℕ) → entries ≡ before ++ (entry.Accept key message place ∷ behind)
+    (before behind : List Entry) (key message : List ℕ) (place : ℕ) → entries ≡ before
+    ++ (entry.Accept key message place ∷ behind)
     → is_sealed key message (sealed ++ seals_of before) ≡ true
 
 -- The journal is honest so far. What a journal is, each one is of which it is the longer.

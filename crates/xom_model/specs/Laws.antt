@@ -1,4 +1,5 @@
--- What may be said of the machine's events in its own words, with any store of versions that keeps the law.
+-- What may be said of the machine's events in its own words, with any store of versions that keeps
+-- the law.
 use Rattle.std.specs.Prelude.{◌≡◌, ◌⊎◌, ◌↔◌, ℕ, ◌<◌, ◌≤◌, ◌^◌, Bool, true, List, Some, None, slice_get}
 use Rattle.xom_base.specs.declared.entry.Entry.{Entry}
 use Rattle.xom_base.specs.declared.event.Cause.TheVariants as cause
@@ -26,7 +27,8 @@ use Rattle.xom_model.specs.Holds.{FollowsAlone, Holds, IsRunning}
 
 -- A journal is honest exactly where the judge's two searches find nothing.
 pub record HonestyIsJudged : Type 0 where
-  pub forgery : (sealed : List Sealing) (entries : List Entry) → (forged sealed entries ≡ None) ↔ NoForgery sealed entries
+  pub forgery : (sealed : List Sealing) (entries : List Entry)
+      → (forged sealed entries ≡ None) ↔ NoForgery sealed entries
   pub collision : (entries : List Entry) → (collision entries ≡ None) ↔ NoCollision entries
 
 -- the law of versions on chip
@@ -47,25 +49,33 @@ HoldsAtStart v Stands = (owners : List Owner) (machine : Key256) (boot : ℕ) (r
 abbrev pub EventsKeep : Versions → StandsFor → Type 0
 EventsKeep v Stands = VersionLaw v Stands
     → (owners : List Owner) → AreOwners owners → (r : Record) (e : Event) (bytes : List ℕ)
-    → fits r e ≡ true → IsBounded (on v r e bytes).0.core.entries → IsHonest (sealed_by r.core.machine owners) (on v r e bytes).0.core.entries
+    → fits r e ≡ true → IsBounded (on v r e bytes).0.core.entries
+    → IsHonest (sealed_by r.core.machine owners) (on v r e bytes).0.core.entries
     → Holds Stands owners r.core → Holds Stands owners (on v r e bytes).0.core
 
--- the program of the guest in a slot, after its recorded steps, gives this fault, and stays as it is
+-- the program of the guest in a slot, after its recorded steps, gives this fault, and stays as it
+-- is
 abbrev pub FaultsAlone : List Owner → CoreState → ℕ → OwnFault → Type 0
 FaultsAlone owners core slot fault =
     (owner : Owner) × (p : State)
-    × FollowsAlone owners core.entries (session_of core slot).install (session_of core slot).id owner p
+    × FollowsAlone owners core.entries (session_of core slot).install (session_of core slot).id
+    owner p
     × (plain p given.Nothing ≡ (plain_step.Fault fault, p))
 
 -- a guest leaves with an own fault only where its program gives that fault
 abbrev pub FaultsAreOwn : Versions → StandsFor → Type 0
 FaultsAreOwn v Stands = VersionLaw v Stands
-    → (owners : List Owner) → AreOwners owners → (core : CoreState) (slot : ℕ) (interrupt : Bool) (fault : OwnFault)
+    → (owners : List Owner) → AreOwners owners
+    → (core : CoreState) (slot : ℕ) (interrupt : Bool) (fault : OwnFault)
     → 1 ≤ slot → slot ≤ 16 → IsRunning core slot → IsBounded (guest v core slot interrupt).0.entries
-    → IsHonest (sealed_by core.machine owners) (guest v core slot interrupt).0.entries → Holds Stands owners core
-    → (guest v core slot interrupt).1 ≡ Some (cause.Fault fault) → FaultsAlone owners core slot fault
+    → IsHonest (sealed_by core.machine owners) (guest v core slot interrupt).0.entries
+    → Holds Stands owners core
+    → (guest v core slot interrupt).1 ≡ Some (cause.Fault fault)
+    → FaultsAlone owners core slot fault
 
--- an operation is done with 0 or stops its guest with 8; with any other status it is refused and changes nothing
+-- an operation is done with 0 or stops its guest with 8; with any other status it is refused and
+-- changes nothing
 abbrev pub RefusalsChangeNothing : Type 0
 RefusalsChangeNothing = (v : Versions) (core : CoreState) (op : Op)
-    → ((operation v core op).1 ≡ 0) ⊎ ((operation v core op).1 ≡ 8) ⊎ ((operation v core op).0 ≡ core)
+    → ((operation v core op).1 ≡ 0) ⊎ ((operation v core op).1 ≡ 8)
+    ⊎ ((operation v core op).0 ≡ core)

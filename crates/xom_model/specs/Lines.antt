@@ -42,14 +42,18 @@ abbrev pub run_name : Who → ℕ → ℕ → LineName
 run_name who line version = Run who.boot who.install line version
 
 abbrev pub name_of : Who → ℕ → ℕ → LineName
-name_of who line version = if is_image_at who line version then Image who.id line else run_name who line version
+name_of who line version =
+    if is_image_at who line version then Image who.id line else run_name who line version
 
 abbrev pub keys_of : Who → ℕ → ℕ → LineKeys
-keys_of who line version = if is_image_at who line version then image_keys who.key who.id else run_keys who.key who.boot who.install
+keys_of who line version =
+    if is_image_at who line version then image_keys who.key who.id else run_keys who.key who.boot
+    who.install
 
 -- a line's bytes as they are sealed under a version
 abbrev pub sealed_as : Who → ℕ → ℕ → List ℕ → SealedLine
-sealed_as who line version bytes = sealed_line (name_of who line version) (keys_of who line version) bytes
+sealed_as who line version bytes =
+    sealed_line (name_of who line version) (keys_of who line version) bytes
 
 -- the message of a line with this ciphertext
 abbrev pub message_as : Who → ℕ → ℕ → List ℕ → List ℕ
@@ -57,16 +61,21 @@ message_as who line version ct = line_message (name_of who line version) ct
 
 abbrev pub seal_entry : Who → ℕ → ℕ → List ℕ → Entry
 seal_entry who line version bytes =
-    entry.Seal (keys_of who line version).tag.0 (message_as who line version (sealed_as who line version bytes).ct)
+    entry.Seal (keys_of who line version).tag.0
+    (message_as who line version (sealed_as who line version bytes).ct)
 
 abbrev pub accept_entry : Who → ℕ → ℕ → List ℕ → ℕ → Entry
-accept_entry who line version ct place = entry.Accept (keys_of who line version).tag.0 (message_as who line version ct) place
+accept_entry who line version ct place =
+    entry.Accept (keys_of who line version).tag.0 (message_as who line version ct) place
 
 -- the pair that a Seal of a run line has
 abbrev pub run_pair : Who → ℕ → ℕ → List ℕ → Sealing
 run_pair who line version bytes =
-    let keys = run_keys who.key who.boot who.install in
-    (keys.tag.0, line_message (run_name who line version) (line_masked (run_name who line version) keys bytes))
+    let keys = run_keys who.key who.boot who.install in (
+      keys.tag.0,
+      line_message (run_name who line version) (line_masked (run_name who line version)
+          keys bytes),
+    )
 
 -- ---- Places
 
@@ -100,7 +109,8 @@ abbrev pub line_seals : ℕ → ℕ → List Sealing → List Sealing
 line_seals install line seals = filter (names_line install line) seals
 
 abbrev pub names_version : ℕ → ℕ → ℕ → Sealing → Bool
-names_version install line version sealing = names_run_line install line sealing.1 && (version_in sealing.1 == version)
+names_version install line version sealing =
+    names_run_line install line sealing.1 && (version_in sealing.1 == version)
 
 -- the Seals of one of its versions
 abbrev pub version_seals : ℕ → ℕ → ℕ → List Sealing → List Sealing
@@ -108,4 +118,5 @@ version_seals install line version seals = filter (names_version install line ve
 
 -- the version of a line: its first one, raised by each Seal of it
 abbrev pub version_of_line : Who → List Sealing → ℕ → ℕ
-version_of_line who seals line = start_version who.lines line + length (line_seals who.install line seals)
+version_of_line who seals line =
+    start_version who.lines line + length (line_seals who.install line seals)

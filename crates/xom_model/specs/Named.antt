@@ -1,4 +1,5 @@
--- Which entries of a journal are about an install: its own ones, and those whose message is a run line or a register of it.
+-- Which entries of a journal are about an install: its own ones, and those whose message is a run
+-- line or a register of it.
 use Rattle.std.specs.Prelude.{ℕ, ◌≡◌, ◌&&◌, ◌||◌, ◌⊎◌, Bool, true, List, [], ◌∷◌, drop, take}
 use Rattle.std.specs.Int.{w64, to_be_bytes}
 use Rattle.std.specs.List.{filter}
@@ -16,9 +17,11 @@ HasOne Is (first ∷ entries) = Is first ⊎ HasOne Is entries
 abbrev pub is_own_kind : List ℕ → Bool
 is_own_kind message = bytes_eq (take 1 message) (2 ∷ []) || bytes_eq (take 1 message) (3 ∷ [])
 
--- the message is of a run line or a register of this install, whatever else it says: both name the install behind the boot number
+-- the message is of a run line or a register of this install, whatever else it says: both name the
+-- install behind the boot number
 unfoldable pub names_install : ℕ → List ℕ → Bool
-names_install install message = is_own_kind message && bytes_eq (take 8 (drop 9 message)) (to_be_bytes w64 install)
+names_install install message =
+    is_own_kind message && bytes_eq (take 8 (drop 9 message)) (to_be_bytes w64 install)
 
 -- the Seals of an install: of its lines and of its registers
 abbrev pub is_its : ℕ → Sealing → Bool

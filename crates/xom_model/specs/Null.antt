@@ -1,4 +1,5 @@
--- One instruction of null code: over the cells, RAM and the null pair. It is no part of any compartment.
+-- One instruction of null code: over the cells, RAM and the null pair. It is no part of any
+-- compartment.
 use Rattle.std.specs.Prelude.{ℕ, ◌-◌, ◌%◌, ◌==◌, ◌&&◌, length, List, Option, Some, None, Result, Ok, Err, if◌then◌else◌}
 use Rattle.mips_instruction.specs.declared.instruction.Ins.{Ins}
 use Rattle.mips_instruction.specs.Words.{read}
@@ -32,7 +33,8 @@ use Rattle.xom_model.specs.State.{holds}
 
 -- a write outside RAM changes nothing
 unfoldable pub ram_after_write : List ℕ → ℕ → List ℕ → List ℕ
-ram_after_write ram address bytes = if holds ram address (length bytes) then stored ram address bytes else ram
+ram_after_write ram address bytes =
+    if holds ram address (length bytes) then stored ram address bytes else ram
 
 -- what null code may be told
 pub record Told : Type 0 where
@@ -97,12 +99,16 @@ seen_open cells reg = if reg == 0 then Value 0 else open_cell (cell_at cells reg
 
 -- the instruction at an address of RAM
 unfoldable pub fetched_open : List ℕ → ℕ → Result Ins OwnFault
-fetched_open ram pc = if (pc % 4 == 0) && holds ram pc 4 then instruction_or_fault (read (word_at ram pc)) else Err fault.Address
+fetched_open ram pc =
+    if (pc % 4 == 0) && holds ram pc 4 then instruction_or_fault (read (word_at ram pc))
+    else Err fault.Address
 
 -- what it comes to
 abbrev pub tried_open : (ℕ → Seen) → Result Ins OwnFault → ℕ → ℕ → Result Effect OwnFault
 tried_open see (Err why) pc npc = Err why
-tried_open see (Ok ins) pc npc = effect_of ins Null (see (sources_of ins).0) (see (sources_of ins).1) (see (sources_of ins).2) pc npc
+tried_open see (Ok ins) pc npc =
+    effect_of ins Null (see (sources_of ins).0) (see (sources_of ins).1) (see (sources_of ins).2) pc
+    npc
 
 -- ---- What it does
 
@@ -114,7 +120,13 @@ with_null_writes cells (writes.Pair hi lo) = with_cell (with_cell cells 32 hi 0)
 
 -- the cells are written, and the pair goes on
 abbrev pub open_after : Open → Effect → Writes → Open
-open_after s effect written = record { cells = with_null_writes s.cells written; ram = s.ram; pc = effect.pc; npc = effect.npc }
+open_after s effect written = record {
+  cells = with_null_writes s.cells written;
+  ram = s.ram;
+  pc =
+      effect.pc;
+  npc = effect.npc;
+}
 
 abbrev pub stored_open : Open → ℕ → List ℕ → Open
 stored_open s address bytes = record s { ram = stored s.ram address bytes }
@@ -145,12 +157,17 @@ stopped_by s why = (s, Err why)
 abbrev pub wish_answer : Told → Open → Effect → Wish → Answer
 wish_answer told s effect wish.Nothing = done_answer (open_after s effect effect.writes)
 wish_answer told s effect (wish.Load reg address how old) =
-    if holds s.ram (address - address % 4) 4 then done_answer (open_after s effect (set reg (loaded_open s.ram how old address))) else stopped_by s null.Address
+    if holds s.ram (address - address % 4) 4
+    then done_answer (open_after s effect (set reg (loaded_open s.ram how old address)))
+    else stopped_by s null.Address
 wish_answer told s effect (wish.Store address count value) =
-    if holds s.ram address count then done_answer (stored_open (open_after s effect effect.writes) address (low_bytes count value)) else stopped_by s null.Address
+    if holds s.ram address count then done_answer (stored_open (open_after s effect effect.writes)
+    address (low_bytes count value)) else stopped_by s null.Address
 wish_answer told s effect (wish.Call code) = stopped_by s null.Call
-wish_answer told s effect (wish.Do operation) = (open_after s effect effect.writes, Ok (Some operation))
-wish_answer told s effect (wish.Ask reg what) = done_answer (open_after s effect (set reg (answer_of told what)))
+wish_answer told s effect (wish.Do operation) =
+    (open_after s effect effect.writes, Ok (Some operation))
+wish_answer told s effect (wish.Ask reg what) =
+    done_answer (open_after s effect (set reg (answer_of told what)))
 wish_answer told s effect (wish.Release reg value) = stopped_by s null.Reserved
 wish_answer told s effect (wish.Receive reg from) = stopped_by s null.Reserved
 wish_answer told s effect (wish.NullLoad reg address) = stopped_by s null.Reserved
@@ -165,4 +182,5 @@ ran_open told s (Ok effect) = wish_answer told s effect effect.wish
 
 -- one instruction of null code
 unfoldable pub null_step : Told → Open → Answer
-null_step told s = ran_open told s (tried_open (seen_open s.cells) (fetched_open s.ram s.pc) s.pc s.npc)
+null_step told s =
+    ran_open told s (tried_open (seen_open s.cells) (fetched_open s.ram s.pc) s.pc s.npc)

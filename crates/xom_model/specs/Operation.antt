@@ -59,7 +59,8 @@ is_missing slot mask cells reg = (bit_at mask reg == 1) && not ((cell_at cells r
 abbrev pub missing_from : ℕ → ℕ → List Cell → ℕ → ℕ → Option ℕ
 missing_from slot mask cells zero reg = None
 missing_from slot mask cells (suc count) reg =
-    if is_missing slot mask cells reg then Some reg else missing_from slot mask cells count (reg + 1)
+    if is_missing slot mask cells reg then Some reg else missing_from slot mask cells count
+    (reg + 1)
 
 -- the least cell that is missing
 unfoldable pub missing_cell : ℕ → ℕ → List Cell → Option ℕ
@@ -71,7 +72,8 @@ with_signal core slot signal = if signal == 0 then core else after_delivery core
 
 -- a guest goes on only where each cell that it owns has its tag; else it is stopped for good
 abbrev pub go_on : CoreState → ℕ → ℕ → Option ℕ → CoreState × ℕ
-go_on core slot signal None = success (with_signal (with_session core slot (resumed (session_of core slot))) slot signal)
+go_on core slot signal None =
+    success (with_signal (with_session core slot (resumed (session_of core slot))) slot signal)
 go_on core slot signal (Some reg) = (after_stop core slot (rule.RegisterMissing reg), 8)
 
 -- the slot takes the signal: there is none, or the slot is ready for one
@@ -82,7 +84,8 @@ slot_takes_signal s signal = (signal == 0) || is_signal_ready s.handler s.saved
 abbrev pub resume_paused : CoreState → ℕ → ℕ → CoreState × ℕ
 resume_paused core slot signal =
     if nat_le signal 63
-    then (if slot_takes_signal (session_of core slot) signal then go_on core slot signal (missing_cell slot (session_of core slot).mask core.cells) else refusal_of core 2)
+    then (if slot_takes_signal (session_of core slot) signal then go_on core slot signal
+    (missing_cell slot (session_of core slot).mask core.cells) else refusal_of core 2)
     else refusal_of core 7
 
 abbrev pub resume : CoreState → ℕ → ℕ → SlotState → CoreState × ℕ
@@ -96,14 +99,16 @@ resume core slot signal (state.Stopped rule) = refusal_of core 2
 -- SetReg: the cell is of the null compartment, whatever it was
 abbrev pub set_register : CoreState → ℕ → ℕ → CoreState × ℕ
 set_register core reg value =
-    if is_cell reg then success (with_cells core (with_cell core.cells reg value 0)) else refusal_of core 7
+    if is_cell reg then success (with_cells core (with_cell core.cells reg value 0))
+    else refusal_of core 7
 
 -- ---- Operations with a row of tests
 
 -- the first test that holds answers with its status; where none does, the deed is done
 abbrev pub first_refusal_or : CoreState → List (Bool × ℕ) → CoreState × ℕ → CoreState × ℕ
 first_refusal_or core [] deed = deed
-first_refusal_or core (test ∷ tests) deed = if test.0 then refusal_of core test.1 else first_refusal_or core tests deed
+first_refusal_or core (test ∷ tests) deed =
+    if test.0 then refusal_of core test.1 else first_refusal_or core tests deed
 
 abbrev pub is_free_state : SlotState → Bool
 is_free_state state.Free = true
@@ -136,24 +141,29 @@ session_for core plain = fresh (core.installs + 1) plain.id plain.key plain.entr
 
 -- what it says can't be: too many lines, or an entry that is no place of an instruction
 abbrev pub is_bad_image : Session → Bool
-is_bad_image s = nat_lt (lines_of s) s.lines || (not (s.entry % 4 == 0) || nat_le (window_of s) s.entry)
+is_bad_image s =
+    nat_lt (lines_of s) s.lines || (not (s.entry % 4 == 0) || nat_le (window_of s) s.entry)
 
 -- the tests of each, in their order, with their statuses
 abbrev pub install_tests : CoreState → ℕ → ℕ → ℕ → List (Bool × ℕ)
 install_tests core slot place area =
-    (not (is_slot slot), 1) ∷ (not (is_free_state (session_of core slot).state), 2) ∷ (not (holds core.ram place envelope_size && holds core.ram area area_size), 4) ∷ []
+    (not (is_slot slot), 1) ∷ (not (is_free_state (session_of core slot).state), 2)
+    ∷ (not (holds core.ram place envelope_size && holds core.ram area area_size), 4) ∷ []
 
 abbrev pub image_tests : CoreState → Unwrapped → List (Bool × ℕ)
 image_tests core plain = (is_bad_image (session_for core plain), 7) ∷ []
 
 abbrev pub map_tests : CoreState → ℕ → ℕ → ℕ → List (Bool × ℕ)
 map_tests core slot page frame =
-    (is_bad_slot core slot, 1) ∷ (not (can_come_back (session_of core slot).state), 2) ∷ (nat_le (pages_of (session_of core slot)) page, 7)
-    ∷ (not (holds core.ram (frame * frame_size) frame_size), 4) ∷ (is_some (frame_of core.pages slot page), 5) ∷ []
+    (is_bad_slot core slot, 1) ∷ (not (can_come_back (session_of core slot).state), 2)
+    ∷ (nat_le (pages_of (session_of core slot)) page, 7)
+    ∷ (not (holds core.ram (frame * frame_size) frame_size), 4)
+    ∷ (is_some (frame_of core.pages slot page), 5) ∷ []
 
 abbrev pub unmap_tests : CoreState → ℕ → ℕ → List (Bool × ℕ)
 unmap_tests core slot page =
-    (is_bad_slot core slot, 1) ∷ (not (can_come_back (session_of core slot).state), 2) ∷ (nat_le (pages_of (session_of core slot)) page, 7)
+    (is_bad_slot core slot, 1) ∷ (not (can_come_back (session_of core slot).state), 2)
+    ∷ (nat_le (pages_of (session_of core slot)) page, 7)
     ∷ (is_none (frame_of core.pages slot page), 5) ∷ []
 
 abbrev pub kill_tests : CoreState → ℕ → List (Bool × ℕ)
@@ -166,14 +176,18 @@ is_own_cell slot cell = (cell.tag == slot) && nat_lt cell.value (2 ^ 32)
 -- the tests that Save and Restore have in common
 abbrev pub register_tests : CoreState → ℕ → ℕ → ℕ → List (Bool × ℕ) → List (Bool × ℕ)
 register_tests core slot reg address last =
-    (is_bad_slot core slot, 1) ∷ (not (is_paused (session_of core slot).state), 2) ∷ (not (is_cell reg), 7)
+    (is_bad_slot core slot, 1) ∷ (not (is_paused (session_of core slot).state), 2)
+    ∷ (not (is_cell reg), 7)
     ∷ (not (holds core.ram address saved_size), 4) ∷ last
 
 abbrev pub save_tests : CoreState → ℕ → ℕ → ℕ → List (Bool × ℕ)
-save_tests core slot reg address = register_tests core slot reg address ((not (is_own_cell slot (cell_at core.cells reg)), 6) ∷ [])
+save_tests core slot reg address =
+    register_tests core slot reg address ((not (is_own_cell slot (cell_at core.cells reg)), 6) ∷ [])
 
 abbrev pub restore_tests : CoreState → ℕ → ℕ → ℕ → List (Bool × ℕ)
-restore_tests core slot reg address = register_tests core slot reg address ((not (bit_at (session_of core slot).mask reg == 1), 6) ∷ [])
+restore_tests core slot reg address =
+    register_tests core slot reg address
+    ((not (bit_at (session_of core slot).mask reg == 1), 6) ∷ [])
 
 -- ---- Save and Restore
 
@@ -186,31 +200,38 @@ unfoldable pub after_save : CoreState → ℕ → ℕ → ℕ → CoreState
 after_save core slot reg address =
     let value = (cell_at core.cells reg).value in
     record (with_entry core (reg_seal_entry (who_of core slot) (epoch_of core slot) reg value)) {
-      ram = with_saved core.ram address (sealed_reg (who_of core slot) (epoch_of core slot) reg value);
+      ram = with_saved core.ram address (sealed_reg (who_of core slot) (epoch_of core slot) reg
+          value);
     }
 
 abbrev pub save_register : CoreState → ℕ → ℕ → ℕ → CoreState × ℕ
-save_register core slot reg address = first_refusal_or core (save_tests core slot reg address) (success (after_save core slot reg address))
+save_register core slot reg address =
+    first_refusal_or core (save_tests core slot reg address)
+    (success (after_save core slot reg address))
 
 -- Restore: the tag that was right is recorded, and the cell gets the value and the slot's tag
 unfoldable pub after_restore : CoreState → ℕ → ℕ → ℕ → ℕ → CoreState
 after_restore core slot reg address value =
-    record (with_entry core (reg_accept_entry (who_of core slot) (epoch_of core slot) reg (saved_at core.ram address).ct address)) {
+    record (with_entry core (reg_accept_entry (who_of core slot) (epoch_of core slot) reg
+    (saved_at core.ram address).ct address)) {
       cells = with_cell core.cells reg value slot;
     }
 
 -- a tag that differs stops the guest
 abbrev pub after_reopening : CoreState → ℕ → ℕ → ℕ → Option ℕ → CoreState × ℕ
 after_reopening core slot reg address None = (after_stop core slot (rule.RegisterTag reg), 8)
-after_reopening core slot reg address (Some value) = success (after_restore core slot reg address value)
+after_reopening core slot reg address (Some value) =
+    success (after_restore core slot reg address value)
 
 abbrev pub reopening : CoreState → ℕ → ℕ → ℕ → CoreState × ℕ
 reopening core slot reg address =
     after_reopening core slot reg address
-    (unsealed_register (reg_name (who_of core slot) (epoch_of core slot) reg) (reg_keys (who_of core slot) (epoch_of core slot)) (saved_at core.ram address))
+    (unsealed_register (reg_name (who_of core slot) (epoch_of core slot) reg)
+    (reg_keys (who_of core slot) (epoch_of core slot)) (saved_at core.ram address))
 
 abbrev pub restore_register : CoreState → ℕ → ℕ → ℕ → CoreState × ℕ
-restore_register core slot reg address = first_refusal_or core (restore_tests core slot reg address) (reopening core slot reg address)
+restore_register core slot reg address =
+    first_refusal_or core (restore_tests core slot reg address) (reopening core slot reg address)
 
 module _ (v : Versions) where
   -- Install: the tag that was right is recorded, then the guest, then what its version store hashes
@@ -230,7 +251,9 @@ module _ (v : Versions) where
 
   abbrev pub unwrap : CoreState → ℕ → ℕ → ℕ → Option Unwrapped → CoreState × ℕ
   unwrap core slot place area None = refusal_of core 3
-  unwrap core slot place area (Some plain) = first_refusal_or core (image_tests core plain) (success (after_install core slot place area plain))
+  unwrap core slot place area (Some plain) =
+      first_refusal_or core (image_tests core plain)
+      (success (after_install core slot place area plain))
 
   abbrev pub install : CoreState → ℕ → ℕ → ℕ → CoreState × ℕ
   install core slot place area = first_refusal_or core (install_tests core slot place area)
@@ -238,27 +261,37 @@ module _ (v : Versions) where
 
   -- Map
   abbrev pub map_page : CoreState → ℕ → ℕ → ℕ → CoreState × ℕ
-  map_page core slot page frame = first_refusal_or core (map_tests core slot page frame) (success (record core { pages = with_page core.pages slot page (Some frame) }))
+  map_page core slot page frame =
+      first_refusal_or core (map_tests core slot page frame)
+      (success (record core { pages = with_page core.pages slot page (Some frame) }))
 
   -- Unmap: the page's lines leave the cache, the dirty ones sealed, before it is unmapped
   abbrev pub after_unmap : ℕ → ℕ → CoreState × Option Rule → CoreState × ℕ
-  after_unmap slot page (core, None) = success (record core { pages = with_page core.pages slot page None })
+  after_unmap slot page (core, None) =
+      success (record core { pages = with_page core.pages slot page None })
   after_unmap slot page (core, Some why) = (core, 8)
 
   abbrev pub unmap_page : CoreState → ℕ → ℕ → CoreState × ℕ
-  unmap_page core slot page = first_refusal_or core (unmap_tests core slot page) (after_unmap slot page (after_flush v slot frame_lines (frame_lines * page) core))
+  unmap_page core slot page =
+      first_refusal_or core (unmap_tests core slot page)
+      (after_unmap slot page (after_flush v slot frame_lines (frame_lines * page) core))
 
   -- Kill: the slot is free again, and its version store stays as it is
   abbrev pub after_kill : CoreState → ℕ → CoreState
-  after_kill core slot = with_entry (with_session (without_guest core slot) slot free) (entry.Kill (session_of core slot).install)
+  after_kill core slot =
+      with_entry (with_session (without_guest core slot) slot free)
+      (entry.Kill (session_of core slot).install)
 
   abbrev pub kill : CoreState → ℕ → CoreState × ℕ
   kill core slot = first_refusal_or core (kill_tests core slot) (success (after_kill core slot))
 
   -- an operation, with its status
   unfoldable pub operation : CoreState → Op → CoreState × ℕ
-  operation core (Enter slot) = if is_slot slot then enter core slot (session_of core slot).state else refusal_of core 1
-  operation core (Resume slot signal) = if is_slot slot then resume core slot signal (session_of core slot).state else refusal_of core 1
+  operation core (Enter slot) =
+      if is_slot slot then enter core slot (session_of core slot).state else refusal_of core 1
+  operation core (Resume slot signal) =
+      if is_slot slot then resume core slot signal (session_of core slot).state else refusal_of core
+      1
   operation core (SetReg reg value) = set_register core reg value
   operation core Halt = success core
   operation core (Install slot envelope area) = install core slot envelope area

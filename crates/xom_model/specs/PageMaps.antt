@@ -1,4 +1,5 @@
--- What maps and unmaps pages: Install, Map and Unmap, and what stops, ends or kills a slot; nothing else.
+-- What maps and unmaps pages: Install, Map and Unmap, and what stops, ends or kills a slot; nothing
+-- else.
 use Rattle.std.specs.Prelude.{◌≡◌, ℕ, Bool, true, false}
 use Rattle.xom_base.specs.declared.event.Op.{Op}
 use Rattle.xom_base.specs.declared.event.Op.TheVariants.{Install, Enter, Resume, Save, Restore, Map, Unmap, SetReg, Kill, Out, Halt}
@@ -11,11 +12,16 @@ use Rattle.xom_model.specs.Holds.{IsLive}
 
 -- each slot that is live afterwards was so before, with the same pages in the same frames
 abbrev pub PagesStay : CoreState → CoreState → Type 0
-PagesStay core new = (slot : ℕ) → IsLive new slot → IsLive core slot × ((page : ℕ) → frame_of new.pages slot page ≡ frame_of core.pages slot page)
+PagesStay core new =
+    (slot : ℕ) → IsLive new slot
+    → IsLive core slot × ((page : ℕ) → frame_of new.pages slot page ≡ frame_of core.pages slot
+    page)
 
 -- an event of a live slot's guest changes no page map of a slot that is live afterwards
 abbrev pub GuestsKeepPages : Type 0
-GuestsKeepPages = (v : Versions) (core : CoreState) (slot : ℕ) (interrupt : Bool) → IsLive core slot → PagesStay core (guest v core slot interrupt).0
+GuestsKeepPages =
+    (v : Versions) (core : CoreState) (slot : ℕ) (interrupt : Bool) → IsLive core slot
+    → PagesStay core (guest v core slot interrupt).0
 
 -- the operations that give a slot its pages, or take one
 abbrev pub moves_pages : Op → Bool
@@ -33,4 +39,6 @@ moves_pages Halt = false
 
 -- no other operation does
 abbrev pub OperationsKeepPages : Type 0
-OperationsKeepPages = (v : Versions) (core : CoreState) (op : Op) → moves_pages op ≡ false → PagesStay core (operation v core op).0
+OperationsKeepPages =
+    (v : Versions) (core : CoreState) (op : Op) → moves_pages op ≡ false
+    → PagesStay core (operation v core op).0

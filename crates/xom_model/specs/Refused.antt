@@ -13,11 +13,23 @@ IsRefusal status = (1 ≤ status) × (status ≤ 7)
 
 -- a refused operation of a script leaves all but its status and the count of events
 abbrev pub DoRefused : Type 0
-DoRefused = (v : Versions) (r : Record) (op : Op) (bytes : List ℕ) → fits r (event.Do op) ≡ true → IsRefusal (on v r (event.Do op) bytes).0.status
-    → (on v r (event.Do op) bytes).0 ≡ record r { status = (on v r (event.Do op) bytes).0.status; events = r.events + 1 }
+DoRefused = (v : Versions) (r : Record) (op : Op) (bytes : List ℕ) → fits r (event.Do op) ≡ true
+    → IsRefusal (on v r (event.Do op) bytes).0.status
+    → (on v r (event.Do op) bytes).0 ≡ record r {
+      status = (on v r (event.Do op) bytes).0.status;
+      events = r.events + 1;
+    }
 
 -- and one that an instruction of null code asks for, all but these and the null pair, which goes on
 abbrev pub NullRefused : Type 0
-NullRefused = (v : Versions) (r : Record) (op : Op) (bytes : List ℕ) → fits r event.Null ≡ true → (null_step (told_in r) (open_in r)).1 ≡ Ok (Some op) → IsRefusal (on v r event.Null bytes).0.status
+NullRefused = (v : Versions) (r : Record) (op : Op) (bytes : List ℕ) → fits r event.Null ≡ true
+    → (null_step (told_in r) (open_in r)).1 ≡ Ok (Some op)
+    → IsRefusal (on v r event.Null bytes).0.status
     → (on v r event.Null bytes).0
-    ≡ record r { status = (on v r event.Null bytes).0.status; events = r.events + 1; pc = (null_step (told_in r) (open_in r)).0.pc; npc = (null_step (told_in r) (open_in r)).0.npc }
+    ≡ record r {
+      status = (on v r event.Null bytes).0.status;
+      events = r.events + 1;
+      pc =
+          (null_step (told_in r) (open_in r)).0.pc;
+      npc = (null_step (told_in r) (open_in r)).0.npc;
+    }

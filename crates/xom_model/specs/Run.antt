@@ -61,8 +61,10 @@ event_of turn.Null = event.Null
 
 -- ---- The run
 
--- Where the kernel tells its turns, as a function of its own state and of its view of the machine, a run is a function too. A turn comes with the chunk.
-module _ (v : Versions) {K : Type 0} (told : K → View → Option (Turn × (List ℕ × K))) (schedule : Schedule) where
+-- Where the kernel tells its turns, as a function of its own state and of its view of the machine,
+-- a run is a function too. A turn comes with the chunk.
+module _ (v : Versions) {K : Type 0} (told : K → View → Option (Turn × (List ℕ × K)))
+    (schedule : Schedule) where
   -- how a run goes on: guest events so far, record and kernel
   abbrev pub Next : Type 0
   Next = ℕ → Record → K → Option Record
@@ -74,19 +76,23 @@ module _ (v : Versions) {K : Type 0} (told : K → View → Option (Turn × (Lis
 
   -- of the guest where one runs, else the kernel's turn
   abbrev pub own_event : Next → ℕ → Record → K → Option ℕ → Option Record
-  own_event next guests r k (Some slot) = next (guests + 1) (on v r (event.Guest (is_flagged schedule.interrupts (guests + 1))) []).0 k
+  own_event next guests r k (Some slot) =
+      next (guests + 1) (on v r (event.Guest (is_flagged schedule.interrupts (guests + 1))) []).0 k
   own_event next guests r k None = after_turn next guests r (told k (view_of r))
 
   -- one event: the write of the bus that is listed for its number, else one of the machine's own
   abbrev pub one_event : Next → ℕ → Record → K → Option Poke → Option Record
-  one_event next guests r k (Some poke) = next guests (on v r (event.Poke poke.address (length poke.bytes)) poke.bytes).0 k
+  one_event next guests r k (Some poke) =
+      next guests (on v r (event.Poke poke.address (length poke.bytes)) poke.bytes).0 k
   one_event next guests r k None = own_event next guests r k (running_slot r)
 
-  -- the record after at most so many events, or up to Halt or a kernel fault; none where the kernel doesn't tell a turn
+  -- the record after at most so many events, or up to Halt or a kernel fault; none where the kernel
+  -- doesn't tell a turn
   unfoldable pub run_from : ℕ → Next
   run_from zero guests r k = Some r
   run_from (suc n) guests r k =
-      if r.halted then Some r else one_event (run_from n) guests r k (poke_at schedule.pokes (r.events + 1))
+      if r.halted then Some r else one_event (run_from n) guests r k
+      (poke_at schedule.pokes (r.events + 1))
 
 -- ---- How it ended
 

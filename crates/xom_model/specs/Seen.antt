@@ -1,4 +1,5 @@
--- What a kernel is told of the machine, and what else is known of it without a key: no value of another compartment, and no private byte.
+-- What a kernel is told of the machine, and what else is known of it without a key: no value of
+-- another compartment, and no private byte.
 use Rattle.std.specs.Prelude.{ℕ, ◌==◌, List, Option, Some, None, map, slice_get, if◌then◌else◌}
 use Rattle.std.specs.List.{range_with_len}
 use Rattle.xom_base.specs.declared.event.Cause.{Cause}
@@ -26,7 +27,17 @@ shown_cell cell = if cell.tag == 0 then cell else record { value = 0; tag = cell
 
 -- no key, and not where the guest stands
 abbrev pub shown_slot : Session → SlotView
-shown_slot s = record { state = s.state; install = s.install; id = s.id; entry = s.entry; lines = s.lines; mask = s.mask; epoch = s.epoch; signal_ready = is_signal_ready s.handler s.saved }
+shown_slot s = record {
+  state = s.state;
+  install = s.install;
+  id = s.id;
+  entry = s.entry;
+  lines =
+      s.lines;
+  mask = s.mask;
+  epoch = s.epoch;
+  signal_ready = is_signal_ready s.handler s.saved;
+}
 
 unfoldable pub view_of : Record → View
 view_of r = record {
@@ -47,7 +58,8 @@ open_cell cell = if cell.tag == 0 then Some cell.value else None
 abbrev pub ram_byte : View → ℕ → Option ℕ
 ram_byte view address = slice_get view.ram address
 
--- what is seen of the machine: what a kernel is told, the null pair, the page map, the last install number, and the areas of the live slots whose stores keep one
+-- what is seen of the machine: what a kernel is told, the null pair, the page map, the last install
+-- number, and the areas of the live slots whose stores keep one
 pub record Seen : Type 0 where
   pub view : View
   pub pc : ℕ

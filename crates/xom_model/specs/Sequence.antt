@@ -27,7 +27,8 @@ abbrev pub AllFit : Versions → Record → List (Event × List ℕ) → Type 0
 AllFit v r [] = Unit {0}
 AllFit v r (first ∷ events) = (fits r first.0 ≡ true) × AllFit v (on v r first.0 first.1).0 events
 
--- The last record comes from the first by so many events at the most, each of which may come where it does.
+-- The last record comes from the first by so many events at the most, each of which may come where
+-- it does.
 pub record IsRunOf (v : Versions) (n : ℕ) (r last : Record) : Type 0 where
   pub events : List (Event × List ℕ)
   pub few : length events ≤ n
@@ -41,17 +42,22 @@ Teller = List View → View → Option (Turn × (List ℕ × List View))
 -- under a kernel that tells its turns, and a schedule that keeps its rules, a run is such events
 abbrev pub RunsAreEvents : Type 0
 RunsAreEvents = (v : Versions) (told : Teller) (schedule : Schedule) → IsSchedule schedule
-    → (n : ℕ) (r last : Record) (views : List View) → run_from v told schedule n 0 r views ≡ Some last → IsRunOf v n r last
+    → (n : ℕ) (r last : Record) (views : List View)
+    → run_from v told schedule n 0 r views ≡ Some last → IsRunOf v n r last
 
--- Whatever events come after power-on, each with a chunk: where the journal that they made is honest, all that the machine keeps holds, and no name was used twice.
-pub record RunHolds (v : Versions) (Stands : StandsFor) (owners : List Owner) (r : Record) : Type 0 where
+-- Whatever events come after power-on, each with a chunk: where the journal that they made is
+-- honest, all that the machine keeps holds, and no name was used twice.
+pub record RunHolds (v : Versions) (Stands : StandsFor) (owners : List Owner) (r : Record) : Type
+    0 where
   pub holds : Holds Stands owners r.core
   pub once : IsOnce (seals_of r.core.entries)
 
 abbrev pub RunsHold : Versions → StandsFor → Type 0
 RunsHold v Stands = VersionLaw v Stands
-    → (owners : List Owner) → AreOwners owners → (machine : Key256) (boot : ℕ) (ram : List ℕ) (pc : ℕ) → boot < 2 ^ 64
+    → (owners : List Owner) → AreOwners owners
+    → (machine : Key256) (boot : ℕ) (ram : List ℕ) (pc : ℕ) → boot < 2 ^ 64
     → (events : List (Event × List ℕ)) → AllFit v (power_on v machine boot ram pc) events
     → IsBounded (after_all v (power_on v machine boot ram pc) events).core.entries
-    → IsHonest (sealed_by machine owners) (after_all v (power_on v machine boot ram pc) events).core.entries
+    → IsHonest (sealed_by machine owners) (after_all v (power_on v machine boot ram pc)
+    events).core.entries
     → RunHolds v Stands owners (after_all v (power_on v machine boot ram pc) events)

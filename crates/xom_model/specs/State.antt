@@ -17,14 +17,16 @@ use Rattle.xom_versions.specs.Store.{Store, line_limit}
 use Rattle.xom_versions.specs.Versions.{Versions, with_hashes}
 use Rattle.xom_model.specs.declared.outcome.NullFault.{NullFault}
 
--- the parts that guests and operations change. Lists over compartments have 17 places, of which place 0 is the null compartment's
+-- the parts that guests and operations change. Lists over compartments have 17 places, of which
+-- place 0 is the null compartment's
 pub record CoreState : Type 0 where
   pub cells : List Cell
   pub sessions : List Session
   pub stores : List Store
   -- for each compartment the frame of each page that is mapped
   pub pages : Pages
-  -- the cache: its ways in the order of their places, and for each set the way that is taken next where it is full
+  -- the cache: its ways in the order of their places, and for each set the way that is taken next
+  -- where it is full
   pub ways : List Way
   pub pointers : List ℕ
   pub ram : List ℕ
@@ -33,7 +35,9 @@ pub record CoreState : Type 0 where
   pub installs : ℕ
   pub entries : List Entry
 
--- the whole machine: its core, the null pair, the status of the last operation, why and from which slot a guest left last, and the events so far. It goes on until the kernel halts it, or faults: then with the address of the null instruction and its fault
+-- the whole machine: its core, the null pair, the status of the last operation, why and from which
+-- slot a guest left last, and the events so far. It goes on until the kernel halts it, or faults:
+-- then with the address of the null instruction and its fault
 pub record Record : Type 0 where
   pub core : CoreState
   pub pc : ℕ
@@ -101,7 +105,18 @@ core_at_start v machine boot ram = record {
 -- the machine at power-on
 abbrev pub power_on : Versions → Key256 → ℕ → List ℕ → ℕ → Record
 power_on v machine boot ram pc =
-    record { core = core_at_start v machine boot ram; pc = pc; npc = (pc + 4) % 2 ^ 32; status = 0; cause = cause.Nothing; who = 0; events = 0; halted = false; fault = None }
+    record {
+      core = core_at_start v machine boot ram;
+      pc = pc;
+      npc = (pc + 4) % 2 ^ 32;
+      status =
+          0;
+      cause = cause.Nothing;
+      who = 0;
+      events = 0;
+      halted = false;
+      fault = None;
+    }
 
 -- the core with other cells
 abbrev pub with_cells : CoreState → List Cell → CoreState

@@ -20,16 +20,20 @@ or_refused core (Some status) after = refusal_of core status
 -- the tests that Map and Unmap have in common
 abbrev pub page_tests : CoreState → ℕ → ℕ → List (Bool × ℕ)
 page_tests core slot page =
-    (is_bad_slot core slot, 1) ∷ (not (can_come_back (session_of core slot).state), 2) ∷ (nat_le (pages_of (session_of core slot)) page, 7) ∷ []
+    (is_bad_slot core slot, 1) ∷ (not (can_come_back (session_of core slot).state), 2)
+    ∷ (nat_le (pages_of (session_of core slot)) page, 7) ∷ []
 
 -- the tests that Map has behind them
 abbrev pub frame_tests : CoreState → ℕ → ℕ → ℕ → List (Bool × ℕ)
 frame_tests core slot page frame =
-    (not (holds core.ram (frame * frame_size) frame_size), 4) ∷ (is_some (frame_of core.pages slot page), 5) ∷ []
+    (not (holds core.ram (frame * frame_size) frame_size), 4)
+    ∷ (is_some (frame_of core.pages slot page), 5) ∷ []
 
 -- the core in which a page has a frame
 abbrev pub with_frame : CoreState → ℕ → ℕ → ℕ → CoreState
-with_frame core slot page frame = record core { pages = with_page core.pages slot page (Some frame) }
+with_frame core slot page frame = record core {
+  pages = with_page core.pages slot page (Some frame);
+}
 
 -- the last test of Save: the cell is the slot's own
 abbrev pub own_tests : CoreState → ℕ → ℕ → List (Bool × ℕ)

@@ -13,7 +13,8 @@ mapped_tests core slot page = (is_none (frame_of core.pages slot page), 5) ∷ [
 
 -- the page is flushed, and then it has no frame, unless its slot was stopped
 abbrev pub frame_taken : Versions → CoreState → ℕ → ℕ → CoreState × ℕ
-frame_taken v core slot page = after_unmap v slot page (after_flush v slot frame_lines (frame_lines * page) core)
+frame_taken v core slot page =
+    after_unmap v slot page (after_flush v slot frame_lines (frame_lines * page) core)
 
 -- the core in which a page has no frame
 abbrev pub without_frame : CoreState → ℕ → ℕ → CoreState

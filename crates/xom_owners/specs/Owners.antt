@@ -15,4 +15,6 @@ owner_of (owner ∷ owners) id = if same_id owner.id id then Some owner else own
 
 -- no two owners have one id: each is the first of its id
 abbrev pub AreDistinct : List Owner → Type 0
-AreDistinct owners = (owner : Owner) → (i : ℕ) → slice_get owners i ≡ Some owner → owner_of owners owner.id ≡ Some owner
+AreDistinct owners =
+    (owner : Owner) → (i : ℕ) → slice_get owners i ≡ Some owner
+    → owner_of owners owner.id ≡ Some owner

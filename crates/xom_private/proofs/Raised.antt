@@ -16,22 +16,32 @@ use Rattle.xom_model.proofs.RamSize.{area_stays, frames_stay}
 use Rattle.xom_private.specs.Cores.{Fits, IsLiveIn, store_at}
 
 -- a store that is put in the place of one with its area leaves all areas
-same_area : (stores : List Store) (slot k : ℕ) (new : Store) → new.area ≡ (store_at stores slot).area → (store_at (set stores slot new) k).area ≡ (store_at stores k).area
+same_area : (stores : List Store) (slot k : ℕ) (new : Store)
+    → new.area ≡ (store_at stores slot).area
+    → (store_at (set stores slot new) k).area ≡ (store_at stores k).area
 same_area stores slot k new same = elim (eqb_tells k slot) [
   | inl is ↦ elim (less slot (length stores)) [
-    | inl within ↦ ap (λ j. (store_at (set stores slot new) j).area) is.1 ∙ ap (λ s. s.area) (get_or-set_same stores slot new no_store within) ∙ same ∙ sym (ap (λ j. (store_at stores j).area) is.1)
+    | inl within ↦ ap (λ j. (store_at (set stores slot new) j).area) is.1 ∙ ap (λ s. s.area)
+        (get_or-set_same stores slot new no_store within) ∙ same
+        ∙ sym (ap (λ j. (store_at stores j).area) is.1)
     | inr past ↦ ap (λ list. (store_at list k).area) (set_past stores slot new past)
   ]
   | inr differs ↦ ap (λ s. s.area) (get_or-set_other stores slot k new no_store differs.1)
 ]
 
-pub fits_raised : {Stands : Store → List Entry → (ℕ → ℕ) → Type 0} (v : Versions) (law : VersionLaw v Stands)
-    (sessions : List Session) (pages : Pages) (ways : List Way) (ram new_ram : List ℕ) (stores new_stores : List Store) (keys : List GuestKeys) (boot slot line : ℕ)
+pub fits_raised : {Stands : Store → List Entry → (ℕ → ℕ) → Type 0} (v : Versions)
+    (law : VersionLaw v Stands)
+    (sessions : List Session) (pages : Pages) (ways : List Way) (ram new_ram : List ℕ)
+    (stores new_stores : List Store) (keys : List GuestKeys) (boot slot line : ℕ)
     → IsLiveIn sessions slot → line < line_limit
-    → new_ram ≡ v.ram_after_raise (store_at stores slot) line ram → new_stores ≡ set stores slot (v.store_after_raise (store_at stores slot) line ram)
-    → Fits sessions pages ways ram stores keys boot → Fits sessions pages ways new_ram new_stores keys boot
-fits_raised v law sessions pages ways ram new_ram stores new_stores keys boot slot line live low ram_is stores_are fits =
-    let size : length new_ram ≡ length ram = ap length ram_is ∙ law.size_after_raise (store_at stores slot) line ram (fits.areas slot live) low in
+    → new_ram ≡ v.ram_after_raise (store_at stores slot) line ram
+    → new_stores ≡ set stores slot (v.store_after_raise (store_at stores slot) line ram)
+    → Fits sessions pages ways ram stores keys boot
+    → Fits sessions pages ways new_ram new_stores keys boot
+fits_raised v law sessions pages ways ram new_ram stores new_stores keys boot slot line live low
+    ram_is stores_are fits =
+    let size : length new_ram ≡ length ram = ap length ram_is ∙ law.size_after_raise
+    (store_at stores slot) line ram (fits.areas slot live) low in
     record {
       frames = frames_stay pages ram new_ram size fits.frames;
       owned = fits.owned;
@@ -39,7 +49,10 @@ fits_raised v law sessions pages ways ram new_ram stores new_stores keys boot sl
       clean = fits.clean;
       places = fits.places;
       areas = λ k alive.
-          let area : (store_at new_stores k).area ≡ (store_at stores k).area = ap (λ list. (store_at list k).area) stores_are ∙ same_area stores slot k _ (law.area_after_raise (store_at stores slot) line ram) in
-          subst (λ a. IfSome a (λ at. HoldsRange new_ram at area_size)) (sym area) (area_stays (store_at stores k).area ram new_ram size (fits.areas k alive));
+          let area : (store_at new_stores k).area ≡ (store_at stores k).area =
+          ap (λ list. (store_at list k).area) stores_are ∙ same_area stores slot k
+          _ (law.area_after_raise (store_at stores slot) line ram) in
+          subst (λ a. IfSome a (λ at. HoldsRange new_ram at area_size)) (sym area)
+          (area_stays (store_at stores k).area ram new_ram size (fits.areas k alive));
       ready = fits.ready;
     }

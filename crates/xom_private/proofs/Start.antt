@@ -32,11 +32,14 @@ ways_made = length-replicate 128 free_way
 none_mapped : (slot page : ℕ) → frame_of nothing_mapped slot page ≡ None
 unfolding nothing_mapped
 none_mapped slot page = elim (less slot 17) [
-  | inl within ↦ ap (λ p. get_or p page None) (get_or-replicate 17 slot no_pages no_pages within) ∙ frame-none page
-  | inr past ↦ ap (λ p. get_or p page None) (get_or_past (replicate 17 no_pages) slot no_pages past) ∙ frame-none page
+  | inl within ↦ ap (λ p. get_or p page None) (get_or-replicate 17 slot no_pages no_pages within)
+      ∙ frame-none page
+  | inr past ↦ ap (λ p. get_or p page None) (get_or_past (replicate 17 no_pages) slot no_pages past)
+      ∙ frame-none page
 ]
 
-pub fits_at_start : (ram : List ℕ) (stores : List Store) (keys : List GuestKeys) (boot : ℕ) → Fits none_held nothing_mapped no_ways ram stores keys boot
+pub fits_at_start : (ram : List ℕ) (stores : List Store) (keys : List GuestKeys) (boot : ℕ)
+    → Fits none_held nothing_mapped no_ways ram stores keys boot
 fits_at_start ram stores keys boot = record {
   frames = λ slot page frame is. absurd (let none = none_mapped slot page in cc);
   owned = λ slot page frame is. absurd (let none = none_mapped slot page in cc);
@@ -48,6 +51,9 @@ fits_at_start ram stores keys boot = record {
 }
 
 -- the same of what the code has made
-pub fits_fresh : (sessions : List Session) (pages : Pages) (ways : List Way) (ram : List ℕ) (stores : List Store) (keys : List GuestKeys) (boot : ℕ)
-    → sessions ≡ none_held → pages ≡ nothing_mapped → ways ≡ no_ways → Fits sessions pages ways ram stores keys boot
-fits_fresh sessions pages ways ram stores keys boot a b c = rw (a, b, c) (fits_at_start ram stores keys boot)
+pub fits_fresh : (sessions : List Session) (pages : Pages) (ways : List Way) (ram : List ℕ)
+    (stores : List Store) (keys : List GuestKeys) (boot : ℕ)
+    → sessions ≡ none_held → pages ≡ nothing_mapped → ways ≡ no_ways
+    → Fits sessions pages ways ram stores keys boot
+fits_fresh sessions pages ways ram stores keys boot a b c =
+    rw (a, b, c) (fits_at_start ram stores keys boot)

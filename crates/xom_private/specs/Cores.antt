@@ -43,23 +43,27 @@ IsMapped pages slot page = (frame : ℕ) × (frame_of pages slot page ≡ Some f
 abbrev pub FreeAreClean : List Way → Type 0
 FreeAreClean ways = (place : ℕ) → (way_at ways place).slot ≡ 0 → (way_at ways place).dirty ≡ false
 
--- the keys that are made ready for a slot are those of its guest's lines, and of its registers under its epoch
+-- the keys that are made ready for a slot are those of its guest's lines, and of its registers
+-- under its epoch
 pub record Serves (keys : GuestKeys) (boot : ℕ) (s : Session) : Type 0 where
   pub image : keys.image ≡ image_keys s.key s.id
   pub run : keys.run ≡ run_keys s.key boot s.install
   pub registers : keys.registers ≡ register_keys s.key boot s.install s.epoch
 
-pub record Fits (sessions : List Session) (pages : Pages) (ways : List Way) (ram : List ℕ) (stores : List Store) (keys : List GuestKeys) (boot : ℕ) : Type 0 where
+pub record Fits (sessions : List Session) (pages : Pages) (ways : List Way) (ram : List ℕ)
+    (stores : List Store) (keys : List GuestKeys) (boot : ℕ) : Type 0 where
   -- each mapped frame lies in RAM
   pub frames : FramesFit pages ram
   -- a page is mapped only where its slot is live
   pub owned : (slot page frame : ℕ) → frame_of pages slot page ≡ Some frame → IsLiveIn sessions slot
   -- the page of each cached line is mapped
-  pub mapped : (place : ℕ) → (way_at ways place).slot ≢ 0 → IsMapped pages (way_at ways place).slot (page_of (way_at ways place).line)
+  pub mapped : (place : ℕ) → (way_at ways place).slot ≢ 0
+      → IsMapped pages (way_at ways place).slot (page_of (way_at ways place).line)
   pub clean : FreeAreClean ways
   -- the cache has all its places
   pub places : length ways ≡ 128
   -- RAM holds the area of each live slot's store
   pub areas : (slot : ℕ) → IsLiveIn sessions slot → HoldsArea ram (store_at stores slot)
   -- the keys of each live slot's guest are ready
-  pub ready : (slot : ℕ) → IsLiveIn sessions slot → Serves (keys_at keys slot) boot (session_at sessions slot)
+  pub ready : (slot : ℕ) → IsLiveIn sessions slot
+      → Serves (keys_at keys slot) boot (session_at sessions slot)

@@ -1,4 +1,5 @@
--- A line is placed in the order of the code: its way is filled first, and then the line that it pushed out is written back.
+-- A line is placed in the order of the code: its way is filled first, and then the line that it
+-- pushed out is written back.
 use Rattle.std.specs.Prelude.{ℕ, ◌==◌, true, false, Bool, Option, Some, None, List, if◌then◌else◌}
 use Rattle.xom_base.specs.declared.event.Rule.{Rule}
 use Rattle.line_cache.specs.declared.way.Victim.{Victim}
@@ -23,18 +24,23 @@ cache_of core = record { ways = core.ways; pointers = core.pointers }
 
 -- the core with the new line in its way
 unfoldable pub filled : CoreState → ℕ → ℕ → List ℕ → CoreState
-filled core slot line bytes = with_way (with_pointers core line) (place_for core.ways core.pointers line) (new_way slot line bytes)
+filled core slot line bytes =
+    with_way (with_pointers core line) (place_for core.ways core.pointers line)
+    (new_way slot line bytes)
 
--- what the access comes to, where the line that was pushed out was written back, or its slot is to be stopped
+-- what the access comes to, where the line that was pushed out was written back, or its slot is to
+-- be stopped
 abbrev pub settled_by : ℕ → ℕ → ℕ → CoreState → Option Rule → CoreState × Reach
 settled_by slot place who core None = (core, reach.Ready place)
-settled_by slot place who core (Some why) = (after_stop core who why, if who == slot then reach.Stopped why else reach.Ready place)
+settled_by slot place who core (Some why) =
+    (after_stop core who why, if who == slot then reach.Stopped why else reach.Ready place)
 
 module _ (v : Versions) where
   abbrev pub settled : CoreState → ℕ → ℕ → Option Victim → CoreState × Reach
   settled core slot place None = (core, reach.Ready place)
   settled core slot place (Some victim) =
-      settled_by slot place victim.slot (write_back v core victim.slot victim.line victim.bytes).0 (write_back v core victim.slot victim.line victim.bytes).1
+      settled_by slot place victim.slot (write_back v core victim.slot victim.line victim.bytes).0
+      (write_back v core victim.slot victim.line victim.bytes).1
 
 -- an access that stops its slot
 abbrev pub stopped_for : CoreState → ℕ → Rule → CoreState × Reach

@@ -13,12 +13,14 @@ use Rattle.xom_base.proofs.HexLaws.{hex_within-exact}
 use Rattle.xom_script.specs.Fields.{WritesBytes, name_of, row_of, write_bytes_of}
 
 -- a guarded value
-pub holds_some : {A : Type 0} (b : Bool) (x y : A) → cond b (Some x) None ≡ Some y → (b ≡ true) × (Some x ≡ Some y)
+pub holds_some : {A : Type 0} (b : Bool) (x y : A) → cond b (Some x) None ≡ Some y
+    → (b ≡ true) × (Some x ≡ Some y)
 holds_some true x y h = (refl, h)
 holds_some false x y h = absurd (none-some y h)
 
 -- a choice of two
-pub chosen : {A : Type 0} (b : Bool) (x y z : A) → cond b x y ≡ z → ((b ≡ true) × (x ≡ z)) ⊎ ((b ≡ false) × (y ≡ z))
+pub chosen : {A : Type 0} (b : Bool) (x y z : A) → cond b x y ≡ z
+    → ((b ≡ true) × (x ≡ z)) ⊎ ((b ≡ false) × (y ≡ z))
 chosen true x y z h = inl (refl, h)
 chosen false x y z h = inr (refl, h)
 
@@ -27,7 +29,9 @@ pub same_word : (word name : List ℕ) → bytes_eq word name ≡ true → word 
 same_word word name h = (bytes_eq-Decides word name).0 h
 
 -- what holds of the value of each row holds of the value that was found
-pub row_found : {A : Type 0} (P : Type 0) (name : List ℕ) (value : A) (rows : List (List ℕ × Option A)) → row_of rows name ≡ Some value
+pub row_found : {A : Type 0} (P : Type 0) (name : List ℕ) (value : A)
+    (rows : List (List ℕ × Option A))
+    → row_of rows name ≡ Some value
     → AllByRecursion (λ row. name ≡ row.0 → row.1 ≡ Some value → P) rows → P
 row_found P name value [] h each = absurd (none-some value h)
 row_found P name value (row ∷ rows) h each =
@@ -39,7 +43,8 @@ row_found P name value (row ∷ rows) h each =
 -- a list without items
 pub no_items : {A : Type 0} (items : List A) → eqb (length items) 0 ≡ true → items ≡ []
 no_items [] h = refl
-no_items (item ∷ items) h = let none : suc (length items) ≡ 0 = eqb-true (suc (length items)) 0 h in absurd (omega arith)
+no_items (item ∷ items) h =
+    let none : suc (length items) ≡ 0 = eqb-true (suc (length items)) 0 h in absurd (omega arith)
 
 -- ---- file names
 
@@ -49,7 +54,8 @@ name_of-utf8 word utf8 = rw (is_utf8-from_IsUtf8 word utf8) refl
 
 pub name_of-none : (word : List ℕ) → (IsUtf8 word → ⊥) → name_of word ≡ None
 unfolding name_of
-name_of-none word never = rw (false_from_ne_true (is_utf8 word) (λ utf8. never (IsUtf8-from_is_utf8 word utf8))) refl
+name_of-none word never =
+    rw (false_from_ne_true (is_utf8 word) (λ utf8. never (IsUtf8-from_is_utf8 word utf8))) refl
 
 pub name_of-found : (word name : List ℕ) → name_of word ≡ Some name → (word ≡ name) × IsUtf8 name
 unfolding name_of
@@ -66,12 +72,16 @@ some_bytes bytes h = grind (arith, nat_tests)
 has_bytes : (bytes : List ℕ) → 1 ≤ length bytes → not (eqb (length bytes) 0) ≡ true
 has_bytes bytes h = grind (arith, nat_tests)
 
-pub write_bytes_of-exact : (word bytes : List ℕ) → (write_bytes_of word ≡ Some bytes) ↔ WritesBytes word bytes
+pub write_bytes_of-exact : (word bytes : List ℕ)
+    → (write_bytes_of word ≡ Some bytes) ↔ WritesBytes word bytes
 unfolding write_bytes_of
 write_bytes_of-exact word bytes = (
   λ h.
       steps _ (hex_within 8192 word) bytes h (λ read is h.
       let t = holds_some (not (eqb (length read) 0)) read bytes h in
-      subst (WritesBytes word) (same_Some read bytes t.1) ((hex_within-exact 8192 word read).0 is, some_bytes read t.0)),
+      subst (WritesBytes word) (same_Some read bytes t.1) (
+        (hex_within-exact 8192 word read).0 is,
+        some_bytes read t.0,
+      )),
   λ h. rw ((hex_within-exact 8192 word bytes).1 h.0, has_bytes bytes h.1) refl,
 )

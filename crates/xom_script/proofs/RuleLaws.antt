@@ -29,26 +29,32 @@ Keeps (progress.Keyed machine) = Unit {0}
 Keeps (progress.Booted machine boot) = boot < 2 ^ 63
 Keeps (progress.Framed machine boot frames) = (boot < 2 ^ 63) × (4 ≤ frames) × (frames ≤ 8192)
 Keeps (progress.Files draft) = KeepsDraft draft
-Keeps (progress.Kernel draft kernel number) = KeepsDraft draft × HasRoom kernel draft.frames (length draft.guests)
+Keeps (progress.Kernel draft kernel number) =
+    KeepsDraft draft × HasRoom kernel draft.frames (length draft.guests)
 Keeps (progress.Whole file) = KeepsRules file
 
 -- ---- one more of each
 
-all-snoc : {A : Type 0} (P : A → Type 0) (items : List A) (item : A) → AllByRecursion P items → P item → AllByRecursion P (items ++ (item ∷ []))
+all-snoc : {A : Type 0} (P : A → Type 0) (items : List A) (item : A) → AllByRecursion P items
+    → P item → AllByRecursion P (items ++ (item ∷ []))
 all-snoc P [] item all one = (one, tt)
 all-snoc P (first ∷ items) item all one = (all.0, all-snoc P items item all.1 one)
 
-ids-snoc : (owners : List OwnerFile) (owner : OwnerFile) → HasOwnIds owners → IsNewId owner.id owners → HasOwnIds (owners ++ (owner ∷ []))
+ids-snoc : (owners : List OwnerFile) (owner : OwnerFile) → HasOwnIds owners
+    → IsNewId owner.id owners → HasOwnIds (owners ++ (owner ∷ []))
 ids-snoc [] owner own new = (tt, tt)
 ids-snoc (first ∷ owners) owner own new = (
-  all-snoc (λ (other : OwnerFile). other.id.0 ≢ first.id.0) owners owner own.0 (λ same. new.0 (sym same)),
+  all-snoc (λ (other : OwnerFile). other.id.0 ≢ first.id.0) owners owner own.0
+      (λ same. new.0 (sym same)),
   ids-snoc owners owner own.1 new.1,
 )
 
-one_more : {A : Type 0} (items : List A) (item : A) → length items < 16 → length (items ++ (item ∷ [])) ≤ 16
+one_more : {A : Type 0} (items : List A) (item : A) → length items < 16
+    → length (items ++ (item ∷ [])) ≤ 16
 one_more items item few = rw (length-append items (item ∷ [])) (omega arith)
 
-owner-keeps : (draft : Draft) (owner : OwnerFile) → KeepsDraft draft → length draft.owners < 16 → IsNewId owner.id draft.owners → KeepsDraft (with_owner draft owner)
+owner-keeps : (draft : Draft) (owner : OwnerFile) → KeepsDraft draft → length draft.owners < 16
+    → IsNewId owner.id draft.owners → KeepsDraft (with_owner draft owner)
 owner-keeps draft owner keeps few new = record {
   numbers = keeps.numbers;
   owners = one_more draft.owners owner few;
@@ -56,7 +62,8 @@ owner-keeps draft owner keeps few new = record {
   guests = keeps.guests;
 }
 
-guest-keeps : (draft : Draft) (guest : GuestFile) → KeepsDraft draft → length draft.guests < 16 → KeepsDraft (with_guest draft guest)
+guest-keeps : (draft : Draft) (guest : GuestFile) → KeepsDraft draft → length draft.guests < 16
+    → KeepsDraft (with_guest draft guest)
 guest-keeps draft guest keeps few = record {
   numbers = keeps.numbers;
   owners = keeps.owners;
@@ -64,7 +71,8 @@ guest-keeps draft guest keeps few = record {
   guests = one_more draft.guests guest few;
 }
 
-interrupts-keep : (words : List (List ℕ)) (line : Interrupts) → IsInterrupts words line → KeepsInterrupts line
+interrupts-keep : (words : List (List ℕ)) (line : Interrupts) → IsInterrupts words line
+    → KeepsInterrupts line
 interrupts-keep words interrupts.Never is = tt
 interrupts-keep words (interrupts.Every n) is = is.3
 interrupts-keep words (interrupts.At times) is = (is.3, is.4)
@@ -91,35 +99,49 @@ line-keeps before n words (line.Budget budget) after keeps is f =
 line-keeps before n words (line.Owner owner) after keeps is f =
     subst Keeps (sym f.5) (owner-keeps f.0 owner (subst Keeps f.1 keeps) f.3 f.4)
 line-keeps before n words (line.Guest sealed input) after keeps is f =
-    subst Keeps (sym f.3) (guest-keeps f.0 (record { line = n; sealed = sealed; input = input }) (subst Keeps f.1 keeps) f.2)
+    subst Keeps (sym f.3) (guest-keeps f.0 (record { line = n; sealed = sealed; input = input })
+    (subst Keeps f.1 keeps) f.2)
 line-keeps before n words (line.Kernel kernel) after keeps is f =
     let k : KeepsDraft f.0 = subst Keeps f.1 keeps in
     subst Keeps (sym f.3) (k, f.2)
 line-keeps before n words (line.Interrupt interrupts) after keeps is f =
     let k = subst Keeps f.3 keeps in
-    subst Keeps (sym f.4) record { draft = k.0; room = k.1; interrupts = interrupts-keep is.0 interrupts is.2; inside = tt }
+    subst Keeps (sym f.4) record {
+      draft = k.0;
+      room = k.1;
+      interrupts =
+          interrupts-keep is.0 interrupts is.2;
+      inside = tt;
+    }
 line-keeps before n words (line.Poke poke) after keeps is f =
     let k : KeepsRules f.0 = subst Keeps f.1 keeps in
     subst Keeps (sym f.4) record {
       draft = k.draft;
       room = k.room;
       interrupts = k.interrupts;
-      inside = all-snoc (λ (poke : Poke). poke.address + length poke.bytes ≤ f.0.frames * 8192) f.0.schedule.pokes poke k.inside f.3;
+      inside = all-snoc (λ (poke : Poke). poke.address + length poke.bytes ≤ f.0.frames * 8192)
+          f.0.schedule.pokes poke k.inside f.3;
     }
 
-reads-keep : (before : Progress) (n : ℕ) (lines : List (List ℕ)) (rows : List (Unit {0})) (last : Progress)
+reads-keep : (before : Progress) (n : ℕ) (lines : List (List ℕ)) (rows : List (Unit {0}))
+    (last : Progress)
     → Keeps before → Reads RunFormat before n lines rows last → Keeps last
 reads-keep before n [] rows last keeps is = subst Keeps (sym is.1) keeps
-reads-keep before n (text ∷ lines) rows last keeps is = reads-keep is.1 (n + 1) lines is.2 last (row-keeps is.0 is.1 is.3) is.5
+reads-keep before n (text ∷ lines) rows last keeps is = reads-keep is.1 (n + 1) lines is.2 last
+    (row-keeps is.0 is.1 is.3) is.5
   where
-    row-keeps : (value : Option (Unit {0})) (next : Progress) → RunFormat before n text value next → Keeps next
+    row-keeps : (value : Option (Unit {0})) (next : Progress) → RunFormat before n text value next
+        → Keeps next
     row-keeps None next row = subst Keeps (sym row.1) keeps
-    row-keeps (Some value) next row = line-keeps before n (words_of text) row.0 next keeps row.1 row.2
+    row-keeps (Some value) next row =
+        line-keeps before n (words_of text) row.0 next keeps row.1 row.2
 
 pub IsRunFile-keeps : (text : List ℕ) (file : RunFile) → IsRunFile text file → KeepsRules file
-IsRunFile-keeps text file is = reads-keep progress.Start 1 (lines_of text) is.0 (progress.Whole file) tt is.1
+IsRunFile-keeps text file is =
+    reads-keep progress.Start 1 (lines_of text) is.0 (progress.Whole file) tt is.1
 
 -- what is answered keeps the rules
-pub rules_kept : (text : List ℕ) (r : Result RunFile TextFault) → AnswersRead (run_file_at text) r → IfOk r KeepsRules
+pub rules_kept : (text : List ℕ) (r : Result RunFile TextFault) → AnswersRead (run_file_at text) r
+    → IfOk r KeepsRules
 rules_kept text (Ok file) h = IsRunFile-keeps text file ((run_file_at-exact text file).0 h)
 rules_kept text (Err fault) h = tt

@@ -23,13 +23,15 @@ use Rattle.xom_script.proofs.FieldLaws.{chosen, holds_some, row_found, same_word
 -- ---- lines, as they are read
 
 -- what these words write is the line that was found
-given : (words : List (List ℕ)) (found value : ScriptLine) → IsScriptLine words found → Some found ≡ Some value → IsScriptLine words value
+given : (words : List (List ℕ)) (found value : ScriptLine) → IsScriptLine words found
+    → Some found ≡ Some value → IsScriptLine words value
 given words found value is same = subst (IsScriptLine words) (same_Some found value same) is
 
 number32 : (word : List ℕ) (n : ℕ) → number_below_of (2 ^ 32) word ≡ Some n → Writes32 word n
 number32 word n h = (number_below_of-exact (2 ^ 32) word n).0 h
 
-none_found : (name : List ℕ) (value : ScriptLine) → none_of name ≡ Some value → IsScriptLine (name ∷ []) value
+none_found : (name : List ℕ) (value : ScriptLine) → none_of name ≡ Some value
+    → IsScriptLine (name ∷ []) value
 unfolding none_of
 none_found name value h =
     row_found (IsScriptLine (name ∷ []) value) name value rows_of_none h (
@@ -37,26 +39,34 @@ none_found name value h =
       (λ is same. given (name ∷ []) line.Show value (ap (λ name. name ∷ []) is) same, tt),
     )
 
-one_found : (name a : List ℕ) (value : ScriptLine) → one_of name a ≡ Some value → IsScriptLine (name ∷ a ∷ []) value
+one_found : (name a : List ℕ) (value : ScriptLine) → one_of name a ≡ Some value
+    → IsScriptLine (name ∷ a ∷ []) value
 unfolding one_of
 one_found name a value h =
     steps _ (number_below_of (2 ^ 32) a) value h (λ x read h.
     let w = number32 a x read in
     let words = name ∷ a ∷ [] in
     row_found (IsScriptLine words value) name value (rows_of_one x) h (
-      λ is same. given words (line.Do (op.Enter x)) value (a, ap (λ name. name ∷ a ∷ []) is, w) same,
+      λ is same. given words (line.Do (op.Enter x)) value (a, ap (λ name. name ∷ a ∷ []) is, w)
+          same,
       (
-        λ is same. given words (line.Do (op.Kill x)) value (a, ap (λ name. name ∷ a ∷ []) is, w) same,
+        λ is same. given words (line.Do (op.Kill x)) value (a, ap (λ name. name ∷ a ∷ []) is, w)
+            same,
         (
           λ is same.
               let t = holds_some (ltb x 256) (line.Do (op.Out x)) value same in
-              given words (line.Do (op.Out x)) value (a, ap (λ name. name ∷ a ∷ []) is, (w.0, ltb-true x 256 t.0)) t.1,
+              given words (line.Do (op.Out x)) value (
+                a,
+                ap (λ name. name ∷ a ∷ []) is,
+                (w.0, ltb-true x 256 t.0),
+              ) t.1,
           tt,
         ),
       ),
     ))
 
-two_found : (name a b : List ℕ) (value : ScriptLine) → two_of name a b ≡ Some value → IsScriptLine (name ∷ a ∷ b ∷ []) value
+two_found : (name a b : List ℕ) (value : ScriptLine) → two_of name a b ≡ Some value
+    → IsScriptLine (name ∷ a ∷ b ∷ []) value
 unfolding two_of
 two_found name a b value h =
     steps _ (number_below_of (2 ^ 32) a) value h (λ x read_x h.
@@ -65,22 +75,44 @@ two_found name a b value h =
     let v = number32 b y read_y in
     let words = name ∷ a ∷ b ∷ [] in
     row_found (IsScriptLine words value) name value (rows_of_two x y) h (
-      λ is same. given words (line.Do (op.Resume x y)) value (a, b, ap (λ name. name ∷ a ∷ b ∷ []) is, w, v) same,
+      λ is same. given words (line.Do (op.Resume x y)) value (
+        a,
+        b,
+        ap (λ name. name ∷ a ∷ b ∷ [])
+            is,
+        w,
+        v,
+      ) same,
       (
-        λ is same. given words (line.Do (op.Unmap x y)) value (a, b, ap (λ name. name ∷ a ∷ b ∷ []) is, w, v) same,
+        λ is same. given words (line.Do (op.Unmap x y)) value (
+          a,
+          b,
+          ap (λ name. name ∷ a ∷ b ∷ [])
+              is,
+          w,
+          v,
+        ) same,
         (
-          λ is same. given words (line.Do (op.SetReg x y)) value (a, b, ap (λ name. name ∷ a ∷ b ∷ []) is, w, v) same,
+          λ is same. given words (line.Do (op.SetReg x y)) value
+              (a, b, ap (λ name. name ∷ a ∷ b ∷ []) is, w, v) same,
           (
             λ is same.
                 let t = holds_some (ltb y 256) (line.Flip x y) value same in
-                given words (line.Flip x y) value (a, b, ap (λ name. name ∷ a ∷ b ∷ []) is, w, (v.0, ltb-true y 256 t.0)) t.1,
+                given words (line.Flip x y) value (
+                  a,
+                  b,
+                  ap (λ name. name ∷ a ∷ b ∷ []) is,
+                  w,
+                  (v.0, ltb-true y 256 t.0),
+                ) t.1,
             tt,
           ),
         ),
       ),
     )))
 
-three_found : (name a b c : List ℕ) (value : ScriptLine) → three_of name a b c ≡ Some value → IsScriptLine (name ∷ a ∷ b ∷ c ∷ []) value
+three_found : (name a b c : List ℕ) (value : ScriptLine) → three_of name a b c ≡ Some value
+    → IsScriptLine (name ∷ a ∷ b ∷ c ∷ []) value
 unfolding three_of
 three_found name a b c value h =
     steps _ (number_below_of (2 ^ 32) a) value h (λ x read_x h.
@@ -91,19 +123,33 @@ three_found name a b c value h =
     let u = number32 c z read_z in
     let words = name ∷ a ∷ b ∷ c ∷ [] in
     row_found (IsScriptLine words value) name value (rows_of_three x y z) h (
-      λ is same. given words (line.Do (op.Install x y z)) value (a, b, c, ap (λ name. name ∷ a ∷ b ∷ c ∷ []) is, w, v, u) same,
+      λ is same. given words (line.Do (op.Install x y z)) value
+          (a, b, c, ap (λ name. name ∷ a ∷ b ∷ c ∷ []) is, w, v, u) same,
       (
-        λ is same. given words (line.Do (op.Save x y z)) value (a, b, c, ap (λ name. name ∷ a ∷ b ∷ c ∷ []) is, w, v, u) same,
+        λ is same. given words (line.Do (op.Save x y z)) value
+            (a, b, c, ap (λ name. name ∷ a ∷ b ∷ c ∷ []) is, w, v, u) same,
         (
-          λ is same. given words (line.Do (op.Restore x y z)) value (a, b, c, ap (λ name. name ∷ a ∷ b ∷ c ∷ []) is, w, v, u) same,
+          λ is same. given words (line.Do (op.Restore x y z)) value
+              (a, b, c, ap (λ name. name ∷ a ∷ b ∷ c ∷ []) is, w, v, u) same,
           (
-            λ is same. given words (line.Do (op.Map x y z)) value (a, b, c, ap (λ name. name ∷ a ∷ b ∷ c ∷ []) is, w, v, u) same,
+            λ is same. given words (line.Do (op.Map x y z)) value
+                (a, b, c, ap (λ name. name ∷ a ∷ b ∷ c ∷ []) is, w, v, u) same,
             (
               λ is same.
                   let t = holds_some (leb 1 z && leb z 8192) (line.Copy x y z) value same in
                   let range = and_parts (leb 1 z) (leb z 8192) t.0 in
                   let most : z ≤ 8192 = leb-true z 8192 range.1 in
-                  given words (line.Copy x y z) value (a, b, c, ap (λ name. name ∷ a ∷ b ∷ c ∷ []) is, w, v, (u.0, omega arith), leb-true 1 z range.0) t.1,
+                  given words (line.Copy x y z) value (
+                    a,
+                    b,
+                    c,
+                    ap (λ name. name ∷ a ∷ b ∷ c ∷ [])
+                        is,
+                    w,
+                    v,
+                    (u.0, omega arith),
+                    leb-true 1 z range.0,
+                  ) t.1,
               tt,
             ),
           ),
@@ -111,7 +157,8 @@ three_found name a b c value h =
       ),
     ))))
 
-write_found : (a h : List ℕ) (value : ScriptLine) → write_of a h ≡ Some value → IsScriptLine (codes "write" ∷ a ∷ h ∷ []) value
+write_found : (a h : List ℕ) (value : ScriptLine) → write_of a h ≡ Some value
+    → IsScriptLine (codes "write" ∷ a ∷ h ∷ []) value
 unfolding write_of
 write_found a h value is =
     steps _ (number_below_of (2 ^ 32) a) value is (λ address read_a is.
@@ -119,7 +166,8 @@ write_found a h value is =
     given (codes "write" ∷ a ∷ h ∷ []) (line.Write address bytes) value
     (a, h, refl, number32 a address read_a, (write_bytes_of-exact h bytes).0 read_h) same))
 
-line_found : (words : List (List ℕ)) (value : ScriptLine) → script_line_of words ≡ Some value → IsScriptLine words value
+line_found : (words : List (List ℕ)) (value : ScriptLine) → script_line_of words ≡ Some value
+    → IsScriptLine words value
 unfolding script_line_of
 line_found [] value h = absurd (none-some value h)
 line_found (name ∷ []) value h = none_found name value h
@@ -127,7 +175,8 @@ line_found (name ∷ a ∷ []) value h = one_found name a value h
 line_found (name ∷ a ∷ b ∷ []) value h =
     elim (chosen (bytes_eq name (codes "write")) (write_of a b) (two_of name a b) (Some value) h) [
       | inl t ↦
-          subst (λ name. IsScriptLine (name ∷ a ∷ b ∷ []) value) (sym (same_word name (codes "write") t.0)) (write_found a b value t.1)
+          subst (λ name. IsScriptLine (name ∷ a ∷ b ∷ []) value)
+          (sym (same_word name (codes "write") t.0)) (write_found a b value t.1)
       | inr t ↦ two_found name a b value t.1
     ]
 line_found (name ∷ a ∷ b ∷ c ∷ []) value h = three_found name a b c value h
@@ -139,23 +188,28 @@ read32 : (word : List ℕ) (n : ℕ) → Writes32 word n → number_below_of (2 
 read32 word n w = (number_below_of-exact (2 ^ 32) word n).1 w
 
 -- a number below a smaller bound
-read_small : (bound : ℕ) (word : List ℕ) (n : ℕ) → bound ≤ 2 ^ 32 → Writes bound word n → number_below_of (2 ^ 32) word ≡ Some n
+read_small : (bound : ℕ) (word : List ℕ) (n : ℕ) → bound ≤ 2 ^ 32 → Writes bound word n
+    → number_below_of (2 ^ 32) word ≡ Some n
 read_small bound word n small w = let below : n < bound = w.1 in read32 word n (w.0, omega arith)
 
-line_only : (words : List (List ℕ)) (value : ScriptLine) → IsScriptLine words value → script_line_of words ≡ Some value
+line_only : (words : List (List ℕ)) (value : ScriptLine) → IsScriptLine words value
+    → script_line_of words ≡ Some value
 unfolding script_line_of none_of one_of two_of three_of write_of
 line_only words (line.Do (op.Install slot envelope area)) w =
     rw w.3 (rw (read32 w.0 slot w.4, read32 w.1 envelope w.5, read32 w.2 area w.6) refl)
 line_only words (line.Do (op.Enter slot)) w = rw w.1 (rw (read32 w.0 slot w.2) refl)
-line_only words (line.Do (op.Resume slot signal)) w = rw w.2 (rw (read32 w.0 slot w.3, read32 w.1 signal w.4) refl)
+line_only words (line.Do (op.Resume slot signal)) w =
+    rw w.2 (rw (read32 w.0 slot w.3, read32 w.1 signal w.4) refl)
 line_only words (line.Do (op.Save slot reg address)) w =
     rw w.3 (rw (read32 w.0 slot w.4, read32 w.1 reg w.5, read32 w.2 address w.6) refl)
 line_only words (line.Do (op.Restore slot reg address)) w =
     rw w.3 (rw (read32 w.0 slot w.4, read32 w.1 reg w.5, read32 w.2 address w.6) refl)
 line_only words (line.Do (op.Map slot page frame)) w =
     rw w.3 (rw (read32 w.0 slot w.4, read32 w.1 page w.5, read32 w.2 frame w.6) refl)
-line_only words (line.Do (op.Unmap slot page)) w = rw w.2 (rw (read32 w.0 slot w.3, read32 w.1 page w.4) refl)
-line_only words (line.Do (op.SetReg reg value)) w = rw w.2 (rw (read32 w.0 reg w.3, read32 w.1 value w.4) refl)
+line_only words (line.Do (op.Unmap slot page)) w =
+    rw w.2 (rw (read32 w.0 slot w.3, read32 w.1 page w.4) refl)
+line_only words (line.Do (op.SetReg reg value)) w =
+    rw w.2 (rw (read32 w.0 reg w.3, read32 w.1 value w.4) refl)
 line_only words (line.Do (op.Kill slot)) w = rw w.1 (rw (read32 w.0 slot w.2) refl)
 line_only words (line.Do (op.Out byte)) w =
     rw w.1 (rw (read_small 256 w.0 byte (omega arith) w.2, lt-ltb byte 256 w.2.1) refl)
@@ -164,12 +218,24 @@ line_only words (line.Write address bytes) w =
     rw w.2 (rw (read32 w.0 address w.3, (write_bytes_of-exact w.1 bytes).1 w.4) refl)
 line_only words (line.Copy from to count) w =
     let small : count < 8193 = w.6.1 in
-    rw w.3 (rw (read32 w.0 from w.4, read32 w.1 to w.5, read_small 8193 w.2 count (omega arith) w.6, le-leb 1 count w.7, le-leb count 8192 (omega arith)) refl)
+    rw w.3 (rw (
+      read32 w.0 from w.4,
+      read32 w.1 to w.5,
+      read_small 8193 w.2 count (omega arith) w.6,
+      le-leb 1 count w.7,
+      le-leb count 8192 (omega arith),
+    ) refl)
 line_only words (line.Flip address mask) w =
-    rw w.2 (rw (read32 w.0 address w.3, read_small 256 w.1 mask (omega arith) w.4, lt-ltb mask 256 w.4.1) refl)
+    rw w.2 (rw (
+      read32 w.0 address w.3,
+      read_small 256 w.1 mask (omega arith) w.4,
+      lt-ltb mask 256
+          w.4.1,
+    ) refl)
 line_only words line.Show w = rw w refl
 
-pub script_line_of-exact : (words : List (List ℕ)) (value : ScriptLine) → (script_line_of words ≡ Some value) ↔ IsScriptLine words value
+pub script_line_of-exact : (words : List (List ℕ)) (value : ScriptLine)
+    → (script_line_of words ≡ Some value) ↔ IsScriptLine words value
 script_line_of-exact words value = (line_found words value, line_only words value)
 
 no_words : script_line_of [] ≡ None
@@ -190,16 +256,21 @@ abbrev made : Result (List ScriptLine × Unit {0}) ℕ → Result Script ℕ
 made read = made_of (λ lines last. lines) read >>= (λ lines. Ok (script_with lines))
 
 -- the function has a script exactly where the text is this script
-pub script_at-exact : (text : List ℕ) (script : Script) → (script_at text ≡ Ok script) ↔ IsScript text script
+pub script_at-exact : (text : List ℕ) (script : Script)
+    → (script_at text ≡ Ok script) ↔ IsScript text script
 unfolding script_at
 script_at-exact text script = (
   λ h. found (read_from script_step tt 1 (lines_of text)) refl h,
-  λ h. rw (only_reads script_step (Rows IsScriptLine) tells tt 1 (lines_of text) script.lines tt h) refl,
+  λ h. rw (only_reads script_step (Rows IsScriptLine) tells tt 1 (lines_of text) script.lines tt h)
+      refl,
 )
   where
-    found : (read : Result (List ScriptLine × Unit {0}) ℕ) → read_from script_step tt 1 (lines_of text) ≡ read → made read ≡ Ok script → IsScript text script
+    found : (read : Result (List ScriptLine × Unit {0}) ℕ)
+        → read_from script_step tt 1 (lines_of text) ≡ read → made read ≡ Ok script
+        → IsScript text script
     found (Ok read) is h =
-        rw (sym (same_Ok (script_with read.0) script h)) (reads_from script_step (Rows IsScriptLine) tells tt 1 (lines_of text) read.0 read.1 is)
+        rw (sym (same_Ok (script_with read.0) script h)) (reads_from script_step (Rows IsScriptLine)
+        tells tt 1 (lines_of text) read.0 read.1 is)
     found (Err bad) is h = absurd cc
 
 -- and a line exactly where it is the first bad one
@@ -210,10 +281,16 @@ script_at-bad text bad = (
   λ h. rw (only_bad script_step (Rows IsScriptLine) tells tt 1 (lines_of text) bad h) refl,
 )
   where
-    found : (read : Result (List ScriptLine × Unit {0}) ℕ) → read_from script_step tt 1 (lines_of text) ≡ read → made read ≡ Err bad → IsBadScript text bad
+    found : (read : Result (List ScriptLine × Unit {0}) ℕ)
+        → read_from script_step tt 1 (lines_of text) ≡ read → made read ≡ Err bad
+        → IsBadScript text bad
     found (Ok read) is h = absurd cc
     found (Err other) is h =
-        bad_from script_step (Rows IsScriptLine) tells tt 1 (lines_of text) bad (is ∙ ap Err (same_Err other bad h))
+        bad_from script_step (Rows IsScriptLine) tells tt 1 (lines_of text) bad
+        (is ∙ ap Err (same_Err other bad h))
 
-pub script_answers : (text : List ℕ) (r : Result Script TextFault) → AnswersRead (script_at text) r → AnswersText (IsScript text) (IsBadScript text) r
-script_answers text = AnswersText-exact (script_at text) (IsScript text) (IsBadScript text) (script_at-exact text) (λ bad. (script_at-bad text bad).0)
+pub script_answers : (text : List ℕ) (r : Result Script TextFault) → AnswersRead (script_at text) r
+    → AnswersText (IsScript text) (IsBadScript text) r
+script_answers text =
+    AnswersText-exact (script_at text) (IsScript text) (IsBadScript text) (script_at-exact text)
+    (λ bad. (script_at-bad text bad).0)

@@ -11,16 +11,20 @@ use Rattle.xom_script.specs.declared.run_line.RunLine.{RunLine}
 
 -- the words write a line that may stand here, as the line of this number
 abbrev pub IsRunRow : Progress → ℕ → List (List ℕ) → Unit {0} → Progress → Type 0
-IsRunRow before n words value after = (line : RunLine) × IsRunLine words line × Follows before n line after
+IsRunRow before n words value after =
+    (line : RunLine) × IsRunLine words line × Follows before n line after
 
 abbrev pub RunFormat : Format Progress (Unit {0})
 RunFormat = OfWords IsRunRow
 
 -- the text is this run file: its lines, one after another, say what it has
 abbrev pub IsRunFile : List ℕ → RunFile → Type 0
-IsRunFile text file = (rows : List (Unit {0})) × Reads RunFormat progress.Start 1 (lines_of text) rows (progress.Whole file)
+IsRunFile text file =
+    (rows : List (Unit {0}))
+    × Reads RunFormat progress.Start 1 (lines_of text) rows (progress.Whole file)
 
--- the line of this number is the first that may not stand there, or it is missing behind the last one
+-- the line of this number is the first that may not stand there, or it is missing behind the last
+-- one
 abbrev pub IsBadRun : List ℕ → ℕ → Type 0
 IsBadRun text bad = IsFirstBadOf RunFormat IsWhole progress.Start text bad
 
@@ -35,7 +39,8 @@ run_row_of before n words = do
 abbrev pub run_step : LineStep Progress (Unit {0})
 run_step = step_of run_row_of
 
--- the run file that is read, where its text may end, else the line that is missing behind the last one
+-- the run file that is read, where its text may end, else the line that is missing behind the last
+-- one
 abbrev pub whole_file : ℕ → Progress → Result RunFile ℕ
 whole_file missing (progress.Whole file) = Ok file
 whole_file missing progress.Start = Err missing
@@ -51,4 +56,5 @@ run_file_from missing (Err bad) = Err bad
 
 -- the run file that a text is, or its first bad line
 unfoldable pub run_file_at : List ℕ → Result RunFile ℕ
-run_file_at text = run_file_from (1 + length (lines_of text)) (read_from run_step progress.Start 1 (lines_of text))
+run_file_at text =
+    run_file_from (1 + length (lines_of text)) (read_from run_step progress.Start 1 (lines_of text))

@@ -13,7 +13,8 @@ use Rattle.xom_script.specs.declared.run_file.KernelLine.TheVariants as kernel
 use Rattle.xom_script.specs.declared.run_line.RunLine.{RunLine}
 use Rattle.xom_script.specs.declared.run_line.RunLine.TheVariants as line
 
--- the words behind `kernel`: its script, its image, or how many frames for pages a guest of XOMOS has
+-- the words behind `kernel`: its script, its image, or how many frames for pages a guest of XOMOS
+-- has
 abbrev pub IsKernel : List (List ℕ) → KernelLine → Type 0
 IsKernel words (kernel.Script file) = (words ≡ codes "script" ∷ file ∷ []) × IsUtf8 file
 IsKernel words (kernel.Image file) = (words ≡ codes "image" ∷ file ∷ []) × IsUtf8 file
@@ -25,7 +26,8 @@ abbrev pub Ascends : ℕ → List ℕ → Type 0
 Ascends last [] = Unit {0}
 Ascends last (n ∷ ns) = (last < n) × Ascends n ns
 
--- The words behind `interrupt`: a number at least 1 for its multiples, or one number or more, at least 1,
+-- The words behind `interrupt`: a number at least 1 for its multiples, or one number or more, at
+-- least 1,
 -- that ascend strictly.
 abbrev pub IsInterrupts : List (List ℕ) → Interrupts → Type 0
 IsInterrupts words interrupts.Never = words ≡ codes "never" ∷ []
@@ -37,11 +39,14 @@ IsInterrupts words (interrupts.At times) =
 
 -- the words write the line; file names are words in UTF-8
 abbrev pub IsRunLine : List (List ℕ) → RunLine → Type 0
-IsRunLine words (line.Machine key) = (k : List ℕ) × (words ≡ codes "machine" ∷ k ∷ []) × IsHex 32 k key.0
-IsRunLine words (line.Boot boot) = (n : List ℕ) × (words ≡ codes "boot" ∷ n ∷ []) × Writes (2 ^ 63) n boot
+IsRunLine words (line.Machine key) =
+    (k : List ℕ) × (words ≡ codes "machine" ∷ k ∷ []) × IsHex 32 k key.0
+IsRunLine words (line.Boot boot) =
+    (n : List ℕ) × (words ≡ codes "boot" ∷ n ∷ []) × Writes (2 ^ 63) n boot
 IsRunLine words (line.Frames frames) =
     (n : List ℕ) × (words ≡ codes "frames" ∷ n ∷ []) × Writes 8193 n frames × (4 ≤ frames)
-IsRunLine words (line.Budget budget) = (n : List ℕ) × (words ≡ codes "budget" ∷ n ∷ []) × Writes 1048577 n budget
+IsRunLine words (line.Budget budget) =
+    (n : List ℕ) × (words ≡ codes "budget" ∷ n ∷ []) × Writes 1048577 n budget
 IsRunLine words (line.Owner owner) =
     (k i : List ℕ) × (words ≡ codes "owner" ∷ owner.plain ∷ k ∷ i ∷ [])
     × IsUtf8 owner.plain × IsHex 32 k owner.key.0 × IsHex 16 i owner.id.0
@@ -148,7 +153,8 @@ at_of words =
 -- the lines of the interrupt line, by their kind
 abbrev pub interrupt_rows : List (List ℕ) → List (List ℕ × Option RunLine)
 interrupt_rows words =
-    (codes "never", never_of words) ∷ (codes "every", every_of words) ∷ (codes "at", at_of words) ∷ []
+    (codes "never", never_of words) ∷ (codes "every", every_of words) ∷ (codes "at", at_of words)
+    ∷ []
 
 unfoldable pub interrupt_of : List (List ℕ) → Option RunLine
 interrupt_of (kind ∷ words) = row_of (interrupt_rows words) kind

@@ -31,7 +31,8 @@ HasRoom (kernel.Xomos pages) frames guests = guests * (52 + pages) ≤ frames
 
 -- the number of the last event that is a write of the bus, 0 before the first
 abbrev pub last_event : List Poke → ℕ
-last_event pokes = option_map_or (λ (poke : Poke). poke.event) (slice_get pokes (length pokes - 1)) 0
+last_event pokes =
+    option_map_or (λ (poke : Poke). poke.event) (slice_get pokes (length pokes - 1)) 0
 
 -- the write lies inside a RAM of so many frames
 abbrev pub FitsRam : Poke → ℕ → Type 0
@@ -40,9 +41,18 @@ FitsRam poke frames = poke.address + length poke.bytes ≤ frames * 8192
 -- the run so far, before its files
 abbrev pub first_draft : Key256 → ℕ → ℕ → ℕ → Draft
 first_draft machine boot frames budget =
-    record { machine = machine; boot = boot; frames = frames; budget = budget; owners = []; guests = [] }
+    record {
+      machine = machine;
+      boot = boot;
+      frames = frames;
+      budget = budget;
+      owners = [];
+      guests =
+          [];
+    }
 
--- the run of these files, under a kernel that the line of this number names, before its writes of the bus
+-- the run of these files, under a kernel that the line of this number names, before its writes of
+-- the bus
 abbrev pub run_file : Draft → KernelLine → ℕ → Interrupts → RunFile
 run_file draft kernel number interrupts = record {
   machine = draft.machine;
@@ -64,12 +74,21 @@ abbrev pub with_guest : Draft → GuestFile → Draft
 with_guest draft guest = record draft { guests = draft.guests ++ (guest ∷ []) }
 
 abbrev pub with_poke : RunFile → Poke → RunFile
-with_poke file poke = record file { schedule = record { interrupts = file.schedule.interrupts; pokes = file.schedule.pokes ++ (poke ∷ []) } }
+with_poke file poke =
+    record file {
+      schedule = record {
+        interrupts = file.schedule.interrupts;
+        pokes =
+            file.schedule.pokes ++ (poke ∷ []);
+      };
+    }
 
--- What stands after a line, where the lines before it leave this: the line stands in its order, and the
+-- What stands after a line, where the lines before it leave this: the line stands in its order, and
+-- the
 -- rules that speak of earlier lines are kept. The number is that of the line.
 abbrev pub Follows : Progress → ℕ → RunLine → Progress → Type 0
-Follows before n (line.Machine machine) after = (before ≡ progress.Start) × (after ≡ progress.Keyed machine)
+Follows before n (line.Machine machine) after =
+    (before ≡ progress.Start) × (after ≡ progress.Keyed machine)
 Follows before n (line.Boot boot) after =
     (machine : Key256) × (before ≡ progress.Keyed machine) × (after ≡ progress.Booted machine boot)
 Follows before n (line.Frames frames) after =
@@ -84,12 +103,15 @@ Follows before n (line.Owner owner) after =
     × (after ≡ progress.Files (with_owner draft owner))
 Follows before n (line.Guest sealed input) after =
     (draft : Draft) × (before ≡ progress.Files draft) × (length draft.guests < 16)
-    × (after ≡ progress.Files (with_guest draft (record { line = n; sealed = sealed; input = input })))
+    × (after ≡ progress.Files
+    (with_guest draft (record { line = n; sealed = sealed; input = input })))
 Follows before n (line.Kernel kernel) after =
-    (draft : Draft) × (before ≡ progress.Files draft) × HasRoom kernel draft.frames (length draft.guests)
+    (draft : Draft) × (before ≡ progress.Files draft) × HasRoom kernel draft.frames
+    (length draft.guests)
     × (after ≡ progress.Kernel draft kernel n)
 Follows before n (line.Interrupt interrupts) after =
-    (draft : Draft) × (kernel : KernelLine) × (number : ℕ) × (before ≡ progress.Kernel draft kernel number)
+    (draft : Draft) × (kernel : KernelLine) × (number : ℕ)
+    × (before ≡ progress.Kernel draft kernel number)
     × (after ≡ progress.Whole (run_file draft kernel number interrupts))
 Follows before n (line.Poke poke) after =
     (file : RunFile) × (before ≡ progress.Whole file)
@@ -113,7 +135,8 @@ abbrev pub has_id : ImageId → List OwnerFile → Bool
 has_id id owners = list_any (λ (owner : OwnerFile). bytes_eq owner.id.0 id.0) owners
 
 abbrev pub takes_owner : Draft → ImageId → Bool
-takes_owner draft id = (length draft.guests == 0) && (nat_lt (length draft.owners) 16 && not (has_id id draft.owners))
+takes_owner draft id =
+    (length draft.guests == 0) && (nat_lt (length draft.owners) 16 && not (has_id id draft.owners))
 
 abbrev pub has_room : KernelLine → ℕ → ℕ → Bool
 has_room (kernel.Script file) frames guests = true
@@ -124,29 +147,34 @@ abbrev pub fits_ram : Poke → ℕ → Bool
 fits_ram poke frames = nat_le (poke.address + length poke.bytes) (frames * 8192)
 
 abbrev pub takes_poke : RunFile → Poke → Bool
-takes_poke file poke = nat_lt (last_event file.schedule.pokes) poke.event && fits_ram poke file.frames
+takes_poke file poke =
+    nat_lt (last_event file.schedule.pokes) poke.event && fits_ram poke file.frames
 
 -- what may stand after the files of a run
 unfoldable pub after_files : Draft → ℕ → RunLine → Option Progress
-after_files draft n (line.Owner owner) = where_holds (takes_owner draft owner.id) (progress.Files (with_owner draft owner))
+after_files draft n (line.Owner owner) =
+    where_holds (takes_owner draft owner.id) (progress.Files (with_owner draft owner))
 after_files draft n (line.Guest sealed input) =
     where_holds (nat_lt (length draft.guests) 16)
     (progress.Files (with_guest draft (record { line = n; sealed = sealed; input = input })))
 after_files draft n (line.Kernel kernel) =
-    where_holds (has_room kernel draft.frames (length draft.guests)) (progress.Kernel draft kernel n)
+    where_holds (has_room kernel draft.frames (length draft.guests))
+    (progress.Kernel draft kernel n)
 after_files draft n _ = None
 
 -- what stands after a line, or none where it may not stand there
 unfoldable pub after_line : Progress → ℕ → RunLine → Option Progress
 after_line progress.Start n (line.Machine machine) = Some (progress.Keyed machine)
 after_line (progress.Keyed machine) n (line.Boot boot) = Some (progress.Booted machine boot)
-after_line (progress.Booted machine boot) n (line.Frames frames) = Some (progress.Framed machine boot frames)
+after_line (progress.Booted machine boot) n (line.Frames frames) =
+    Some (progress.Framed machine boot frames)
 after_line (progress.Framed machine boot frames) n (line.Budget budget) =
     Some (progress.Files (first_draft machine boot frames budget))
 after_line (progress.Files draft) n next = after_files draft n next
 after_line (progress.Kernel draft kernel number) n (line.Interrupt interrupts) =
     Some (progress.Whole (run_file draft kernel number interrupts))
-after_line (progress.Whole file) n (line.Poke poke) = where_holds (takes_poke file poke) (progress.Whole (with_poke file poke))
+after_line (progress.Whole file) n (line.Poke poke) =
+    where_holds (takes_poke file poke) (progress.Whole (with_poke file poke))
 after_line _ n _ = None
 
 abbrev pub is_whole : Progress → Bool

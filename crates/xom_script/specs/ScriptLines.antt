@@ -43,7 +43,8 @@ IsScriptLine words (line.Copy from to count) =
     (f t n : List ℕ) × (words ≡ codes "copy" ∷ f ∷ t ∷ n ∷ [])
     × Writes32 f from × Writes32 t to × Writes 8193 n count × (1 ≤ count)
 IsScriptLine words (line.Flip address mask) =
-    (a m : List ℕ) × (words ≡ codes "flip" ∷ a ∷ m ∷ []) × Writes32 a address × Writes (2 ^ 8) m mask
+    (a m : List ℕ) × (words ≡ codes "flip" ∷ a ∷ m ∷ []) × Writes32 a address × Writes (2 ^ 8) m
+    mask
 IsScriptLine words line.Show = words ≡ codes "show" ∷ []
 
 -- ---- the same as a function, by the number of words
@@ -110,6 +111,7 @@ write_of address bytes = do
 unfoldable pub script_line_of : List (List ℕ) → Option ScriptLine
 script_line_of (name ∷ []) = none_of name
 script_line_of (name ∷ a ∷ []) = one_of name a
-script_line_of (name ∷ a ∷ b ∷ []) = if bytes_eq name (codes "write") then write_of a b else two_of name a b
+script_line_of (name ∷ a ∷ b ∷ []) =
+    if bytes_eq name (codes "write") then write_of a b else two_of name a b
 script_line_of (name ∷ a ∷ b ∷ c ∷ []) = three_of name a b c
 script_line_of _ = None

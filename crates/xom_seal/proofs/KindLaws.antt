@@ -31,4 +31,5 @@ head_size-positive kind = grind (arith, nat_tests)
 
 pub heads_keep_their_kind : HeadsKeepTheirKind
 unfolding head_of
-heads_keep_their_kind message = get_or-take (head_size (kind_of message)) message 0 0 (head_size-positive (kind_of message))
+heads_keep_their_kind message =
+    get_or-take (head_size (kind_of message)) message 0 0 (head_size-positive (kind_of message))

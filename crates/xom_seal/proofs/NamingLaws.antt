@@ -16,51 +16,73 @@ use Rattle.xom_seal.specs.Messages.{IsRegName, envelope_message, line_message, n
 use Rattle.xom_seal.proofs.Fields.{same_numbers_4, same_numbers_8}
 
 -- a test of two fields is a test of their numbers
-same_test_8 : (n m : ℕ) → n < 2 ^ 64 → m < 2 ^ 64 → bytes_eq (to_be_bytes w64 n) (to_be_bytes w64 m) ≡ (n == m)
+same_test_8 : (n m : ℕ) → n < 2 ^ 64 → m < 2 ^ 64
+    → bytes_eq (to_be_bytes w64 n) (to_be_bytes w64 m) ≡ (n == m)
 same_test_8 n m below other =
     same_from_decides {P = n ≡ m} (bytes_eq (to_be_bytes w64 n) (to_be_bytes w64 m)) (n == m)
-    (Decides-like (bytes_eq (to_be_bytes w64 n) (to_be_bytes w64 m)) (same_numbers_8 n m below other) (ap (λ k. to_be_bytes w64 k)) (bytes_eq-Decides (to_be_bytes w64 n) (to_be_bytes w64 m)))
+    (Decides-like (bytes_eq (to_be_bytes w64 n) (to_be_bytes w64 m))
+    (same_numbers_8 n m below other) (ap (λ k. to_be_bytes w64 k))
+    (bytes_eq-Decides (to_be_bytes w64 n) (to_be_bytes w64 m)))
     (Decides-eqb n m)
 
-same_test_4 : (n m : ℕ) → n < 2 ^ 32 → m < 2 ^ 32 → bytes_eq (to_be_bytes w32 n) (to_be_bytes w32 m) ≡ (n == m)
+same_test_4 : (n m : ℕ) → n < 2 ^ 32 → m < 2 ^ 32
+    → bytes_eq (to_be_bytes w32 n) (to_be_bytes w32 m) ≡ (n == m)
 same_test_4 n m below other =
     same_from_decides {P = n ≡ m} (bytes_eq (to_be_bytes w32 n) (to_be_bytes w32 m)) (n == m)
-    (Decides-like (bytes_eq (to_be_bytes w32 n) (to_be_bytes w32 m)) (same_numbers_4 n m below other) (ap (λ k. to_be_bytes w32 k)) (bytes_eq-Decides (to_be_bytes w32 n) (to_be_bytes w32 m)))
+    (Decides-like (bytes_eq (to_be_bytes w32 n) (to_be_bytes w32 m))
+    (same_numbers_4 n m below other) (ap (λ k. to_be_bytes w32 k))
+    (bytes_eq-Decides (to_be_bytes w32 n) (to_be_bytes w32 m)))
     (Decides-eqb n m)
 
-run_told : (n at boot install line version : ℕ) (ct : List ℕ) → n < 2 ^ 64 → at < 2 ^ 32 → install < 2 ^ 64 → line < 2 ^ 32
-    → names_run_line n at (line_message (Run boot install line version) ct) ≡ ((install == n) && (line == at))
+run_told : (n at boot install line version : ℕ) (ct : List ℕ) → n < 2 ^ 64 → at < 2 ^ 32
+    → install < 2 ^ 64 → line < 2 ^ 32
+    → names_run_line n at (line_message (Run boot install line version) ct) ≡ ((install == n)
+    && (line == at))
 unfolding names_run_line line_message
 run_told n at boot install line version ct n_below at_below install_below line_below =
-    ap (λ same. same && bytes_eq (to_be_bytes w32 line) (to_be_bytes w32 at)) (same_test_8 install n install_below n_below)
+    ap (λ same. same && bytes_eq (to_be_bytes w32 line) (to_be_bytes w32 at))
+    (same_test_8 install n install_below n_below)
     ∙ ap (λ same. (install == n) && same) (same_test_4 line at line_below at_below)
 
-version_told : (boot install line version : ℕ) (ct : List ℕ) → version < 2 ^ 64 → version_in (line_message (Run boot install line version) ct) ≡ version
+version_told : (boot install line version : ℕ) (ct : List ℕ) → version < 2 ^ 64
+    → version_in (line_message (Run boot install line version) ct) ≡ version
 unfolding line_message
 version_told boot install line version ct below = from_be_bytes-to_be_bytes_8 version below
 
-image_none : (n at : ℕ) (id : ImageId) (line : ℕ) (ct : List ℕ) → names_run_line n at (line_message (Image id line) ct) ≡ false
+image_none : (n at : ℕ) (id : ImageId) (line : ℕ) (ct : List ℕ)
+    → names_run_line n at (line_message (Image id line) ct) ≡ false
 unfolding names_run_line line_message
 image_none n at id line ct = refl
 
-register_none : (n at : ℕ) (name : RegName) (ct : List ℕ) → names_run_line n at (register_message name ct) ≡ false
+register_none : (n at : ℕ) (name : RegName) (ct : List ℕ)
+    → names_run_line n at (register_message name ct) ≡ false
 unfolding names_run_line register_message
 register_none n at name ct = refl
 
-envelope_none : (n at : ℕ) (envelope : List ℕ) → names_run_line n at (envelope_message envelope) ≡ false
+envelope_none : (n at : ℕ) (envelope : List ℕ)
+    → names_run_line n at (envelope_message envelope) ≡ false
 unfolding names_run_line envelope_message
 envelope_none n at envelope = refl
 
 pub run_lines_are_told : RunLinesAreTold
-run_lines_are_told = record { run = run_told; version = version_told; image = image_none; register = register_none; envelope = envelope_none }
+run_lines_are_told = record {
+  run = run_told;
+  version = version_told;
+  image = image_none;
+  register =
+      register_none;
+  envelope = envelope_none;
+}
 
 -- ---- Fields of run lines
 
-run_install : (boot install line version : ℕ) (ct : List ℕ) → install < 2 ^ 64 → install_in (line_message (Run boot install line version) ct) ≡ install
+run_install : (boot install line version : ℕ) (ct : List ℕ) → install < 2 ^ 64
+    → install_in (line_message (Run boot install line version) ct) ≡ install
 unfolding line_message
 run_install boot install line version ct below = from_be_bytes-to_be_bytes_8 install below
 
-run_line : (boot install line version : ℕ) (ct : List ℕ) → line < 2 ^ 32 → line_in (line_message (Run boot install line version) ct) ≡ line
+run_line : (boot install line version : ℕ) (ct : List ℕ) → line < 2 ^ 32
+    → line_in (line_message (Run boot install line version) ct) ≡ line
 unfolding line_message
 run_line boot install line version ct below = from_be_bytes-to_be_bytes_4 line below
 
@@ -68,15 +90,18 @@ run_line boot install line version ct below = from_be_bytes-to_be_bytes_4 line b
 other_first : (x y : ℕ) → x ≢ y → bytes_eq (x ∷ []) (y ∷ []) ≡ false
 other_first x y apart =
     elim (cases_Bool (bytes_eq (x ∷ []) (y ∷ []))) [
-      | inl same ↦ absurd (apart (ap (λ text. get_or text 0 0) ((bytes_eq-Decides (x ∷ []) (y ∷ [])).0 same)))
+      | inl same ↦ absurd (apart
+          (ap (λ text. get_or text 0 0) ((bytes_eq-Decides (x ∷ []) (y ∷ [])).0 same)))
       | inr differs ↦ differs
     ]
 
-run_others : (n at : ℕ) (message : List ℕ) → kind_of message ≢ run_line_kind → names_run_line n at message ≡ false
+run_others : (n at : ℕ) (message : List ℕ) → kind_of message ≢ run_line_kind
+    → names_run_line n at message ≡ false
 unfolding names_run_line
 run_others n at [] other = refl
 run_others n at (x ∷ rest) other =
-    ap (λ same. same && (bytes_eq (take 8 (drop 9 (x ∷ rest))) (to_be_bytes w64 n) && bytes_eq (take 4 (drop 17 (x ∷ rest))) (to_be_bytes w32 at)))
+    ap (λ same. same && (bytes_eq (take 8 (drop 9 (x ∷ rest))) (to_be_bytes w64 n)
+    && bytes_eq (take 4 (drop 17 (x ∷ rest))) (to_be_bytes w32 at)))
     (other_first x 2 other)
 
 pub run_fields_are_told : RunFieldsAreTold
@@ -84,11 +109,13 @@ run_fields_are_told = record { install = run_install; line = run_line; others = 
 
 -- ---- Registers
 
-register_install : (name : RegName) (ct : List ℕ) → IsRegName name → install_in (register_message name ct) ≡ name.install
+register_install : (name : RegName) (ct : List ℕ) → IsRegName name
+    → install_in (register_message name ct) ≡ name.install
 unfolding register_message
 register_install name ct named = from_be_bytes-to_be_bytes_8 name.install named.install
 
-register_epoch : (name : RegName) (ct : List ℕ) → IsRegName name → epoch_in (register_message name ct) ≡ name.epoch
+register_epoch : (name : RegName) (ct : List ℕ) → IsRegName name
+    → epoch_in (register_message name ct) ≡ name.epoch
 unfolding register_message
 register_epoch name ct named = from_be_bytes-to_be_bytes_8 name.epoch named.epoch
 
@@ -101,10 +128,12 @@ abbrev are_asked : ℕ → ℕ → ℕ → ℕ → ℕ → ℕ → Bool
 are_asked n e r install epoch reg = (install == n) && ((epoch == e) && (reg == r))
 
 register_named : (n e r : ℕ) (name : RegName) (ct : List ℕ) → IsRegName name
-    → names_register n e r (register_message name ct) ≡ are_asked n e r name.install name.epoch name.reg
+    → names_register n e r (register_message name ct) ≡ are_asked n e r name.install name.epoch
+    name.reg
 unfolding names_register register_message
 register_named n e r name ct named =
-    ap (λ install. are_asked n e r install (epoch_in (register_message name ct)) name.reg) (register_install name ct named)
+    ap (λ install. are_asked n e r install (epoch_in (register_message name ct)) name.reg)
+    (register_install name ct named)
     ∙ ap (λ epoch. are_asked n e r name.install epoch name.reg) (register_epoch name ct named)
 
 other_kind_is_told : (x y : ℕ) → x ≢ y → (x == y) ≡ false
@@ -114,10 +143,12 @@ other_kind_is_told x y apart =
       | inr differs ↦ differs
     ]
 
-register_others : (n e r : ℕ) (message : List ℕ) → kind_of message ≢ register_kind → names_register n e r message ≡ false
+register_others : (n e r : ℕ) (message : List ℕ) → kind_of message ≢ register_kind
+    → names_register n e r message ≡ false
 unfolding names_register
 register_others n e r message other =
-    ap (λ same. same && are_asked n e r (install_in message) (epoch_in message) (register_in message))
+    ap (λ same. same && are_asked n e r (install_in message) (epoch_in message)
+    (register_in message))
     (other_kind_is_told (kind_of message) register_kind other)
 
 pub registers_are_told : RegistersAreTold

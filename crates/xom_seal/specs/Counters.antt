@@ -1,4 +1,5 @@
--- Counter blocks: what AES enciphers to give the bytes that a plain text is masked with. The layout is this project's own.
+-- Counter blocks: what AES enciphers to give the bytes that a plain text is masked with. The layout
+-- is this project's own.
 use Rattle.std.specs.Prelude.{ℕ, List, ◌∷◌, ◌++◌}
 use Rattle.std.specs.Int.{w32, w64, to_be_bytes}
 use Rattle.xom_seal.specs.declared.names.LineName.{LineName}
@@ -7,7 +8,8 @@ use Rattle.xom_seal.specs.declared.names.RegName.{RegName}
 
 -- domain (1 byte), block (1), two zero bytes, line or register (4), version or epoch (8)
 unfoldable pub counter_block : ℕ → ℕ → ℕ → ℕ → List ℕ
-counter_block domain block place version = domain ∷ block ∷ 0 ∷ 0 ∷ (to_be_bytes w32 place ++ to_be_bytes w64 version)
+counter_block domain block place version = domain ∷ block ∷ 0 ∷ 0
+    ∷ (to_be_bytes w32 place ++ to_be_bytes w64 version)
 
 -- domain 1 for image lines, whose version is 1, and 2 for run lines
 abbrev pub line_counter : LineName → ℕ → List ℕ

@@ -1,4 +1,5 @@
--- Envelopes: what a machine must know of an image before it can install it, 88 bytes: id (16), entry (4), lines (4), wrapped key (32), tag (32). The format is this project's own.
+-- Envelopes: what a machine must know of an image before it can install it, 88 bytes: id (16),
+-- entry (4), lines (4), wrapped key (32), tag (32). The format is this project's own.
 use Rattle.std.specs.Prelude.{ℕ, List, ◌++◌, Option, Some, None, drop, if◌then◌else◌, take}
 use Rattle.std.specs.Int.{w32, from_be_bytes, to_be_bytes}
 use Rattle.std.specs.Str.{bytes_eq}
@@ -15,7 +16,8 @@ use Rattle.xom_seal.specs.Sealing.{xored}
 
 -- all the fields before the tag: id, entry, lines, wrapped key
 unfoldable pub envelope_fields : List ℕ → ℕ → ℕ → List ℕ → List ℕ
-envelope_fields id entry lines wrapped = id ++ (to_be_bytes w32 entry ++ (to_be_bytes w32 lines ++ wrapped))
+envelope_fields id entry lines wrapped =
+    id ++ (to_be_bytes w32 entry ++ (to_be_bytes w32 lines ++ wrapped))
 
 -- the same, read from an envelope
 abbrev pub id_in : List ℕ → List ℕ
@@ -38,7 +40,8 @@ tag_in envelope = take 32 (drop 56 envelope)
 -- the 32 bytes that an image key is masked with in the envelope of this id
 unfoldable pub envelope_pad : Key256 → List ℕ → List ℕ
 envelope_pad machine id =
-    aes128 (envelope_aes_key machine.0 id) (envelope_counter 0) ++ aes128 (envelope_aes_key machine.0 id) (envelope_counter 1)
+    aes128 (envelope_aes_key machine.0 id) (envelope_counter 0)
+    ++ aes128 (envelope_aes_key machine.0 id) (envelope_counter 1)
 
 -- an image key masked, which takes the key to the wrapped key and back
 unfoldable pub key_masked : Key256 → List ℕ → List ℕ → List ℕ
@@ -50,7 +53,8 @@ envelope_tag machine envelope = hmac_sha256 machine.0 (envelope_message envelope
 
 -- the fields of an envelope for an image
 abbrev pub fields_of : Key256 → Unwrapped → List ℕ
-fields_of machine plain = envelope_fields plain.id.0 plain.entry plain.lines (key_masked machine plain.id.0 plain.key.0)
+fields_of machine plain =
+    envelope_fields plain.id.0 plain.entry plain.lines (key_masked machine plain.id.0 plain.key.0)
 
 -- the envelope for an image
 unfoldable pub wrapped : Key256 → Unwrapped → List ℕ
@@ -68,4 +72,5 @@ contents_of machine envelope = record {
 -- the same of an envelope whose tag is right
 abbrev pub unwrapped : Key256 → List ℕ → Option Unwrapped
 unwrapped machine envelope =
-    if bytes_eq (tag_in envelope) (envelope_tag machine envelope) then Some (contents_of machine envelope) else None
+    if bytes_eq (tag_in envelope) (envelope_tag machine envelope)
+    then Some (contents_of machine envelope) else None

@@ -1,4 +1,6 @@
--- What whoever rests on seals may know of them: each message tells its kind, its name and its ciphertext, no counter block serves two names of one image or one install, and what was sealed opens.
+-- What whoever rests on seals may know of them: each message tells its kind, its name and its
+-- ciphertext, no counter block serves two names of one image or one install, and what was sealed
+-- opens.
 use Rattle.std.specs.Prelude.{ℕ, ◌≡◌, ◌≢◌, ◌^◌, ◌<◌, ◌==◌, ◌&&◌, false, List, length, Some, take}
 use Rattle.xom_base.specs.declared.key.ImageId.{ImageId}
 use Rattle.xom_base.specs.declared.key.Key256.{Key256}
@@ -30,13 +32,15 @@ RegisterMessagesTell =
 
 -- equal messages of envelopes are of the same bytes before the tag
 abbrev pub EnvelopeMessagesTell : Type 0
-EnvelopeMessagesTell = (a b : List ℕ) → envelope_message a ≡ envelope_message b → take 56 a ≡ take 56 b
+EnvelopeMessagesTell =
+    (a b : List ℕ) → envelope_message a ≡ envelope_message b → take 56 a ≡ take 56 b
 
 -- and these tell each field
 abbrev pub EnvelopeFieldsTell : Type 0
 EnvelopeFieldsTell =
     (id id' : List ℕ) (entry entry' lines lines' : ℕ) (key key' : List ℕ)
-    → length id ≡ 16 → length id' ≡ 16 → entry < 2 ^ 32 → entry' < 2 ^ 32 → lines < 2 ^ 32 → lines' < 2 ^ 32
+    → length id ≡ 16 → length id' ≡ 16 → entry < 2 ^ 32 → entry' < 2 ^ 32 → lines < 2 ^ 32
+    → lines' < 2 ^ 32
     → envelope_fields id entry lines key ≡ envelope_fields id' entry' lines' key'
     → (id ≡ id') × (entry ≡ entry') × (lines ≡ lines') × (key ≡ key')
 
@@ -46,7 +50,8 @@ pub record KindsDiffer : Type 0 where
       → line_message (Image id place) ct ≢ line_message (Run boot install line version) other
   pub line_register : (line : LineName) (register : RegName) (ct other : List ℕ)
       → line_message line ct ≢ register_message register other
-  pub line_envelope : (line : LineName) (ct envelope : List ℕ) → line_message line ct ≢ envelope_message envelope
+  pub line_envelope : (line : LineName) (ct envelope : List ℕ)
+      → line_message line ct ≢ envelope_message envelope
   pub register_envelope : (register : RegName) (ct envelope : List ℕ)
       → register_message register ct ≢ envelope_message envelope
 
@@ -56,18 +61,26 @@ pub record MessageLengths : Type 0 where
       → length (line_message (Image id line) ct) ≡ 53
   pub run_line : (boot install line version : ℕ) (ct : List ℕ) → length ct ≡ 32
       → length (line_message (Run boot install line version) ct) ≡ 61
-  pub register : (name : RegName) (ct : List ℕ) → length ct ≡ 4 → length (register_message name ct) ≡ 30
-  pub envelope : (envelope : List ℕ) → length envelope ≡ 88 → length (envelope_message envelope) ≡ 57
+  pub register : (name : RegName) (ct : List ℕ) → length ct ≡ 4
+      → length (register_message name ct) ≡ 30
+  pub envelope : (envelope : List ℕ) → length envelope ≡ 88
+      → length (envelope_message envelope) ≡ 57
 
--- Whether a message is of a run line of this install and line, and of which version, is read from its fields.
+-- Whether a message is of a run line of this install and line, and of which version, is read from
+-- its fields.
 pub record RunLinesAreTold : Type 0 where
-  pub run : (n at boot install line version : ℕ) (ct : List ℕ) → n < 2 ^ 64 → at < 2 ^ 32 → install < 2 ^ 64 → line < 2 ^ 32
-      → names_run_line n at (line_message (Run boot install line version) ct) ≡ ((install == n) && (line == at))
+  pub run : (n at boot install line version : ℕ) (ct : List ℕ) → n < 2 ^ 64 → at < 2 ^ 32
+      → install < 2 ^ 64 → line < 2 ^ 32
+      → names_run_line n at (line_message (Run boot install line version) ct) ≡ ((install == n)
+      && (line == at))
   pub version : (boot install line version : ℕ) (ct : List ℕ) → version < 2 ^ 64
       → version_in (line_message (Run boot install line version) ct) ≡ version
-  pub image : (n at : ℕ) (id : ImageId) (line : ℕ) (ct : List ℕ) → names_run_line n at (line_message (Image id line) ct) ≡ false
-  pub register : (n at : ℕ) (name : RegName) (ct : List ℕ) → names_run_line n at (register_message name ct) ≡ false
-  pub envelope : (n at : ℕ) (envelope : List ℕ) → names_run_line n at (envelope_message envelope) ≡ false
+  pub image : (n at : ℕ) (id : ImageId) (line : ℕ) (ct : List ℕ)
+      → names_run_line n at (line_message (Image id line) ct) ≡ false
+  pub register : (n at : ℕ) (name : RegName) (ct : List ℕ)
+      → names_run_line n at (register_message name ct) ≡ false
+  pub envelope : (n at : ℕ) (envelope : List ℕ)
+      → names_run_line n at (envelope_message envelope) ≡ false
 
 -- ---- Counter blocks
 
@@ -79,13 +92,16 @@ CounterBlocksTell =
     → counter_block domain block place version ≡ counter_block domain' block' place' version'
     → (domain ≡ domain') × (block ≡ block') × (place ≡ place') × (version ≡ version')
 
--- two names of lines have the same counter blocks: those of an image have the same line, those of an install the same line and version
+-- two names of lines have the same counter blocks: those of an image have the same line, those of
+-- an install the same line and version
 abbrev pub SharesCounters : LineName → LineName → Type 0
 SharesCounters (Image id line) (Image id' line') = line ≡ line'
-SharesCounters (Run boot install line version) (Run boot' install' line' version') = (line ≡ line') × (version ≡ version')
+SharesCounters (Run boot install line version) (Run boot' install' line' version') =
+    (line ≡ line') × (version ≡ version')
 SharesCounters a b = ⊥
 
--- So no counter block serves two lines of an image, two lines or versions of an install, or both halves of a line.
+-- So no counter block serves two lines of an image, two lines or versions of an install, or both
+-- halves of a line.
 abbrev pub LineCountersTell : Type 0
 LineCountersTell =
     (a b : LineName) (i j : ℕ) → IsLineName a → IsLineName b
@@ -101,9 +117,11 @@ RegisterCountersTell =
 pub record CounterKindsDiffer : Type 0 where
   pub image_run : (id : ImageId) (place boot install line version i j : ℕ)
       → line_counter (Image id place) i ≢ line_counter (Run boot install line version) j
-  pub line_register : (line : LineName) (register : RegName) (i : ℕ) → line_counter line i ≢ register_counter register
+  pub line_register : (line : LineName) (register : RegName) (i : ℕ)
+      → line_counter line i ≢ register_counter register
   pub line_envelope : (line : LineName) (i j : ℕ) → line_counter line i ≢ envelope_counter j
-  pub register_envelope : (register : RegName) (j : ℕ) → register_counter register ≢ envelope_counter j
+  pub register_envelope : (register : RegName) (j : ℕ)
+      → register_counter register ≢ envelope_counter j
 
 -- ---- Sealing and unsealing
 
@@ -116,7 +134,8 @@ LinesOpen =
 -- a line that opens is the sealing of its plain bytes
 abbrev pub LinesAreSealings : Type 0
 LinesAreSealings =
-    (name : LineName) (keys : LineKeys) (sealed : SealedLine) (plain : List ℕ) → length sealed.ct ≡ 32
+    (name : LineName) (keys : LineKeys) (sealed : SealedLine) (plain : List ℕ)
+    → length sealed.ct ≡ 32
     → unsealed_line name keys sealed ≡ Some plain → sealed ≡ sealed_line name keys plain
 
 -- a sealed register opens to its value
@@ -135,7 +154,8 @@ pub record IsUnwrapped (plain : Unwrapped) : Type 0 where
 -- an envelope opens to what was wrapped
 abbrev pub EnvelopesOpen : Type 0
 EnvelopesOpen =
-    (machine : Key256) (plain : Unwrapped) → IsUnwrapped plain → unwrapped machine (wrapped machine plain) ≡ Some plain
+    (machine : Key256) (plain : Unwrapped) → IsUnwrapped plain → unwrapped machine
+    (wrapped machine plain) ≡ Some plain
 
 -- what the envelope for an image shows to everybody, and its size
 pub record Shows (envelope : List ℕ) (plain : Unwrapped) : Type 0 where
@@ -145,10 +165,12 @@ pub record Shows (envelope : List ℕ) (plain : Unwrapped) : Type 0 where
   pub lines : lines_in envelope ≡ plain.lines
 
 abbrev pub EnvelopesShow : Type 0
-EnvelopesShow = (machine : Key256) (plain : Unwrapped) → IsUnwrapped plain → Shows (wrapped machine plain) plain
+EnvelopesShow =
+    (machine : Key256) (plain : Unwrapped) → IsUnwrapped plain → Shows (wrapped machine plain) plain
 
 -- a sealed line has 32 bytes of ciphertext and 32 of tag
 abbrev pub SealedLinesHaveTheirLength : Type 0
 SealedLinesHaveTheirLength =
     (name : LineName) (keys : LineKeys) (plain : List ℕ) → length plain ≡ 32
-    → (length (sealed_line name keys plain).ct ≡ 32) × (length (sealed_line name keys plain).tag ≡ 32)
+    → (length (sealed_line name keys plain).ct ≡ 32)
+    × (length (sealed_line name keys plain).tag ≡ 32)

@@ -16,15 +16,19 @@ use Rattle.xom_seal.specs.Readers.{envelope_kind, epoch_in, head_of, image_line_
 
 -- Each message tells its kind.
 pub record MessageKindsAreTold : Type 0 where
-  pub image_line : (id : ImageId) (line : ℕ) (ct : List ℕ) → kind_of (line_message (Image id line) ct) ≡ image_line_kind
-  pub run_line : (boot install line version : ℕ) (ct : List ℕ) → kind_of (line_message (Run boot install line version) ct) ≡ run_line_kind
+  pub image_line : (id : ImageId) (line : ℕ) (ct : List ℕ)
+      → kind_of (line_message (Image id line) ct) ≡ image_line_kind
+  pub run_line : (boot install line version : ℕ) (ct : List ℕ)
+      → kind_of (line_message (Run boot install line version) ct) ≡ run_line_kind
   pub register : (name : RegName) (ct : List ℕ) → kind_of (register_message name ct) ≡ register_kind
   pub envelope : (envelope : List ℕ) → kind_of (envelope_message envelope) ≡ envelope_kind
 
 -- So does each counter block.
 pub record CounterKindsAreTold : Type 0 where
-  pub image_line : (id : ImageId) (line i : ℕ) → kind_of (line_counter (Image id line) i) ≡ image_line_kind
-  pub run_line : (boot install line version i : ℕ) → kind_of (line_counter (Run boot install line version) i) ≡ run_line_kind
+  pub image_line : (id : ImageId) (line i : ℕ)
+      → kind_of (line_counter (Image id line) i) ≡ image_line_kind
+  pub run_line : (boot install line version i : ℕ)
+      → kind_of (line_counter (Run boot install line version) i) ≡ run_line_kind
   pub register : (name : RegName) → kind_of (register_counter name) ≡ register_kind
   pub envelope : (i : ℕ) → kind_of (envelope_counter i) ≡ envelope_kind
 
@@ -40,17 +44,23 @@ pub record RunFieldsAreTold : Type 0 where
       → install_in (line_message (Run boot install line version) ct) ≡ install
   pub line : (boot install line version : ℕ) (ct : List ℕ) → line < 2 ^ 32
       → line_in (line_message (Run boot install line version) ct) ≡ line
-  pub others : (n at : ℕ) (message : List ℕ) → kind_of message ≢ run_line_kind → names_run_line n at message ≡ false
+  pub others : (n at : ℕ) (message : List ℕ) → kind_of message ≢ run_line_kind
+      → names_run_line n at message ≡ false
 
--- Whether a message is of a register of this install, epoch and number is read from its fields, and no other
+-- Whether a message is of a register of this install, epoch and number is read from its fields, and
+-- no other
 -- kind names a register.
 pub record RegistersAreTold : Type 0 where
-  pub install : (name : RegName) (ct : List ℕ) → IsRegName name → install_in (register_message name ct) ≡ name.install
-  pub epoch : (name : RegName) (ct : List ℕ) → IsRegName name → epoch_in (register_message name ct) ≡ name.epoch
+  pub install : (name : RegName) (ct : List ℕ) → IsRegName name
+      → install_in (register_message name ct) ≡ name.install
+  pub epoch : (name : RegName) (ct : List ℕ) → IsRegName name
+      → epoch_in (register_message name ct) ≡ name.epoch
   pub reg : (name : RegName) (ct : List ℕ) → register_in (register_message name ct) ≡ name.reg
   pub named : (n e r : ℕ) (name : RegName) (ct : List ℕ) → IsRegName name
-      → names_register n e r (register_message name ct) ≡ ((name.install == n) && ((name.epoch == e) && (name.reg == r)))
-  pub others : (n e r : ℕ) (message : List ℕ) → kind_of message ≢ register_kind → names_register n e r message ≡ false
+      → names_register n e r (register_message name ct) ≡ ((name.install == n)
+      && ((name.epoch == e) && (name.reg == r)))
+  pub others : (n e r : ℕ) (message : List ℕ) → kind_of message ≢ register_kind
+      → names_register n e r message ≡ false
 
 -- ---- Heads
 
@@ -92,7 +102,8 @@ RegisterHeadsTell =
 -- two names of lines have the same keys: they are of one image, or of one install
 abbrev pub ShareKeys : LineName → LineName → Type 0
 ShareKeys (Image id line) (Image id' line') = id ≡ id'
-ShareKeys (Run boot install line version) (Run boot' install' line' version') = (boot ≡ boot') × (install ≡ install')
+ShareKeys (Run boot install line version) (Run boot' install' line' version') =
+    (boot ≡ boot') × (install ≡ install')
 ShareKeys a b = ⊥
 
 -- equal counter blocks of lines with the same keys are of one name and one half of the line

@@ -20,10 +20,12 @@ RegistersAreSealings =
 -- an envelope that opens is the wrapping of what it says
 abbrev pub EnvelopesAreWrappings : Type 0
 EnvelopesAreWrappings =
-    (machine : Key256) (envelope : List ℕ) (plain : Unwrapped) → length envelope ≡ 88 → AreBytes envelope
+    (machine : Key256) (envelope : List ℕ) (plain : Unwrapped) → length envelope ≡ 88
+    → AreBytes envelope
     → unwrapped machine envelope ≡ Some plain → envelope ≡ wrapped machine plain
 
 -- equal messages of envelopes have equal contents, whatever their tags
 abbrev pub EnvelopeMessagesTellContents : Type 0
 EnvelopeMessagesTellContents =
-    (machine : Key256) (a b : List ℕ) → envelope_message a ≡ envelope_message b → contents_of machine a ≡ contents_of machine b
+    (machine : Key256) (a b : List ℕ) → envelope_message a ≡ envelope_message b
+    → contents_of machine a ≡ contents_of machine b

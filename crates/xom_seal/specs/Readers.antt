@@ -1,4 +1,5 @@
--- What a message tells of itself, read from its bytes. The readers are exact on every message that the machine or an owner makes; of other texts nothing is said.
+-- What a message tells of itself, read from its bytes. The readers are exact on every message that
+-- the machine or an owner makes; of other texts nothing is said.
 use Rattle.std.specs.Prelude.{ℕ, Bool, ◌==◌, ◌&&◌, List, drop, if◌then◌else◌, slice_index, take}
 use Rattle.std.specs.Int.{w64, w32, from_be_bytes}
 
@@ -38,11 +39,13 @@ epoch_in message = from_be_bytes w64 (take 8 (drop 17 message))
 abbrev pub register_in : List ℕ → ℕ
 register_in message = slice_index message 25
 
--- the message is of this register of this install under this epoch, whatever its boot and ciphertext
+-- the message is of this register of this install under this epoch, whatever its boot and
+-- ciphertext
 unfoldable pub names_register : ℕ → ℕ → ℕ → List ℕ → Bool
 names_register install epoch reg message =
     (kind_of message == register_kind)
-    && ((install_in message == install) && ((epoch_in message == epoch) && (register_in message == reg)))
+    && ((install_in message == install)
+    && ((epoch_in message == epoch) && (register_in message == reg)))
 
 -- ---- Heads
 

@@ -1,4 +1,5 @@
--- Sealed lines and registers: the ciphertext is the plain bytes xor what AES-128 makes of the counter blocks, the tag is HMAC of the message. The formats are this project's own.
+-- Sealed lines and registers: the ciphertext is the plain bytes xor what AES-128 makes of the
+-- counter blocks, the tag is HMAC of the message. The formats are this project's own.
 use Rattle.std.specs.Prelude.{ℕ, List, [], ◌∷◌, ◌++◌, Option, Some, None, bit_xor, if◌then◌else◌, take}
 use Rattle.std.specs.Int.{w32, from_be_bytes, to_be_bytes}
 use Rattle.std.specs.Str.{bytes_eq}
@@ -24,9 +25,11 @@ xored xs ys = []
 
 -- the 32 bytes that a line is masked with: the results of blocks 0 and 1
 unfoldable pub line_pad : LineName → LineKeys → List ℕ
-line_pad name keys = aes128 keys.aes.0 (line_counter name 0) ++ aes128 keys.aes.0 (line_counter name 1)
+line_pad name keys =
+    aes128 keys.aes.0 (line_counter name 0) ++ aes128 keys.aes.0 (line_counter name 1)
 
--- a line's bytes masked, which takes plain bytes to the ciphertext and the ciphertext to plain bytes
+-- a line's bytes masked, which takes plain bytes to the ciphertext and the ciphertext to plain
+-- bytes
 unfoldable pub line_masked : LineName → LineKeys → List ℕ → List ℕ
 line_masked name keys bytes = xored bytes (line_pad name keys)
 
@@ -44,11 +47,16 @@ sealed_line name keys plain = record {
 -- the plain bytes of a line whose tag is that of its ciphertext
 abbrev pub unsealed_line : LineName → LineKeys → SealedLine → Option (List ℕ)
 unsealed_line name keys sealed =
-    if bytes_eq sealed.tag (line_tag name keys sealed.ct) then Some (line_masked name keys sealed.ct) else None
+    if bytes_eq sealed.tag (line_tag name keys sealed.ct)
+    then Some (line_masked name keys sealed.ct) else None
 
 -- what a line with this ciphertext gives where it opens: its plain bytes and its message
 abbrev pub line_opening : LineName → LineKeys → List ℕ → LineOpening
-line_opening name keys ct = record { plain = line_masked name keys ct; message = line_message name ct }
+line_opening name keys ct = record {
+  plain = line_masked name keys ct;
+  message =
+      line_message name ct;
+}
 
 -- ---- Registers
 
@@ -74,8 +82,12 @@ sealed_register name keys value = record {
 -- the value of a register whose tag is that of its ciphertext
 abbrev pub unsealed_register : RegName → RegisterKeys → SealedReg → Option ℕ
 unsealed_register name keys sealed =
-    if bytes_eq sealed.tag (register_tag name keys sealed.ct) then Some (from_be_bytes w32 (register_masked name keys sealed.ct)) else None
+    if bytes_eq sealed.tag (register_tag name keys sealed.ct)
+    then Some (from_be_bytes w32 (register_masked name keys sealed.ct)) else None
 
 -- what a register with this ciphertext gives where it opens: its value and its message
 abbrev pub register_opening : RegName → RegisterKeys → List ℕ → RegisterOpening
-register_opening name keys ct = record { value = from_be_bytes w32 (register_masked name keys ct); message = register_message name ct }
+register_opening name keys ct = record {
+  value = from_be_bytes w32 (register_masked name keys ct);
+  message = register_message name ct;
+}

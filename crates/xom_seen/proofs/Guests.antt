@@ -39,7 +39,8 @@ abbrev pub outcome_by : Option Cause → Outcome
 outcome_by None = outcome.Went
 outcome_by (Some why) = outcome.Left why
 
-module _ (v : Versions) (raised : Raised) (law : RaisesInTheOpen v raised) (before : CoreState) (ready : Bool) (slot : ℕ) (some : (slot == 0) ≡ false) (low : slot < 17) where
+module _ (v : Versions) (raised : Raised) (law : RaisesInTheOpen v raised) (before : CoreState)
+    (ready : Bool) (slot : ℕ) (some : (slot == 0) ≡ false) (low : slot < 17) where
   abbrev Knew : CoreState → Type 0
   Knew core = Knows v raised law before ready slot 0 core
 
@@ -62,55 +63,96 @@ module _ (v : Versions) (raised : Raised) (law : RaisesInTheOpen v raised) (befo
     pub signals : List Signal
     pub entries : new.entries ≡ base.entries ++ added
     pub gives : Knew base → GiveAll before.sessions ready added signals
-    pub sight : Knew base → sight_of new ≡ left_seen (by_signals (sight_of base) signals) slot (outcome_by why)
+    pub sight : Knew base
+        → sight_of new ≡ left_seen (by_signals (sight_of base) signals) slot (outcome_by why)
 
-  ends_close : (base mid new : CoreState) (why : Option Cause) → Tells v raised law before ready slot 0 base mid → Closes mid new why → Ends base new why
+  ends_close : (base mid new : CoreState) (why : Option Cause)
+      → Tells v raised law before ready slot 0 base mid → Closes mid new why → Ends base new why
   ends_close base mid new why first last = record {
     added = first.added ++ last.added;
     signals = first.signals;
-    entries = last.entries ∙ ap (λ es. es ++ last.added) first.entries ∙ append_assoc base.entries first.added last.added;
+    entries = last.entries ∙ ap (λ es. es ++ last.added) first.entries ∙ append_assoc base.entries
+        first.added last.added;
     gives = λ knows.
-        subst (λ told. GiveAll before.sessions ready (first.added ++ last.added) told) (append-nil first.signals)
-        (give-append before.sessions ready first.added last.added first.signals [] (first.gives knows) last.quiet);
+        subst (λ told. GiveAll before.sessions ready (first.added ++ last.added) told)
+        (append-nil first.signals)
+        (give-append before.sessions ready first.added last.added first.signals []
+        (first.gives knows) last.quiet);
     sight = λ knows. last.sight ∙ ap (λ s. left_seen s slot (outcome_by why)) (first.sight knows);
   }
 
-  ends_then : (base mid new : CoreState) (why : Option Cause) → Shown base mid → Ends mid new why → Ends base new why
+  ends_then : (base mid new : CoreState) (why : Option Cause) → Shown base mid → Ends mid new why
+      → Ends base new why
   ends_then base mid new why first second =
       let one = first.tells in
       record {
         added = one.added ++ second.added;
         signals = one.signals ++ second.signals;
-        entries = second.entries ∙ ap (λ es. es ++ second.added) one.entries ∙ append_assoc base.entries one.added second.added;
-        gives = λ knows. give-append before.sessions ready one.added second.added one.signals second.signals (one.gives knows) (second.gives (first.knows knows));
+        entries = second.entries ∙ ap (λ es. es ++ second.added) one.entries
+            ∙ append_assoc base.entries one.added second.added;
+        gives = λ knows. give-append before.sessions ready one.added second.added one.signals
+            second.signals (one.gives knows) (second.gives (first.knows knows));
         sight = λ knows.
             second.sight (first.knows knows)
-            ∙ ap (λ s. left_seen (by_signals s second.signals) slot (outcome_by why)) (one.sight knows)
-            ∙ ap (λ s. left_seen s slot (outcome_by why)) (sym (after_signals-append v raised slot 0 (sight_of base) one.signals second.signals));
+            ∙ ap (λ s. left_seen (by_signals s second.signals) slot (outcome_by why))
+            (one.sight knows)
+            ∙ ap (λ s. left_seen s slot (outcome_by why))
+            (sym (after_signals-append v raised slot 0 (sight_of base) one.signals
+            second.signals));
       }
 
   ends_only : (core new : CoreState) (why : Option Cause) → Closes core new why → Ends core new why
-  ends_only core new why closes = ends_close core core new why (shows_same v raised law before ready slot 0 core).tells closes
+  ends_only core new why closes =
+      ends_close core core new why (shows_same v raised law before ready slot 0 core).tells closes
 
   -- it was stopped
-  ends_stopped : (base new : CoreState) (why : Rule) → Shown base new → Ends base new (Some (cause.Stopped why))
+  ends_stopped : (base new : CoreState) (why : Rule) → Shown base new
+      → Ends base new (Some (cause.Stopped why))
   ends_stopped base new why shows =
-      record { added = shows.tells.added; signals = shows.tells.signals; entries = shows.tells.entries; gives = shows.tells.gives; sight = shows.tells.sight }
+      record {
+        added = shows.tells.added;
+        signals = shows.tells.signals;
+        entries =
+            shows.tells.entries;
+        gives = shows.tells.gives;
+        sight = shows.tells.sight;
+      }
 
   -- a trap: a cause that leaves the slot paused
   paused-is : (core : CoreState) (why : Cause) → IsLive core slot
-      → sight_of (after_trap core slot why).0 ≡ with_slot (sight_of core) slot (record (slot_at (sight_of core) slot) { epoch = (slot_at (sight_of core) slot).epoch + 1; state = state.Paused })
+      → sight_of (after_trap core slot why).0 ≡ with_slot (sight_of core) slot
+      (record (slot_at (sight_of core) slot) {
+        epoch = (slot_at (sight_of core) slot).epoch + 1;
+        state = state.Paused;
+      })
   unfolding sight_of
   paused-is core why live =
       let new = (after_trap core slot why).0 in
-      let sight : List SlotView → List (Option ℕ) → Sight = λ ss areas. record { cells = map shown_cell core.cells; slots = ss; pages = core.pages; areas = areas; ram = core.ram; installs = core.installs } in
-      let slots = slice_set (map shown_slot core.sessions) slot (record (slot_at (sight_of core) slot) { epoch = (slot_at (sight_of core) slot).epoch + 1; state = state.Paused }) in
-      ap (λ ss. sight ss (areas_of new)) (map-set shown_slot core.sessions slot (paused (session_of core slot))
-      ∙ ap (λ (s : SlotView). slice_set (map shown_slot core.sessions) slot (record s { epoch = s.epoch + 1; state = state.Paused })) (sym (slot_at-is core slot)))
-      ∙ ap (λ areas. sight slots areas) (areas-session core new slot (paused (session_of core slot)) refl refl (live_within core slot live) (sym live))
+      let sight : List SlotView → List (Option ℕ) → Sight =
+      λ ss areas. record {
+        cells = map shown_cell core.cells;
+        slots = ss;
+        pages =
+            core.pages;
+        areas = areas;
+        ram = core.ram;
+        installs = core.installs;
+      } in
+      let slots = slice_set (map shown_slot core.sessions) slot
+      (record (slot_at (sight_of core) slot) {
+        epoch = (slot_at (sight_of core) slot).epoch + 1;
+        state = state.Paused;
+      }) in
+      ap (λ ss. sight ss (areas_of new)) (map-set shown_slot core.sessions slot
+      (paused (session_of core slot))
+      ∙ ap (λ (s : SlotView). slice_set (map shown_slot core.sessions) slot
+      (record s { epoch = s.epoch + 1; state = state.Paused })) (sym (slot_at-is core slot)))
+      ∙ ap (λ areas. sight slots areas) (areas-session core new slot (paused (session_of core slot))
+      refl refl (live_within core slot live) (sym live))
 
   closes_trapped : (core : CoreState) (why : Cause) → IsLive core slot
-      → ((s : Sight) → left_seen s slot (outcome.Left why) ≡ with_slot s slot (record (slot_at s slot) { epoch = (slot_at s slot).epoch + 1; state = state.Paused }))
+      → ((s : Sight) → left_seen s slot (outcome.Left why) ≡ with_slot s slot
+      (record (slot_at s slot) { epoch = (slot_at s slot).epoch + 1; state = state.Paused }))
       → Closes core (after_trap core slot why).0 (Some why)
   closes_trapped core why live is = record {
     added = entry.Trap (session_of core slot).install why ∷ [];
@@ -119,35 +161,54 @@ module _ (v : Versions) (raised : Raised) (law : RaisesInTheOpen v raised) (befo
     sight = paused-is core why live ∙ sym (is (sight_of core));
   }
 
-  closes_finished : (core : CoreState) → IsLive core slot → Closes core (after_exit core slot).0 (Some cause.Exit)
+  closes_finished : (core : CoreState) → IsLive core slot
+      → Closes core (after_exit core slot).0 (Some cause.Exit)
   unfolding without_guest
   closes_finished core live = record {
     added = [];
     entries = sym (append-nil core.entries);
     quiet = refl;
-    sight = dropped-is v raised law before ready slot 0 core slot state.Ended (live_within core slot live) low refl;
+    sight = dropped-is v raised law before ready slot 0 core slot state.Ended
+        (live_within core slot live) low refl;
   }
 
   closes_same : (core : CoreState) → Closes core core None
-  closes_same core = record { added = []; entries = sym (append-nil core.entries); quiet = refl; sight = refl }
+  closes_same core = record {
+    added = [];
+    entries = sym (append-nil core.entries);
+    quiet =
+        refl;
+    sight = refl;
+  }
 
   module _ (interrupt : Bool) where
     -- what follows a step
-    closes_after : (core : CoreState) (end : StepEnd) → IsLive core slot → Closes core (after_step core slot interrupt end).0 (after_step core slot interrupt end).1
-    closes_after core (ended.Call code) live = closes_trapped core (cause.Call code) live (λ s. refl)
+    closes_after : (core : CoreState) (end : StepEnd) → IsLive core slot
+        → Closes core (after_step core slot interrupt end).0 (after_step core slot interrupt end).1
+    closes_after core (ended.Call code) live =
+        closes_trapped core (cause.Call code) live (λ s. refl)
     closes_after core ended.Exit live = closes_finished core live
     closes_after core ended.Goes live =
-        cond_both interrupt (after_trap core slot cause.Interrupt) (core, None) (λ (r : CoreState × Option Cause). Closes core r.0 r.1)
+        cond_both interrupt (after_trap core slot cause.Interrupt) (core, None)
+        (λ (r : CoreState × Option Cause). Closes core r.0 r.1)
         (λ _. closes_trapped core cause.Interrupt live (λ s. refl)) (λ _. closes_same core)
 
     -- it leaves the slot as ready as it was
-    ready_after : (core : CoreState) (end : StepEnd) → slot < length core.sessions → is_ready (session_of (after_step core slot interrupt end).0 slot) ≡ is_ready (session_of core slot)
+    ready_after : (core : CoreState) (end : StepEnd) → slot < length core.sessions
+        → is_ready (session_of (after_step core slot interrupt end).0 slot) ≡ is_ready
+        (session_of core slot)
     unfolding without_guest
-    ready_after core (ended.Call code) within = ap is_ready (get_or-set_same core.sessions slot (paused (session_of core slot)) free within)
-    ready_after core ended.Exit within = ap is_ready (get_or-set_same core.sessions slot (left (session_of core slot) state.Ended) free within)
+    ready_after core (ended.Call code) within =
+        ap is_ready (get_or-set_same core.sessions slot (paused (session_of core slot)) free within)
+    ready_after core ended.Exit within =
+        ap is_ready
+        (get_or-set_same core.sessions slot (left (session_of core slot) state.Ended) free within)
     ready_after core ended.Goes within =
-        cond_both interrupt (after_trap core slot cause.Interrupt) (core, None) (λ (r : CoreState × Option Cause). is_ready (session_of r.0 slot) ≡ is_ready (session_of core slot))
-        (λ _. ap is_ready (get_or-set_same core.sessions slot (paused (session_of core slot)) free within)) (λ _. refl)
+        cond_both interrupt (after_trap core slot cause.Interrupt) (core, None)
+        (λ (r : CoreState × Option Cause). is_ready (session_of r.0 slot) ≡ is_ready
+        (session_of core slot))
+        (λ _. ap is_ready (get_or-set_same core.sessions slot (paused (session_of core slot)) free
+        within)) (λ _. refl)
 
     -- the event that came out so leaves the slot so ready
     abbrev IsReady : CoreState × Option Cause → Type 0
@@ -159,7 +220,9 @@ module _ (v : Versions) (raised : Raised) (law : RaisesInTheOpen v raised) (befo
 
     module _ (core : CoreState) (effect : Effect) (word place : ℕ) (live : IsLive core slot) where
       abbrev made_step : Step
-      made_step = step_made (session_of core slot).pc (session_of core slot).npc effect word (received_by core.cells core.ram effect.wish)
+      made_step =
+          step_made (session_of core slot).pc (session_of core slot).npc effect word
+          (received_by core.cells core.ram effect.wish)
 
       abbrev new_session : Session
       new_session = session_after_step (session_of core slot) effect made_step
@@ -172,38 +235,68 @@ module _ (v : Versions) (raised : Raised) (law : RaisesInTheOpen v raised) (befo
 
       comes_retires : Comes core (retirement core slot interrupt effect word place)
       comes_retires is =
-          let within : slot < length after.sessions = subst (λ n. slot < n) (sym (length-set core.sessions slot new_session)) (live_within core slot live) in
-          let now : ready ≡ is_ready new_session = is ∙ ready_after after made_step.end within ∙ ap is_ready here in
+          let within : slot < length after.sessions =
+          subst (λ n. slot < n) (sym (length-set core.sessions slot new_session))
+          (live_within core slot live) in
+          let now : ready ≡ is_ready new_session = is ∙ ready_after after made_step.end within
+          ∙ ap is_ready here in
           ends_close core after _ _
-          (tells_stepped v raised law before ready slot 0 core place new_session made_step some live refl
-          (ap (λ b. let s : SlotView = record (shown_slot (session_of core slot)) { mask = mask_after (session_of core slot).mask made_step; signal_ready = b } in s) (sym now)))
+          (tells_stepped v raised law before ready slot 0 core place new_session made_step some live
+          refl
+          (ap (λ b. let s : SlotView = record (shown_slot (session_of core slot)) {
+            mask =
+                mask_after (session_of core slot).mask made_step;
+            signal_ready = b;
+          } in s) (sym now)))
           (closes_after after made_step.end (ap (λ (s : Session). is_live s.state) here ∙ live))
 
-    comes_data : (core : CoreState) (effect : Effect) (result : CoreState × Reach) → Reaches v raised law before ready slot 0 core result → Comes core (data_reached slot interrupt effect result)
-    comes_data core effect (new, reach.PageFault page) came is = ends_then core new _ _ came.shows (ends_only new _ _ (closes_trapped new (cause.Page page) came.live (λ s. refl)))
+    comes_data : (core : CoreState) (effect : Effect) (result : CoreState × Reach)
+        → Reaches v raised law before ready slot 0 core result
+        → Comes core (data_reached slot interrupt effect result)
+    comes_data core effect (new, reach.PageFault page) came is =
+        ends_then core new _ _ came.shows
+        (ends_only new _ _ (closes_trapped new (cause.Page page) came.live (λ s. refl)))
     comes_data core effect (new, reach.Stopped why) came is = ends_stopped core new why came.shows
     comes_data core effect (new, reach.Ready place) came is =
-        ends_then core new _ _ came.shows (comes_retires new effect (word_loaded (way_at new.ways place).bytes effect.wish) place came.live is)
+        ends_then core new _ _ came.shows
+        (comes_retires new effect (word_loaded (way_at new.ways place).bytes effect.wish) place
+        came.live is)
 
-    comes_wish : (core : CoreState) (effect : Effect) (address : Option ℕ) → IsLive core slot → Comes core (data_of v core slot interrupt effect address)
+    comes_wish : (core : CoreState) (effect : Effect) (address : Option ℕ) → IsLive core slot
+        → Comes core (data_of v core slot interrupt effect address)
     comes_wish core effect None live = comes_retires core effect 0 0 live
-    comes_wish core effect (Some address) live = comes_data core effect (access v core slot (address / 32)) (reaches_access v raised law before ready slot 0 core (address / 32) live)
+    comes_wish core effect (Some address) live =
+        comes_data core effect (access v core slot (address / 32))
+        (reaches_access v raised law before ready slot 0 core (address / 32) live)
 
-    comes_ran : (core : CoreState) (result : Result Effect OwnFault) → IsLive core slot → Comes core (after_effect v core slot interrupt result)
-    comes_ran core (Err why) live is = ends_only core _ _ (closes_trapped core (cause.Fault why) live (λ s. refl))
+    comes_ran : (core : CoreState) (result : Result Effect OwnFault) → IsLive core slot
+        → Comes core (after_effect v core slot interrupt result)
+    comes_ran core (Err why) live is =
+        ends_only core _ _ (closes_trapped core (cause.Fault why) live (λ s. refl))
     comes_ran core (Ok effect) live is = comes_wish core effect (address_in effect.wish) live is
 
-    comes_code : (core : CoreState) (result : CoreState × Reach) → Reaches v raised law before ready slot 0 core result → Comes core (code_reached v slot interrupt result)
-    comes_code core (new, reach.PageFault page) came is = ends_then core new _ _ came.shows (ends_only new _ _ (closes_trapped new (cause.Page page) came.live (λ s. refl)))
+    comes_code : (core : CoreState) (result : CoreState × Reach)
+        → Reaches v raised law before ready slot 0 core result
+        → Comes core (code_reached v slot interrupt result)
+    comes_code core (new, reach.PageFault page) came is =
+        ends_then core new _ _ came.shows
+        (ends_only new _ _ (closes_trapped new (cause.Page page) came.live (λ s. refl)))
     comes_code core (new, reach.Stopped why) came is = ends_stopped core new why came.shows
     comes_code core (new, reach.Ready place) came is =
-        ends_then core new _ _ came.shows (comes_ran new (word_tried v new slot (word_in (way_at new.ways place).bytes (session_of new slot).pc)) came.live is)
+        ends_then core new _ _ came.shows
+        (comes_ran new (word_tried v new slot (word_in (way_at new.ways place).bytes
+        (session_of new slot).pc)) came.live is)
 
     -- an event of the guest in the slot
-    pub ends_guest : (core : CoreState) → IsLive core slot → Comes core (guest v core slot interrupt)
+    pub ends_guest : (core : CoreState) → IsLive core slot
+        → Comes core (guest v core slot interrupt)
     unfolding guest
     ends_guest core live =
         let pc = (session_of core slot).pc in
-        cond_both (is_code pc) (code_reached v slot interrupt (access v core slot (pc / 32))) (after_trap core slot (cause.Fault own_fault.Address)) (λ (r : CoreState × Option Cause). Comes core r)
-        (λ _. comes_code core (access v core slot (pc / 32)) (reaches_access v raised law before ready slot 0 core (pc / 32) live))
-        (λ _ is. ends_only core _ _ (closes_trapped core (cause.Fault own_fault.Address) live (λ s. refl)))
+        cond_both (is_code pc) (code_reached v slot interrupt (access v core slot (pc / 32)))
+        (after_trap core slot (cause.Fault own_fault.Address))
+        (λ (r : CoreState × Option Cause). Comes core r)
+        (λ _. comes_code core (access v core slot (pc / 32)) (reaches_access v raised law before
+        ready slot 0 core (pc / 32) live))
+        (λ _ is. ends_only core _ _ (closes_trapped core (cause.Fault own_fault.Address) live
+        (λ s. refl)))

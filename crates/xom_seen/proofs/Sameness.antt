@@ -36,43 +36,73 @@ cell_same cell = cases (cell.tag == 0) refl
     cases true is = rw is (rw is refl)
     cases false is = rw is (rw is refl)
 
-sees_same : (cells : List Cell) (reg : ℕ) → seen_open (map shown_cell cells) reg ≡ seen_open cells reg
-sees_same cells reg = ap (λ c. if reg == 0 then Value 0 else c) (ap open_cell (at_map shown_cell cells reg empty) ∙ cell_same (cell_at cells reg))
+sees_same : (cells : List Cell) (reg : ℕ)
+    → seen_open (map shown_cell cells) reg ≡ seen_open cells reg
+sees_same cells reg =
+    ap (λ c. if reg == 0 then Value 0 else c)
+    (ap open_cell (at_map shown_cell cells reg empty) ∙ cell_same (cell_at cells reg))
 
-tried_same : (cells : List Cell) (found : Result Ins OwnFault) (pc npc : ℕ) → tried_open (seen_open (map shown_cell cells)) found pc npc ≡ tried_open (seen_open cells) found pc npc
+tried_same : (cells : List Cell) (found : Result Ins OwnFault) (pc npc : ℕ)
+    → tried_open (seen_open (map shown_cell cells)) found pc npc ≡ tried_open (seen_open cells)
+    found pc npc
 tried_same cells (Err why) pc npc = refl
 tried_same cells (Ok ins) pc npc =
-    ap (λ a. effect_of ins Null a (seen_open (map shown_cell cells) (sources_of ins).1) (seen_open (map shown_cell cells) (sources_of ins).2) pc npc) (sees_same cells (sources_of ins).0)
-    ∙ ap (λ b. effect_of ins Null (seen_open cells (sources_of ins).0) b (seen_open (map shown_cell cells) (sources_of ins).2) pc npc) (sees_same cells (sources_of ins).1)
-    ∙ ap (λ c. effect_of ins Null (seen_open cells (sources_of ins).0) (seen_open cells (sources_of ins).1) c pc npc) (sees_same cells (sources_of ins).2)
+    ap (λ a. effect_of ins Null a (seen_open (map shown_cell cells) (sources_of ins).1)
+    (seen_open (map shown_cell cells) (sources_of ins).2) pc npc)
+    (sees_same cells (sources_of ins).0)
+    ∙ ap (λ b. effect_of ins Null (seen_open cells (sources_of ins).0) b
+    (seen_open (map shown_cell cells) (sources_of ins).2) pc npc)
+    (sees_same cells (sources_of ins).1)
+    ∙ ap (λ c. effect_of ins Null (seen_open cells (sources_of ins).0)
+    (seen_open cells (sources_of ins).1) c pc npc) (sees_same cells (sources_of ins).2)
 
 -- what it writes is open
-opened_same : (cells : List Cell) (written : Writes) → with_null_writes (map shown_cell cells) written ≡ map shown_cell (with_null_writes cells written)
+opened_same : (cells : List Cell) (written : Writes)
+    → with_null_writes (map shown_cell cells) written ≡ map shown_cell
+    (with_null_writes cells written)
 opened_same cells writes.Nothing = refl
 opened_same cells (writes.One reg value) = sym (map-set shown_cell cells reg _)
 opened_same cells (writes.Pair hi lo) =
-    ap (λ (cs : List Cell). slice_set cs 33 (record { value = lo; tag = 0 })) (sym (map-set shown_cell cells 32 _))
+    ap (λ (cs : List Cell). slice_set cs 33 (record { value = lo; tag = 0 }))
+    (sym (map-set shown_cell cells 32 _))
     ∙ sym (map-set shown_cell (slice_set cells 32 (record { value = hi; tag = 0 })) 33 _)
 
-passed_same : (s : Open) (effect : Effect) (written : Writes) → open_after (shown_open s) effect written ≡ shown_open (open_after s effect written)
-passed_same s effect written = ap (λ cs. let o : Open = record { cells = cs; ram = s.ram; pc = effect.pc; npc = effect.npc } in o) (opened_same s.cells written)
+passed_same : (s : Open) (effect : Effect) (written : Writes)
+    → open_after (shown_open s) effect written ≡ shown_open (open_after s effect written)
+passed_same s effect written =
+    ap
+    (λ cs. let o : Open = record { cells = cs; ram = s.ram; pc = effect.pc; npc = effect.npc } in
+    o)
+    (opened_same s.cells written)
 
-granted_same : (told : Told) (s : Open) (effect : Effect) (wished : Wish) → wish_answer told (shown_open s) effect wished ≡ shown_answer (wish_answer told s effect wished)
+granted_same : (told : Told) (s : Open) (effect : Effect) (wished : Wish)
+    → wish_answer told (shown_open s) effect wished ≡ shown_answer
+    (wish_answer told s effect wished)
 granted_same told s effect wish.Nothing = ap done_answer (passed_same s effect effect.writes)
 granted_same told s effect (wish.Load reg address how old) =
     let written = set reg (loaded_open s.ram how old address) in
-    cond_both (holds s.ram (address - address % 4) 4) (done_answer (open_after s effect written)) (stopped_by s null.Address)
-    (λ a. cond (holds s.ram (address - address % 4) 4) (done_answer (open_after (shown_open s) effect written)) (stopped_by (shown_open s) null.Address) ≡ shown_answer a)
+    cond_both (holds s.ram (address - address % 4) 4) (done_answer (open_after s effect written))
+    (stopped_by s null.Address)
+    (λ a. cond (holds s.ram (address - address % 4) 4)
+    (done_answer (open_after (shown_open s) effect written))
+    (stopped_by (shown_open s) null.Address) ≡ shown_answer a)
     (λ is. rw is (ap done_answer (passed_same s effect written)))
     (λ is. rw is refl)
 granted_same told s effect (wish.Store address count value) =
-    cond_both (holds s.ram address count) (done_answer (stored_open (open_after s effect effect.writes) address (low_bytes count value))) (stopped_by s null.Address)
-    (λ a. cond (holds s.ram address count) (done_answer (stored_open (open_after (shown_open s) effect effect.writes) address (low_bytes count value))) (stopped_by (shown_open s) null.Address) ≡ shown_answer a)
-    (λ is. rw is (ap (λ o. done_answer (stored_open o address (low_bytes count value))) (passed_same s effect effect.writes)))
+    cond_both (holds s.ram address count)
+    (done_answer (stored_open (open_after s effect effect.writes) address
+    (low_bytes count value))) (stopped_by s null.Address)
+    (λ a. cond (holds s.ram address count)
+    (done_answer (stored_open (open_after (shown_open s) effect effect.writes) address
+    (low_bytes count value))) (stopped_by (shown_open s) null.Address) ≡ shown_answer a)
+    (λ is. rw is (ap (λ o. done_answer (stored_open o address (low_bytes count value)))
+    (passed_same s effect effect.writes)))
     (λ is. rw is refl)
 granted_same told s effect (wish.Call code) = refl
-granted_same told s effect (wish.Do operation) = ap (λ o. let a : Answer = (o, Ok (Some operation)) in a) (passed_same s effect effect.writes)
-granted_same told s effect (wish.Ask reg what) = ap done_answer (passed_same s effect (set reg (answer_of told what)))
+granted_same told s effect (wish.Do operation) =
+    ap (λ o. let a : Answer = (o, Ok (Some operation)) in a) (passed_same s effect effect.writes)
+granted_same told s effect (wish.Ask reg what) =
+    ap done_answer (passed_same s effect (set reg (answer_of told what)))
 granted_same told s effect (wish.Release reg value) = refl
 granted_same told s effect (wish.Receive reg from) = refl
 granted_same told s effect (wish.NullLoad reg address) = refl
@@ -81,12 +111,14 @@ granted_same told s effect (wish.Hand address) = refl
 granted_same told s effect wish.SigRet = refl
 granted_same told s effect wish.Exit = refl
 
-ran_same : (told : Told) (s : Open) (found : Result Effect OwnFault) → ran_open told (shown_open s) found ≡ shown_answer (ran_open told s found)
+ran_same : (told : Told) (s : Open) (found : Result Effect OwnFault)
+    → ran_open told (shown_open s) found ≡ shown_answer (ran_open told s found)
 ran_same told s (Err why) = refl
 ran_same told s (Ok effect) = granted_same told s effect effect.wish
 
 -- one instruction of null code over what is seen leaves what is seen afterwards
-pub null_step_same : (told : Told) (s : Open) → null_step told (shown_open s) ≡ shown_answer (null_step told s)
+pub null_step_same : (told : Told) (s : Open)
+    → null_step told (shown_open s) ≡ shown_answer (null_step told s)
 unfolding null_step
 null_step_same told s =
     ap (ran_open told (shown_open s)) (tried_same s.cells (fetched_open s.ram s.pc) s.pc s.npc)

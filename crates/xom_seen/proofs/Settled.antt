@@ -18,7 +18,8 @@ use Rattle.xom_seen.specs.NoWayOut.{StopsSettle, StoresStay}
 pub stops_settle : StopsSettle
 stops_settle core stops stores = record {
   null = stops.null;
-  dirty = λ place dirty. stops.cached place (λ none. let clean = stops.clean place none in absurd (cc));
+  dirty = λ place dirty. stops.cached place (λ none. let clean = stops.clean place none in
+      absurd (cc));
   places = stops.places;
   store_places = stores;
 }
@@ -28,15 +29,18 @@ stops_settle core stops stores = record {
 abbrev SameStores : CoreState → CoreState → Type 0
 SameStores core new = length new.stores ≡ length core.stores
 
-written-stores : (v : Versions) (core : CoreState) (way : Way) (version : ℕ) → SameStores core (written_back v core way version)
+written-stores : (v : Versions) (core : CoreState) (way : Way) (version : ℕ)
+    → SameStores core (written_back v core way version)
 unfolding after_seal after_raise
 written-stores v core way version = length-set core.stores way.slot _
 
-torn-stores : (v : Versions) (core : CoreState) (way : Way) (torn : Torn) → SameStores core (torn_off v core way torn)
+torn-stores : (v : Versions) (core : CoreState) (way : Way) (torn : Torn)
+    → SameStores core (torn_off v core way torn)
 unfolding without_guest after_raise
 torn-stores v core way torn = length-set core.stores way.slot _
 
-stopped-stores : (core : CoreState) (slot : ℕ) (why : Rule) → SameStores core (after_stop core slot why)
+stopped-stores : (core : CoreState) (slot : ℕ) (why : Rule)
+    → SameStores core (after_stop core slot why)
 unfolding without_guest
 stopped-stores core slot why = refl
 
@@ -44,11 +48,13 @@ finished-stores : (core : CoreState) (slot : ℕ) → SameStores core (after_exi
 unfolding without_guest
 finished-stores core slot = refl
 
-killed-stores : (v : Versions) (core : CoreState) (slot : ℕ) → SameStores core (after_kill v core slot)
+killed-stores : (v : Versions) (core : CoreState) (slot : ℕ)
+    → SameStores core (after_kill v core slot)
 unfolding without_guest
 killed-stores v core slot = refl
 
-installed-stores : (v : Versions) (core : CoreState) (slot place area : ℕ) (plain : Unwrapped) → SameStores core (after_install v core slot place area plain)
+installed-stores : (v : Versions) (core : CoreState) (slot place area : ℕ) (plain : Unwrapped)
+    → SameStores core (after_install v core slot place area plain)
 unfolding after_install
 installed-stores v core slot place area plain = length-set core.stores slot _
 
@@ -60,7 +66,8 @@ stores_parts v slot = record {
   accept = λ core line version place ct runs. refl;
   point = λ core line. refl;
   bring = λ core place way clean may. refl;
-  seal = λ core place version way dirty raised may. written-stores v core (way_at core.ways place) version;
+  seal = λ core place version way dirty raised may. written-stores v core (way_at core.ways place)
+      version;
   tear = λ core place torn dirty raised. torn-stores v core (way_at core.ways place) torn;
   stop = λ core why live. stopped-stores core slot why;
   step = λ core place session step runs goes stores. refl;
@@ -83,11 +90,14 @@ stores_deeds v slot = record {
   maps = λ core page frame may. refl;
   kills = λ core some known taken. killed-stores v core slot;
   outs = λ core byte. refl;
-  installs = λ core place area plain some known is_free opens fits. installed-stores v core slot place area plain;
+  installs = λ core place area plain some known is_free opens fits. installed-stores v core slot
+      place area plain;
   saves = λ core key ct name live same. refl;
   restores = λ core key ct name place live same. refl;
   takes_back = λ core reg value live. refl;
 }
 
 pub stores_stay : StoresStay
-stores_stay v r e chunk = walk_event v SameStores SameStores r e chunk (stores_parts v (slot_of_event r e)) (stores_ends (slot_of_event r e)) (stores_deeds v (slot_of_event r e))
+stores_stay v r e chunk =
+    walk_event v SameStores SameStores r e chunk (stores_parts v (slot_of_event r e))
+    (stores_ends (slot_of_event r e)) (stores_deeds v (slot_of_event r e))

@@ -20,7 +20,18 @@ use Rattle.xom_seen.specs.Emission.{Gives, Made, OneCell}
 use Rattle.xom_seen.specs.SeenNext.{after_signal, seen_next, sight_in, slot_at}
 
 -- an instruction that writes 77 to $3 and stores it shows the name of $3 and no value
-made : Gives none_held true (entry.Step 5 (record { pc = 64; npc = 68; writes = writes.One 3 77; stored = stored.Bytes 8 4 77; received = received.Cell 77; released = released.Nothing; end = ended.Goes }))
+made : Gives none_held true
+    (entry.Step 5 (record {
+      pc = 64;
+      npc = 68;
+      writes = writes.One 3 77;
+      stored =
+          stored.Bytes 8 4 77;
+      received = received.Cell 77;
+      released = released.Nothing;
+      end =
+          ended.Goes;
+    }))
     (Made (OneCell 3) released.Nothing ended.Goes true ∷ [])
 made = refl
 
@@ -29,15 +40,22 @@ abbrev dark : Seen
 dark = seen_of (power_on chip (record { 0 = [] }) 1 [] 0)
 
 -- the cell is seen as slot 1's, with the value 0, and the slot owns it: bit 3 of its mask
-owned : cell_at (after_signal chip chip_raised 1 0 (sight_in dark) (Made (OneCell 3) released.Nothing ended.Goes true)).cells 3 ≡ record { value = 0; tag = 1 }
+owned : cell_at (after_signal chip chip_raised 1 0 (sight_in dark)
+    (Made (OneCell 3) released.Nothing ended.Goes true)).cells 3 ≡ record { value = 0; tag = 1 }
 unfolding seen_of view_of all_empty none_held nothing_mapped
 owned = refl
 
-mask : (slot_at (after_signal chip chip_raised 1 0 (sight_in dark) (Made (OneCell 3) released.Nothing ended.Goes true)) 1).mask ≡ 8
+mask : (slot_at (after_signal chip chip_raised 1 0 (sight_in dark)
+    (Made (OneCell 3) released.Nothing ended.Goes true)) 1).mask ≡ 8
 unfolding seen_of view_of all_empty none_held nothing_mapped with_cell
 mask = refl
 
 -- a register that the kernel sets is seen
-lent : cell_at (seen_next chip chip_raised dark (event.Do (SetReg 5 7)) [] (record { status = 0; outcome = outcome.Went; signals = [] })).view.cells 5 ≡ record { value = 7; tag = 0 }
+lent : cell_at (seen_next chip chip_raised dark (event.Do (SetReg 5 7)) []
+    (record { status = 0; outcome = outcome.Went; signals = [] })).view.cells 5 ≡ record {
+      value =
+          7;
+      tag = 0;
+    }
 unfolding seen_next seen_of view_of all_empty none_held nothing_mapped
 lent = refl

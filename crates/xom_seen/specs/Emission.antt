@@ -1,4 +1,5 @@
--- What an event emits: all that leaves the processor with it and isn't a function of what is seen of the machine.
+-- What an event emits: all that leaves the processor with it and isn't a function of what is seen
+-- of the machine.
 use Rattle.std.specs.Prelude.{◌≡◌, ◌⊎◌, ℕ, Bool, true, List, [], ◌∷◌, ◌++◌}
 use Rattle.xom_base.specs.declared.entry.Entry.{Entry}
 use Rattle.xom_base.specs.declared.entry.Entry.TheVariants as entry
@@ -30,7 +31,8 @@ names_of (writes.Pair hi lo) = Halves
 
 -- what one entry of the journal gives away
 pub data Signal : Type 0 where
-  -- a step: the names of the cells that it wrote, what it released, how it ended, and whether its slot is signal-ready after the event
+  -- a step: the names of the cells that it wrote, what it released, how it ended, and whether its
+  -- slot is signal-ready after the event
   Made : Names → Released → StepEnd → Bool → Signal
   -- a line was sealed: slot, line, ciphertext and tag
   LineSealed : ℕ → ℕ → List ℕ → List ℕ → Signal
@@ -50,13 +52,16 @@ pub record Emission : Type 0 where
 abbrev pub IsLiveIn : List Session → ℕ → Type 0
 IsLiveIn sessions slot = is_live (session_at sessions slot).state ≡ true
 
--- the name is of this line of the session's guest: under its install number, or as a line of its image
+-- the name is of this line of the session's guest: under its install number, or as a line of its
+-- image
 abbrev pub IsLineOf : Session → ℕ → LineName → Type 0
 IsLineOf s line (Image id at) = (id ≡ s.id) × (at ≡ line)
 IsLineOf s line (Run boot install at version) = (install ≡ s.install) × (at ≡ line)
 
--- A Seal of a line of a live slot: its message names the line and ends with the ciphertext, and its tag is the HMAC of the message.
-pub record SealsLine (sessions : List Session) (key message : List ℕ) (told : List Signal) : Type 0 where
+-- A Seal of a line of a live slot: its message names the line and ends with the ciphertext, and its
+-- tag is the HMAC of the message.
+pub record SealsLine (sessions : List Session) (key message : List ℕ) (told : List Signal) : Type
+    0 where
   pub slot : ℕ
   pub line : ℕ
   pub ct : List ℕ
@@ -67,7 +72,8 @@ pub record SealsLine (sessions : List Session) (key message : List ℕ) (told : 
   pub given : told ≡ LineSealed slot line ct (hmac_sha256 key message) ∷ []
 
 -- The same of a register.
-pub record SealsRegister (sessions : List Session) (key message : List ℕ) (told : List Signal) : Type 0 where
+pub record SealsRegister (sessions : List Session) (key message : List ℕ)
+    (told : List Signal) : Type 0 where
   pub slot : ℕ
   pub ct : List ℕ
   pub name : RegName
@@ -77,7 +83,8 @@ pub record SealsRegister (sessions : List Session) (key message : List ℕ) (tol
   pub given : told ≡ RegisterSealed slot name.reg ct (hmac_sha256 key message) ∷ []
 
 -- A Stop of a live slot.
-pub record StopsSlot (sessions : List Session) (install : ℕ) (why : Rule) (told : List Signal) : Type 0 where
+pub record StopsSlot (sessions : List Session) (install : ℕ) (why : Rule)
+    (told : List Signal) : Type 0 where
   pub slot : ℕ
   pub live : IsLiveIn sessions slot
   pub named : (session_at sessions slot).install ≡ install
@@ -86,21 +93,27 @@ pub record StopsSlot (sessions : List Session) (install : ℕ) (why : Rule) (tol
 module _ (sessions : List Session) (ready : Bool) where
   -- what an entry gives away: a step, a Seal and a Stop give one signal, the others none
   abbrev pub Gives : Entry → List Signal → Type 0
-  Gives (entry.Step install step) told = told ≡ Made (names_of step.writes) step.released step.end ready ∷ []
-  Gives (entry.Seal key message) told = SealsLine sessions key message told ⊎ SealsRegister sessions key message told
+  Gives (entry.Step install step) told =
+      told ≡ Made (names_of step.writes) step.released step.end ready ∷ []
+  Gives (entry.Seal key message) told =
+      SealsLine sessions key message told ⊎ SealsRegister sessions key message told
   Gives (entry.Stop install why) told = StopsSlot sessions install why told
   Gives other told = told ≡ []
 
   -- and a list of entries, in their order
   abbrev pub GiveAll : List Entry → List Signal → Type 0
   GiveAll [] told = told ≡ []
-  GiveAll (e ∷ entries) told = (first : List Signal) × (rest : List Signal) × Gives e first × GiveAll entries rest × (told ≡ first ++ rest)
+  GiveAll (e ∷ entries) told =
+      (first : List Signal) × (rest : List Signal) × Gives e first × GiveAll entries rest
+      × (told ≡ first ++ rest)
 
 abbrev pub is_ready : Session → Bool
 is_ready s = is_signal_ready s.handler s.saved
 
--- What an event emits that runs or names this slot: its status and its outcome, and the signals of the entries that it added.
-pub record Emits (core : CoreState) (slot : ℕ) (new : Record) (what : Outcome) (m : Emission) : Type 0 where
+-- What an event emits that runs or names this slot: its status and its outcome, and the signals of
+-- the entries that it added.
+pub record Emits (core : CoreState) (slot : ℕ) (new : Record) (what : Outcome) (m : Emission) : Type
+    0 where
   pub status : m.status ≡ new.status
   pub outcome : m.outcome ≡ what
   pub added : List Entry

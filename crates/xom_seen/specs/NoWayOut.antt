@@ -14,34 +14,44 @@ use Rattle.xom_model.specs.Touched.{slot_of_event}
 use Rattle.xom_seen.specs.Emission.{Emission, Emits}
 use Rattle.xom_seen.specs.SeenNext.{seen_next}
 
--- An event emits this, and gives no more away: what is seen afterwards is told by what was seen before, the event, its bytes and the emission.
-pub record GivesAway (v : Versions) (raised : Raised) (r : Record) (e : Event) (chunk : List ℕ) (new : Record) (what : Outcome) (m : Emission) : Type 0 where
+-- An event emits this, and gives no more away: what is seen afterwards is told by what was seen
+-- before, the event, its bytes and the emission.
+pub record GivesAway (v : Versions) (raised : Raised) (r : Record) (e : Event) (chunk : List ℕ)
+    (new : Record) (what : Outcome) (m : Emission) : Type 0 where
   pub emits : Emits r.core (slot_of_event r e) new what m
   pub seen : seen_of new ≡ seen_next v raised (seen_of r) e chunk m
 
 -- an event gives away what it emits, and no more
 abbrev pub GivesNoMoreAway : Versions → Raised → Record → Event → List ℕ → Record → Outcome → Type 0
-GivesNoMoreAway v raised r e chunk new what = (m : Emission) × GivesAway v raised r e chunk new what m
+GivesNoMoreAway v raised r e chunk new what =
+    (m : Emission) × GivesAway v raised r e chunk new what m
 
--- What the law needs of a core, which is true of every machine, whatever its kernel did and whether its journal is honest or not.
+-- What the law needs of a core, which is true of every machine, whatever its kernel did and whether
+-- its journal is honest or not.
 pub record IsSettled (core : CoreState) : Type 0 where
   -- the null compartment holds no guest
   pub null : is_live (session_of core 0).state ≡ false
   -- a line that has still to be sealed is one of a live slot
-  pub dirty : (place : ℕ) → (way_at core.ways place).dirty ≡ true → IsLive core (way_at core.ways place).slot
+  pub dirty : (place : ℕ) → (way_at core.ways place).dirty ≡ true
+      → IsLive core (way_at core.ways place).slot
   -- there is a place for each compartment
   pub places : length core.sessions ≡ 17
   pub store_places : length core.stores ≡ 17
 
--- The law: what is seen after an event is a function of what was seen before, the event, its bytes and its emission, with every kind of version store that hides nothing in RAM.
+-- The law: what is seen after an event is a function of what was seen before, the event, its bytes
+-- and its emission, with every kind of version store that hides nothing in RAM.
 abbrev pub NoWayOut : Type 0
-NoWayOut = (v : Versions) (raised : Raised) → RaisesInTheOpen v raised → (r : Record) (e : Event) (chunk : List ℕ)
-    → fits r e ≡ true → IsSettled r.core → GivesNoMoreAway v raised r e chunk (on v r e chunk).0 (on v r e chunk).1
+NoWayOut = (v : Versions) (raised : Raised) → RaisesInTheOpen v raised → (r : Record) (e : Event)
+    (chunk : List ℕ)
+    → fits r e ≡ true → IsSettled r.core
+    → GivesNoMoreAway v raised r e chunk (on v r e chunk).0 (on v r e chunk).1
 
 -- So two machines that look the same, and emit the same with an event, look the same afterwards.
 abbrev pub SameSight : Type 0
-SameSight = (v : Versions) (raised : Raised) (r s : Record) (e : Event) (chunk : List ℕ) (m : Emission)
-    → GivesAway v raised r e chunk (on v r e chunk).0 (on v r e chunk).1 m → GivesAway v raised s e chunk (on v s e chunk).0 (on v s e chunk).1 m
+SameSight = (v : Versions) (raised : Raised) (r s : Record) (e : Event) (chunk : List ℕ)
+    (m : Emission)
+    → GivesAway v raised r e chunk (on v r e chunk).0 (on v r e chunk).1 m
+    → GivesAway v raised s e chunk (on v s e chunk).0 (on v s e chunk).1 m
     → seen_of r ≡ seen_of s → seen_of (on v r e chunk).0 ≡ seen_of (on v s e chunk).0
 
 -- ---- What is true of every machine
@@ -52,4 +62,6 @@ StopsSettle = (core : CoreState) → StopsHold core → length core.stores ≡ 1
 
 -- and no event makes or drops a store
 abbrev pub StoresStay : Type 0
-StoresStay = (v : Versions) (r : Record) (e : Event) (chunk : List ℕ) → length (on v r e chunk).0.core.stores ≡ length r.core.stores
+StoresStay =
+    (v : Versions) (r : Record) (e : Event) (chunk : List ℕ)
+    → length (on v r e chunk).0.core.stores ≡ length r.core.stores

@@ -1,4 +1,5 @@
--- What is seen of the machine after an event, as a function of what was seen before it, the event, its bytes and its emission.
+-- What is seen of the machine after an event, as a function of what was seen before it, the event,
+-- its bytes and its emission.
 use Rattle.std.specs.Prelude.{ℕ, ◌+◌, ◌==◌, List, [], ◌∷◌, take, position, Option, Some, None, Result, Ok, Err, slice_index_or, slice_set, false, if◌then◌else◌}
 use Rattle.xom_base.specs.declared.event.Cause.TheVariants as cause
 use Rattle.xom_base.specs.declared.event.Event.{Event}
@@ -38,10 +39,28 @@ pub record Sight : Type 0 where
   pub installs : ℕ
 
 abbrev pub sight_in : Seen → Sight
-sight_in s = record { cells = s.view.cells; slots = s.view.slots; pages = s.pages; areas = s.areas; ram = s.view.ram; installs = s.installs }
+sight_in s = record {
+  cells = s.view.cells;
+  slots = s.view.slots;
+  pages = s.pages;
+  areas =
+      s.areas;
+  ram = s.view.ram;
+  installs = s.installs;
+}
 
 abbrev pub with_sight : Seen → Sight → Seen
-with_sight s new = record s { view = record s.view { cells = new.cells; slots = new.slots; ram = new.ram }; pages = new.pages; installs = new.installs; areas = new.areas }
+with_sight s new = record s {
+  view = record s.view {
+    cells = new.cells;
+    slots = new.slots;
+    ram =
+        new.ram;
+  };
+  pages = new.pages;
+  installs = new.installs;
+  areas = new.areas;
+}
 
 abbrev pub slot_at : Sight → ℕ → SlotView
 slot_at s slot = slice_index_or s.slots slot (shown_slot free)
@@ -67,15 +86,25 @@ mask_named mask Halves = mask_with (mask_with mask 32) 33
 -- cells, pages and area of a slot that leaves for good are dropped
 abbrev pub dropped_seen : Sight → ℕ → SlotView → Sight
 dropped_seen s slot new =
-    record s { cells = scrubbed slot s.cells; slots = slice_set s.slots slot new; pages = without_pages s.pages slot; areas = slice_set s.areas slot None }
+    record s {
+      cells = scrubbed slot s.cells;
+      slots = slice_set s.slots slot new;
+      pages =
+          without_pages s.pages slot;
+      areas = slice_set s.areas slot None;
+    }
 
 -- ---- Guests
 
--- a guest that leaves does so for good by its end, or to come back; what a stop leaves is told by its signal
+-- a guest that leaves does so for good by its end, or to come back; what a stop leaves is told by
+-- its signal
 abbrev pub left_seen : Sight → ℕ → Outcome → Sight
-left_seen s slot (outcome.Left cause.Exit) = dropped_seen s slot (record (slot_at s slot) { state = state.Ended })
+left_seen s slot (outcome.Left cause.Exit) =
+    dropped_seen s slot (record (slot_at s slot) { state = state.Ended })
 left_seen s slot (outcome.Left (cause.Stopped why)) = s
-left_seen s slot (outcome.Left other) = with_slot s slot (record (slot_at s slot) { epoch = (slot_at s slot).epoch + 1; state = state.Paused })
+left_seen s slot (outcome.Left other) =
+    with_slot s slot
+    (record (slot_at s slot) { epoch = (slot_at s slot).epoch + 1; state = state.Paused })
 left_seen s slot other = s
 
 -- the slot whose guest runs
@@ -115,15 +144,22 @@ abbrev pub open_seen : Seen → Open
 open_seen s = record { cells = s.view.cells; ram = s.view.ram; pc = s.pc; npc = s.npc }
 
 abbrev pub with_open_seen : Seen → Open → Seen
-with_open_seen s new = record s { view = record s.view { cells = new.cells; ram = new.ram }; pc = new.pc; npc = new.npc }
+with_open_seen s new = record s {
+  view = record s.view { cells = new.cells; ram = new.ram };
+  pc =
+      new.pc;
+  npc = new.npc;
+}
 
 -- ---- Writes and counts
 
 abbrev pub poked_seen : Seen → ℕ → List ℕ → Seen
-poked_seen s address bytes = record s { view = record s.view { ram = ram_after_write s.view.ram address bytes } }
+poked_seen s address bytes =
+    record s { view = record s.view { ram = ram_after_write s.view.ram address bytes } }
 
 abbrev pub counted_seen : Seen → ℕ → Seen
-counted_seen s status = record s { view = record s.view { status = status; events = s.view.events + 1 } }
+counted_seen s status =
+    record s { view = record s.view { status = status; events = s.view.events + 1 } }
 
 -- ---- Signals, and whole events
 
@@ -133,28 +169,41 @@ module _ (v : Versions) (raised : Raised) where
   -- a line's version is raised in its area, and what was sealed goes to its frame
   abbrev pub line_seen : Sight → ℕ → ℕ → List ℕ → List ℕ → List ℕ
   line_seen s slot line ct tag =
-      with_sealed (raised (slice_index_or s.areas slot None) line s.ram) (frame_of s.pages slot (page_of line)) line (record { ct = ct; tag = tag })
+      with_sealed (raised (slice_index_or s.areas slot None) line s.ram)
+      (frame_of s.pages slot (page_of line)) line (record { ct = ct; tag = tag })
 
   -- after one signal of an event that runs or names this slot; a register is sealed at this address
   abbrev pub after_signal : ℕ → ℕ → Sight → Signal → Sight
   after_signal slot address s (Made names given end ready) =
       record s {
         cells = with_release (named slot s.cells names) given;
-        slots = slice_set s.slots slot (record (slot_at s slot) { mask = mask_released (mask_named (slot_at s slot).mask names) given; signal_ready = ready });
+        slots = slice_set s.slots slot
+            (record (slot_at s slot) {
+              mask = mask_released (mask_named (slot_at s slot).mask names)
+                  given;
+              signal_ready = ready;
+            });
         ram = given_out s.ram given;
       }
-  after_signal slot address s (LineSealed k line ct tag) = record s { ram = line_seen s k line ct tag }
-  after_signal slot address s (RegisterSealed k reg ct tag) = record s { ram = with_saved s.ram address (record { ct = ct; tag = tag }) }
-  after_signal slot address s (Broke k why) = dropped_seen s k (record (slot_at s k) { state = state.Stopped why })
+  after_signal slot address s (LineSealed k line ct tag) =
+      record s { ram = line_seen s k line ct tag }
+  after_signal slot address s (RegisterSealed k reg ct tag) =
+      record s { ram = with_saved s.ram address (record { ct = ct; tag = tag }) }
+  after_signal slot address s (Broke k why) =
+      dropped_seen s k (record (slot_at s k) { state = state.Stopped why })
 
   abbrev pub after_signals : ℕ → ℕ → Sight → List Signal → Sight
   after_signals slot address s [] = s
-  after_signals slot address s (first ∷ signals) = after_signals slot address (after_signal slot address s first) signals
+  after_signals slot address s (first ∷ signals) =
+      after_signals slot address (after_signal slot address s first) signals
 
   -- ---- Guests
 
   abbrev pub guest_seen : Seen → ℕ → Emission → Seen
-  guest_seen s slot m = told_by (with_sight s (left_seen (after_signals slot 0 (sight_in s) m.signals) slot m.outcome)) slot m.outcome
+  guest_seen s slot m =
+      told_by
+      (with_sight s (left_seen (after_signals slot 0 (sight_in s) m.signals) slot m.outcome)) slot
+      m.outcome
 
   -- ---- Operations
 
@@ -169,7 +218,8 @@ module _ (v : Versions) (raised : Raised) where
         installs = s.installs + 1;
       }
   done_seen s (Enter slot) = with_slot s slot (record (slot_at s slot) { state = state.Running })
-  done_seen s (Resume slot signal) = with_slot s slot (record (slot_at s slot) { state = state.Running })
+  done_seen s (Resume slot signal) =
+      with_slot s slot (record (slot_at s slot) { state = state.Running })
   done_seen s (Save slot reg address) = s
   done_seen s (Restore slot reg address) = record s { cells = slice_set s.cells reg (hidden slot) }
   done_seen s (Map slot page frame) = record s { pages = with_page s.pages slot page (Some frame) }
@@ -202,6 +252,7 @@ module _ (v : Versions) (raised : Raised) where
   turn_seen s (event.Write address count) chunk m = poked_seen s address (take count chunk)
   turn_seen s (event.Poke address count) chunk m = poked_seen s address (take count chunk)
 
-  -- what is seen after an event, of what was seen before it, the event, the chunk with its bytes, and its emission
+  -- what is seen after an event, of what was seen before it, the event, the chunk with its bytes,
+  -- and its emission
   unfoldable pub seen_next : Seen → Event → List ℕ → Emission → Seen
   seen_next s e chunk m = counted_seen (turn_seen s e chunk m) m.status

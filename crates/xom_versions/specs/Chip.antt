@@ -30,7 +30,10 @@ chip = record {
   answer_of_version = λ store line ram. Ok (number_at store line);
   texts_of_version = λ store line ram. [];
   answer_of_raise = λ store line ram. Ok (next_at store line);
-  store_after_raise = λ store line ram. record store { numbers = slice_set store.numbers line (next_at store line) };
+  store_after_raise = λ store line ram. record store {
+    numbers = slice_set store.numbers line
+        (next_at store line);
+  };
   ram_after_raise = λ store line ram. ram;
   texts_of_raise = λ store line ram. [];
 }

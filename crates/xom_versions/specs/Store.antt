@@ -41,4 +41,5 @@ hash_entry text = entry.Hash text (sha256 text)
 -- no two texts that a journal has as hashed have one digest
 abbrev pub NoCollision : List Entry → Type 0
 NoCollision entries =
-    (text other digest : List ℕ) → Contains entries (entry.Hash text digest) → Contains entries (entry.Hash other digest) → text ≡ other
+    (text other digest : List ℕ) → Contains entries (entry.Hash text digest) → Contains entries
+    (entry.Hash other digest) → text ≡ other

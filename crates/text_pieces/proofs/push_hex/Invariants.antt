@@ -4,4 +4,5 @@ use Rattle.hex.specs.Hex.{encode_lower}
 use Rattle.text_pieces.proofs.push_hex.Given as goal
 
 abbrev pub invariant-loop-byte : goal.invariant-loop-byte
-invariant-loop-byte l = l.text.items ≡ l.initial.text.items ++ encode_lower (take l.byte-index l.bytes)
+invariant-loop-byte l =
+    l.text.items ≡ l.initial.text.items ++ encode_lower (take l.byte-index l.bytes)

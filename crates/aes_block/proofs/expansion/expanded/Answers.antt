@@ -11,16 +11,21 @@ loop-i-preserved c =
     let words = words_in c.loop-i.words in
     record {
       begun =
-          ap (take (c.loop-i.i + 1)) (map-set (to_be_bytes w32) c.loop-i.words c.loop-i.i c.next_word-word.result)
-          ∙ ap (λ (word : List ℕ). take (c.loop-i.i + 1) (set words c.loop-i.i word)) c.next_word-word.ensures
-          ∙ expansion_grows c.args.key.now words c.loop-i.i (omega arith) (omega (arith, length-map c.loop-i.words (to_be_bytes w32))) c.loop-i.invariant.begun;
+          ap (take (c.loop-i.i + 1)) (map-set (to_be_bytes w32) c.loop-i.words c.loop-i.i
+          c.next_word-word.result)
+          ∙ ap (λ (word : List ℕ). take (c.loop-i.i + 1) (set words c.loop-i.i word))
+          c.next_word-word.ensures
+          ∙ expansion_grows c.args.key.now words c.loop-i.i (omega arith)
+          (omega (arith, length-map c.loop-i.words (to_be_bytes w32))) c.loop-i.invariant.begun;
       all = length-set c.loop-i.words c.loop-i.i c.next_word-word.result ∙ c.loop-i.invariant.all;
     }
 
 pub returns : goal.returns
 returns c =
     let words = words_in c.loop-i.words in
-    let done = expansion_done c.args.key.now words c.loop-i.i (omega arith) (length-map c.loop-i.words (to_be_bytes w32) ∙ c.loop-i.invariant.all) c.loop-i.invariant.begun in
+    let done = expansion_done c.args.key.now words c.loop-i.i (omega arith)
+    (length-map c.loop-i.words (to_be_bytes w32) ∙ c.loop-i.invariant.all)
+    c.loop-i.invariant.begun in
     record {
       words = done;
       key = ap key_of done ∙ key_of-key_expansion c.args.key.now c.told-key;

@@ -14,4 +14,5 @@ returns c =
     bytes_of_sum (get_or words (i - 4) 0) c.addend.result
     ∙ ap (add_words (to_be_bytes w32 (get_or words (i - 4) 0)))
     (c.addend.ensures ∙ ap (addend i) (sym (word_of_schedule words (i - 1) (omega arith))))
-    ∙ ap (λ word. add_words word (addend i (get_or (words_in words) (i - 1) []))) (sym (word_of_schedule words (i - 4) (omega arith)))
+    ∙ ap (λ word. add_words word (addend i (get_or (words_in words) (i - 1) [])))
+    (sym (word_of_schedule words (i - 4) (omega arith)))

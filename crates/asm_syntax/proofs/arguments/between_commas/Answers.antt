@@ -9,4 +9,5 @@ use Rattle.asm_syntax.proofs.arguments.between_commas.Goals as goal
 pub returns : goal.returns
 returns c =
     rw c.in_ok-collect.was at (map_from_collect _ c.collect.ensures.ran
-    (YieldsList-from_slice_split _ is_comma c.args.lexemes.now c.split.ensures.rest c.split.ensures.done c.split.ensures.closure (λ x b q k. search (rules, tests))))
+    (YieldsList-from_slice_split _ is_comma c.args.lexemes.now c.split.ensures.rest
+    c.split.ensures.done c.split.ensures.closure (λ x b q k. search (rules, tests))))

@@ -5,7 +5,9 @@ use Rattle.asm_syntax.specs.Lines.{parts_of}
 use Rattle.asm_syntax.proofs.read.add_line.Given as goal
 
 abbrev pub invariant-loop-label : goal.invariant-loop-label
-invariant-loop-label l = option_map (λ (more : List Part). l.parts ++ more) (parts_of l.number l.rest) ≡ option_map (λ (more : List Part). l.initial.parts ++ more) (parts_of l.number l.lexemes)
+invariant-loop-label l =
+    option_map (λ (more : List Part). l.parts ++ more) (parts_of l.number l.rest)
+    ≡ option_map (λ (more : List Part). l.initial.parts ++ more) (parts_of l.number l.lexemes)
 
 abbrev pub decreases-loop-label : goal.decreases-loop-label
 decreases-loop-label l = length l.rest

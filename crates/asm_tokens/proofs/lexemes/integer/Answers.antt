@@ -8,4 +8,5 @@ pub returns-clause-exact : goal.returns-clause-exact
 returns-clause-exact c = rw c.integer_in.ensures (integer_of-exact c.args.text.now)
 
 pub returns-clause-none : goal.returns-clause-none
-returns-clause-none c = none_by_exact (IsInteger c.args.text.now) c.integer_in.result (returns-clause-exact c)
+returns-clause-none c =
+    none_by_exact (IsInteger c.args.text.now) c.integer_in.result (returns-clause-exact c)

@@ -6,7 +6,8 @@ use Rattle.asm_tokens.proofs.quoted.behind_quote.Given as goal
 
 abbrev pub invariant-loop-more : goal.invariant-loop-more
 invariant-loop-more l = record {
-  behind : option_map (λ read. read.1) (read_quoted false l.rest) ≡ option_map (λ read. read.1) (read_quoted false l.body);
+  behind : option_map (λ read. read.1) (read_quoted false l.rest) ≡ option_map (λ read. read.1)
+      (read_quoted false l.body);
   within : length l.rest ≤ length l.body;
 }
 

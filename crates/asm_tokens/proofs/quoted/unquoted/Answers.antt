@@ -8,4 +8,5 @@ pub returns-clause-exact : goal.returns-clause-exact
 returns-clause-exact c = rw c.in_ok-found.ensures (quoted_of-exact c.args.text.now)
 
 pub returns-clause-none : goal.returns-clause-none
-returns-clause-none c = none_by_exact (Quotes c.args.text.now) c.in_ok-found.found (returns-clause-exact c)
+returns-clause-none c =
+    none_by_exact (Quotes c.args.text.now) c.in_ok-found.found (returns-clause-exact c)

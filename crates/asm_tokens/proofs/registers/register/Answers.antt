@@ -9,7 +9,10 @@ pub returns-clause-exact : goal.returns-clause-exact
 returns-clause-exact c = rw c.register_in.ensures (register_of-exact c.args.text.now)
 
 pub returns-clause-none : goal.returns-clause-none
-returns-clause-none c = none_by_exact (IsRegister c.args.text.now) c.register_in.result (returns-clause-exact c)
+returns-clause-none c =
+    none_by_exact (IsRegister c.args.text.now) c.register_in.result (returns-clause-exact c)
 
 pub returns-clause-small : goal.returns-clause-small
-returns-clause-small c = some_by_exact (IsRegister c.args.text.now) (λ r. r < 32) c.register_in.result (returns-clause-exact c) (register_small c.args.text.now)
+returns-clause-small c =
+    some_by_exact (IsRegister c.args.text.now) (λ r. r < 32) c.register_in.result
+    (returns-clause-exact c) (register_small c.args.text.now)

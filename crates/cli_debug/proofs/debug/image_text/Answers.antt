@@ -13,6 +13,7 @@ pub returns : goal.returns
 returns c =
     let file = c.args.file.now in
     let first : Record = first_of file c.args.guests.now (kernel_file.Image c.args.image.now) in
-    text-whole c.args.commands.now (view_of first) (moments_from shipped image_told file.schedule file.budget 0 first tt) c.in_ok-text.text
+    text-whole c.args.commands.now (view_of first) (moments_from shipped image_told file.schedule
+    file.budget 0 first tt) c.in_ok-text.text
     (image_moments-some shipped file.schedule file.budget 0 first tt)
     (rw (c.in_ok-machine.ensures.start) at c.in_ok-text.ensures)

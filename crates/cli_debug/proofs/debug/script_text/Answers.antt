@@ -14,6 +14,7 @@ returns c =
     let file = c.args.file.now in
     let lines = c.args.script.lines in
     let first : Record = first_of file c.args.guests.now (kernel_file.Script c.args.script) in
-    text-whole c.args.commands.now (view_of first) (moments_from shipped script_told file.schedule file.budget 0 first lines) c.in_ok-text.text
+    text-whole c.args.commands.now (view_of first) (moments_from shipped script_told file.schedule
+    file.budget 0 first lines) c.in_ok-text.text
     (script_moments-some shipped file.schedule file.budget 0 first lines)
     (rw (c.in_ok-machine.ensures.start, c.new.ensures) at c.in_ok-text.ensures)

@@ -8,5 +8,7 @@ pub returns-clause-meets : goal.returns-clause-meets
 returns-clause-meets g c =
     let source = string_bytes c.args.source.now in
     let target = string_bytes c.args.image.now in
-    assembled_meets _ source target _ _ _ c.in_ok-text.ensures.gives.0 c.in_ok-text.ensures.gives.1 c.assembled.result
-    (subst (λ text. IsAssembled source text target c.assembled.result) c.as_slice.ensures c.assembled.ensures.assembled)
+    assembled_meets _ source target _ _ _ c.in_ok-text.ensures.gives.0 c.in_ok-text.ensures.gives.1
+    c.assembled.result
+    (subst (λ text. IsAssembled source text target c.assembled.result) c.as_slice.ensures
+    c.assembled.ensures.assembled)

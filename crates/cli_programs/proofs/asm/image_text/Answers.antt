@@ -10,5 +10,14 @@ in_order a b d e = append_assoc (a ++ b) d e ∙ append_assoc a b (d ++ e)
 
 pub returns : goal.returns
 returns c =
-    rw (c.from_vec.ensures, c.in_ok-push_bytes-3.ensures.ok, c.in_ok-push_hex8.ensures.ok, c.in_ok-push_bytes-2.ensures.ok, c.in_ok-push_decimal.ensures.ok, c.in_ok-push_bytes.ensures.ok, c.new-text.ensures.items)
-    (ap (λ rest. codes "image " ++ rest) (in_order (decimal c.args.size) (codes " bytes entry ") (hex8 c.args.entry) (codes "\n")))
+    rw (
+      c.from_vec.ensures,
+      c.in_ok-push_bytes-3.ensures.ok,
+      c.in_ok-push_hex8.ensures.ok,
+      c.in_ok-push_bytes-2.ensures.ok,
+      c.in_ok-push_decimal.ensures.ok,
+      c.in_ok-push_bytes.ensures.ok,
+      c.new-text.ensures.items,
+    )
+    (ap (λ rest. codes "image " ++ rest) (in_order (decimal c.args.size) (codes " bytes entry ")
+    (hex8 c.args.entry) (codes "\n")))

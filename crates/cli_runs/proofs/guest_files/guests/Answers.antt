@@ -23,17 +23,28 @@ loop-line-preserved g c =
     let image = c.in_ok-image.image in
     let all = all_guests run frames in
     let same : xs ≡ lines = c.as_slice-line-items.ensures in
-    let more : drop i xs ≡ line ∷ drop (i + 1) xs = drop_more xs i line c.loop-line-test.true ∙ ap (λ x. x ∷ drop (i + 1) xs) (sym c.line-item.is) in
-    let here : Carries all told first_frame lines frame (line ∷ drop (i + 1) xs) now = subst (λ (rest : List GuestFile). Carries all told first_frame lines frame rest now) (ap (drop i) (sym same) ∙ more) c.loop-line.invariant.carries in
-    let left : Carries all told first_frame lines frame (line ∷ drop (i + 1) lines) now = subst (λ (ys : List GuestFile). Carries all told first_frame lines frame (line ∷ drop (i + 1) ys) now) same here in
+    let more : drop i xs ≡ line ∷ drop (i + 1) xs = drop_more xs i line c.loop-line-test.true
+    ∙ ap (λ x. x ∷ drop (i + 1) xs) (sym c.line-item.is) in
+    let here : Carries all told first_frame lines frame (line ∷ drop (i + 1) xs) now =
+    subst (λ (rest : List GuestFile). Carries all told first_frame lines frame rest now)
+    (ap (drop i) (sym same) ∙ more) c.loop-line.invariant.carries in
+    let left : Carries all told first_frame lines frame (line ∷ drop (i + 1) lines) now =
+    subst (λ (ys : List GuestFile). Carries all told first_frame lines frame
+    (line ∷ drop (i + 1) ys) now) same here in
     record {
       names = c.in_ok-image.ensures.names ∙ c.loop-line.invariant.names;
       writes = c.in_ok-image.ensures.writes ∙ c.loop-line.invariant.writes;
       reads = c.in_ok-image.ensures.gives.0 ∙ c.loop-line.invariant.reads;
-      fit = rw c.in_ok-push.ensures.ok (fits-snoc frames first_frame now image c.loop-line.invariant.fit (subst (λ n. n + frames_of image ≤ frames) c.loop-line.invariant.behind c.in_ok-image.ensures.fits));
-      behind = rw (c.in_ok-push.ensures.ok, c.frames_of.ensures.value) (ap (λ n. n + frames_of image) c.loop-line.invariant.behind ∙ sym (frame_behind-snoc first_frame now image));
+      fit = rw c.in_ok-push.ensures.ok (fits-snoc frames first_frame now image
+          c.loop-line.invariant.fit (subst (λ n. n + frames_of image ≤ frames)
+          c.loop-line.invariant.behind c.in_ok-image.ensures.fits));
+      behind = rw (c.in_ok-push.ensures.ok, c.frames_of.ensures.value)
+          (ap (λ n. n + frames_of image) c.loop-line.invariant.behind
+          ∙ sym (frame_behind-snoc first_frame now image));
       carries =
           rw (c.in_ok-push.ensures.ok, c.frames_of.ensures.value)
-          (carries_next all (one_guest run frames) (λ frame image. frame + frames_of image) (guests-each run frames) told first_frame lines frame line (drop (i + 1) lines) now left _ _ image
+          (carries_next all (one_guest run frames) (λ frame image. frame + frames_of image)
+          (guests-each run frames) told first_frame lines frame line (drop (i + 1) lines) now left
+          _ _ image
           (rw c.loop-line.invariant.names at c.in_ok-image.ensures.gives));
     }

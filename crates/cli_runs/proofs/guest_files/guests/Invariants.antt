@@ -1,4 +1,5 @@
--- Files are as they were, the guests so far lie in RAM up to the next one's frame, and stand in front of those of the lines that
+-- Files are as they were, the guests so far lie in RAM up to the next one's frame, and stand in
+-- front of those of the lines that
 -- are left.
 use Rattle.std.proofs.Common.{◌≡◌, drop}
 use Rattle.cli_runs.specs.Places.{FitsAll, first_frame, frame_behind}
@@ -14,5 +15,6 @@ invariant-loop-line g l = record {
   reads : g.F.Files.reads l.files ≡ g.F.Files.reads l.initial.files;
   fit : FitsAll l.frames first_frame l.images;
   behind : l.frame ≡ frame_behind first_frame l.images;
-  carries : Carries (all_guests (string_bytes l.run) l.frames) (g.F.Files.held l.initial.files) first_frame l.lines l.frame (drop l.line-index l.lines) l.images;
+  carries : Carries (all_guests (string_bytes l.run) l.frames) (g.F.Files.held l.initial.files)
+      first_frame l.lines l.frame (drop l.line-index l.lines) l.images;
 }

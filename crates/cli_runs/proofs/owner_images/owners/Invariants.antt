@@ -11,5 +11,6 @@ invariant-loop-line g l = record {
   writes : g.F.Files.writes l.files ≡ g.F.Files.writes l.initial.files;
   reads : g.F.Files.reads l.files ≡ g.F.Files.reads l.initial.files;
   named : AreOwnersOf (take l.line-index l.lines) l.owners;
-  carries : Carries all_owners (g.F.Files.held l.initial.files) tt l.lines tt (drop l.line-index l.lines) l.owners;
+  carries : Carries all_owners (g.F.Files.held l.initial.files) tt l.lines tt
+      (drop l.line-index l.lines) l.owners;
 }

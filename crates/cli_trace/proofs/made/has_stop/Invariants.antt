@@ -5,4 +5,5 @@ use Rattle.trace_judge.specs.Suspicion.{is_stop}
 use Rattle.cli_trace.proofs.made.has_stop.Given as goal
 
 abbrev pub invariant-loop-i : goal.invariant-loop-i
-invariant-loop-i l = list_any is_stop (drop l.i l.journal.entries) ≡ list_any is_stop l.journal.entries
+invariant-loop-i l =
+    list_any is_stop (drop l.i l.journal.entries) ≡ list_any is_stop l.journal.entries

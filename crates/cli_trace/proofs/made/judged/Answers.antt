@@ -13,10 +13,12 @@ returns-clause-machine c = c.in_ok-machine.ensures
 
 pub returns-clause-report : goal.returns-clause-report
 returns-clause-report c =
-    subst (λ (r : Record). c.in_ok-report.report ≡ judgement c.args.parts.file.machine c.args.parts.owners r.core.entries) (returns-clause-machine c)
+    subst (λ (r : Record). c.in_ok-report.report ≡ judgement c.args.parts.file.machine
+    c.args.parts.owners r.core.entries) (returns-clause-machine c)
     (rw c.journal-2.ensures.journal at c.in_ok-report.ensures)
 
 pub returns-clause-follow : goal.returns-clause-follow
 returns-clause-follow c =
     guests_follow c.args.parts c.requires
-    (subst (λ (r : Record). IsBounded r.core.entries) (returns-clause-machine c) (rw c.journal.ensures.journal at c.in_ok-bounded.ensures))
+    (subst (λ (r : Record). IsBounded r.core.entries) (returns-clause-machine c)
+    (rw c.journal.ensures.journal at c.in_ok-bounded.ensures))

@@ -14,6 +14,7 @@ returns c =
     let file = c.args.file.now in
     let lines = c.args.script.lines in
     let first : Record = first_of file c.args.guests.now (kernel_file.Script c.args.script) in
-    told-whole (run_from shipped script_told file.schedule file.budget 0 first lines) first c.in_ok-last.last.state
+    told-whole (run_from shipped script_told file.schedule file.budget 0 first lines) first
+    c.in_ok-last.last.state
     (script_run-some shipped file.schedule file.budget 0 first lines)
     (rw (c.in_ok-machine.ensures.start, c.new.ensures) at c.in_ok-last.ensures)

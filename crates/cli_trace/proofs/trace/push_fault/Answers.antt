@@ -6,6 +6,7 @@ use Rattle.cli_trace.proofs.trace.push_fault.Goals as goal
 
 pub returns : goal.returns
 returns c =
-    three-joined c.push_kind.result c.args.text.now.items (codes " kernel fault at ") (hex8 c.args.at) (kind_text c.args.why)
+    three-joined c.push_kind.result c.args.text.now.items (codes " kernel fault at ")
+    (hex8 c.args.at) (kind_text c.args.why)
     c.push_text.new.text.items c.push_hex8.new.text.items c.push_kind.new.text.items
     c.in_ok-push_text.ensures.ok c.in_ok-push_hex8.ensures.ok c.push_kind.ensures

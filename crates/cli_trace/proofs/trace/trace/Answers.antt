@@ -5,7 +5,9 @@ use Rattle.cli_trace.proofs.Statuses.{traced-done}
 use Rattle.cli_trace.proofs.trace.trace.Goals as goal
 
 pub returns-clause-done : goal.returns-clause-done
-returns-clause-done g c = subst IsDone (sym (ap (λ answer. answer.status) c.in_ok-traced.ensures.value)) (traced-done _ _)
+returns-clause-done g c =
+    subst IsDone (sym (ap (λ answer. answer.status) c.in_ok-traced.ensures.value)) (traced-done _ _)
 
 pub returns-clause-follow : goal.returns-clause-follow
-returns-clause-follow g c = run_follows _ _ c.in_ok-parts.parts c.in_ok-parts.ensures.gives.1 c.in_ok-traced.ensures.follow
+returns-clause-follow g c =
+    run_follows _ _ c.in_ok-parts.parts c.in_ok-parts.ensures.gives.1 c.in_ok-traced.ensures.follow

@@ -7,7 +7,8 @@ use Rattle.journal_text.specs.JournalTexts.{journal_text, line_text}
 use Rattle.journal_text.proofs.printing.print_journal.Goals as goal
 use Rattle.journal_text.proofs.printing.print_journal.Goals.{in-Some+in_ok-push_line, in_default}
 
-line_more : (text new : List ℕ) (es : List Entry) (i : ℕ) (e : Entry) → slice_get es i ≡ Some e → new ≡ text ++ line_text e
+line_more : (text new : List ℕ) (es : List Entry) (i : ℕ) (e : Entry) → slice_get es i ≡ Some e
+    → new ≡ text ++ line_text e
     → new ++ journal_text (drop (i + 1) es) ≡ text ++ journal_text (drop i es)
 line_more text new es i e some is =
     ap (λ (t : List ℕ). t ++ journal_text (drop (i + 1) es)) is
@@ -21,7 +22,10 @@ pub loop-i-preserved : goal.loop-i-preserved
 loop-i-preserved c =
     elim c.match-get.branch [
       | in-Some+in_ok-push_line w ↦
-          let more = line_more c.loop-i.text.items w.push_line.new.text.items c.args.journal.now.entries c.loop-i.i w.in-Some.entry (sym c.get.ensures ∙ w.in-Some.is) w.in_ok-push_line.ensures in
+          let more = line_more c.loop-i.text.items w.push_line.new.text.items
+          c.args.journal.now.entries c.loop-i.i w.in-Some.entry (sym c.get.ensures ∙ w.in-Some.is)
+          w.in_ok-push_line.ensures in
           rw w.text-is (more ∙ c.loop-i.invariant)
-      | in_default w ↦ absurd (none_past c.args.journal.now.entries c.loop-i.i c.len-i-end.result (sym c.get.ensures ∙ w.in_default.is) c.loop-i-test.true c.len-i-end.ensures)
+      | in_default w ↦ absurd (none_past c.args.journal.now.entries c.loop-i.i c.len-i-end.result
+          (sym c.get.ensures ∙ w.in_default.is) c.loop-i-test.true c.len-i-end.ensures)
     ]

@@ -6,4 +6,6 @@ use Rattle.journal_text.proofs.RowLaws.{tells}
 use Rattle.journal_text.proofs.reading.read_journal.Goals as goal
 
 pub returns : goal.returns
-returns c = AnswersText-lines journal_step JournalLine tells entries_alone 0 c.args.text.now (entries_read c.journal_in.result) (rw c.as_slice.ensures at c.journal_in.ensures)
+returns c =
+    AnswersText-lines journal_step JournalLine tells entries_alone 0 c.args.text.now
+    (entries_read c.journal_in.result) (rw c.as_slice.ensures at c.journal_in.ensures)

@@ -11,4 +11,8 @@ returns c =
     let count : c.min-length.result ≡ min c.args.length chunk_size = cc in
     let seen = bytes_shown c.args.view.now c.args.from (min c.args.length chunk_size) in
     let front : take (min c.args.length chunk_size) c.copy_shown.new.chunk ≡ seen = cc in
-    record { turn = ap (Write c.args.to) count; bytes = copied c.copy_shown.new.chunk seen c.args.length front }
+    record {
+      turn = ap (Write c.args.to) count;
+      bytes = copied c.copy_shown.new.chunk seen
+          c.args.length front;
+    }

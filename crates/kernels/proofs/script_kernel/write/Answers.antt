@@ -10,8 +10,10 @@ pub returns : goal.returns
 returns c =
     let bytes = c.args.bytes.now in
     let count : c.min-length.result ≡ min (length bytes) chunk_size = cc in
-    let put : c.put.new.self ≡ stored c.args.chunk.now 0 (take (min (length bytes) chunk_size) bytes) = cc in
+    let put : c.put.new.self ≡ stored c.args.chunk.now 0 (take (min (length bytes) chunk_size)
+    bytes) = cc in
     record {
       turn = ap (Write c.args.address) count;
-      bytes = ap (take (min (min (length bytes) chunk_size) chunk_size)) put ∙ put_front c.args.chunk.now bytes;
+      bytes = ap (take (min (min (length bytes) chunk_size) chunk_size)) put
+          ∙ put_front c.args.chunk.now bytes;
     }

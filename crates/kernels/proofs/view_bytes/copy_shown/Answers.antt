@@ -10,5 +10,6 @@ loop-i-preserved c =
     let seen = bytes_shown c.args.view.now c.args.from c.loop-i.i in
     let long = length-map-range_with_len (byte_shown c.args.view.now) c.args.from c.loop-i.i in
     let put = put_more c.loop-i.chunk seen c.loop-i.i c.byte_shown.result c.loop-i.invariant long in
-    let more = map-range_with_len_more (byte_shown c.args.view.now) c.args.from c.loop-i.i (c.args.from + c.loop-i.i) refl in
+    let more = map-range_with_len_more (byte_shown c.args.view.now) c.args.from c.loop-i.i
+    (c.args.from + c.loop-i.i) refl in
     cc

@@ -4,4 +4,5 @@ use Rattle.keyed_mac.specs.Hmac.{masked as masked_of}
 use Rattle.keyed_mac.proofs.pads.masked.Given as goal
 
 abbrev pub invariant-loop-byte : goal.invariant-loop-byte
-invariant-loop-byte l = l.byte-items ≡ masked_of l.pad (take l.byte-index l.block) ++ drop l.byte-index l.block
+invariant-loop-byte l =
+    l.byte-items ≡ masked_of l.pad (take l.byte-index l.block) ++ drop l.byte-index l.block

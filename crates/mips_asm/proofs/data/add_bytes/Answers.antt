@@ -21,8 +21,15 @@ returns-in_ok-instructions-in-LoadNumber c =
 
 pub returns-in_ok-instructions-in-LoadAddress : goal.returns-in_ok-instructions-in-LoadAddress
 returns-in_ok-instructions-in-LoadAddress c =
-    rw c.in-LoadAddress.is (rw (c.in_ok-instructions-in-LoadAddress.ensures, c.as_slice-in-LoadAddress.ensures) at c.add_code-in-LoadAddress.ensures)
+    rw c.in-LoadAddress.is
+    (rw (c.in_ok-instructions-in-LoadAddress.ensures, c.as_slice-in-LoadAddress.ensures) at
+    c.add_code-in-LoadAddress.ensures)
 
 pub returns-in_ok-made-in-Instruction : goal.returns-in_ok-made-in-Instruction
 returns-in_ok-made-in-Instruction c =
-    rw c.in-Instruction.is (rw (c.in_ok-made-in-Instruction.ensures, c.as_slice-name.ensures, c.as_slice-arguments.ensures) at c.add_instruction.ensures)
+    rw c.in-Instruction.is
+    (rw (
+      c.in_ok-made-in-Instruction.ensures,
+      c.as_slice-name.ensures,
+      c.as_slice-arguments.ensures,
+    ) at c.add_instruction.ensures)

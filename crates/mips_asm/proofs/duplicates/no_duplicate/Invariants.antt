@@ -9,6 +9,8 @@ use Rattle.mips_asm.proofs.duplicates.no_duplicate.Given as goal
 
 abbrev pub invariant-loop-part : goal.invariant-loop-part
 invariant-loop-part l = record {
-  known : (name : List ℕ) → is_some (place_in l.known name) ≡ list_any (is_label name) (take l.part-index l.parts);
-  rest : duplicate_line l.parts ≡ first_fault (λ (part : Part). part.line) repeats (take l.part-index l.parts) (drop l.part-index l.parts);
+  known : (name : List ℕ) → is_some (place_in l.known name) ≡ list_any (is_label name)
+      (take l.part-index l.parts);
+  rest : duplicate_line l.parts ≡ first_fault (λ (part : Part). part.line) repeats
+      (take l.part-index l.parts) (drop l.part-index l.parts);
 }

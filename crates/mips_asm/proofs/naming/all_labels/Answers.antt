@@ -21,14 +21,20 @@ loop-placed-preserved c =
     elim c.match-label_of.branch [
       | in-Some+in_ok-_known w ↦
           let labelled = sym (rw w.in-Some.is at c.label_of.ensures) in
-          λ q. rw w.labels-is (place_label placed i item q w.in-Some.name.now (place_in c.loop-placed.labels q) (place_in w.insert.new.self q) c.loop-placed-test.true
+          λ q. rw w.labels-is (place_label placed i item q w.in-Some.name.now
+          (place_in c.loop-placed.labels q) (place_in w.insert.new.self q) c.loop-placed-test.true
           (here ∙ labelled)
-          (w.in_ok-_known.ensures.places q ∙ ap (λ (p : Placed). cond (bytes_eq w.in-Some.name.now q) (Some p.place) (place_in c.loop-placed.labels q)) c.placed-item.is)
+          (w.in_ok-_known.ensures.places q
+          ∙ ap (λ (p : Placed). cond (bytes_eq w.in-Some.name.now q) (Some p.place)
+          (place_in c.loop-placed.labels q)) c.placed-item.is)
           (c.loop-placed.invariant q))
       | in_default w ↦
           let none = sym (rw w.in_default.is at c.label_of.ensures) in
-          λ q. rw w.labels-is (c.loop-placed.invariant q ∙ place_none placed i item q c.loop-placed-test.true (here ∙ none))
+          λ q. rw w.labels-is (c.loop-placed.invariant q ∙ place_none placed i item q
+          c.loop-placed-test.true (here ∙ none))
     ]
 
 pub returns : goal.returns
-returns c = λ j name. (c.loop-placed.invariant name ∙ ap (λ (xs : List Placed). place_of xs name) (take_all c.loop-placed.placed-index c.args.placed.now c.loop-placed-test.false)) j
+returns c =
+    λ j name. (c.loop-placed.invariant name ∙ ap (λ (xs : List Placed). place_of xs name)
+    (take_all c.loop-placed.placed-index c.args.placed.now c.loop-placed-test.false)) j

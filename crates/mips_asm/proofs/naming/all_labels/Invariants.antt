@@ -5,4 +5,5 @@ use Rattle.mips_asm.specs.Passes.{place_of}
 use Rattle.mips_asm.proofs.naming.all_labels.Given as goal
 
 abbrev pub invariant-loop-placed : goal.invariant-loop-placed
-invariant-loop-placed l = (name : List ℕ) → place_in l.labels name ≡ place_of (take l.placed-index l.placed) name
+invariant-loop-placed l =
+    (name : List ℕ) → place_in l.labels name ≡ place_of (take l.placed-index l.placed) name

@@ -11,12 +11,14 @@ use Rattle.mips_asm.proofs.overlap.first_overlap.Goals.{then-placed-gt0+else-any
 
 pub any_written-requires-clause-within : goal.any_written-requires-clause-within
 any_written-requires-clause-within c =
-    let fits = fits_end c.args.placed.now c.loop-placed.placed-index c.placed-item.result c.loop-placed-test.true c.placed-item.is c.if-placed-gt0.true in
+    let fits = fits_end c.args.placed.now c.loop-placed.placed-index c.placed-item.result
+    c.loop-placed-test.true c.placed-item.is c.if-placed-gt0.true in
     omega (arith, fits, c.requires.whole)
 
 pub mark-requires-clause-within : goal.mark-requires-clause-within
 mark-requires-clause-within c =
-    let fits = fits_end c.args.placed.now c.loop-placed.placed-index c.placed-item.result c.loop-placed-test.true c.placed-item.is c.if-placed-gt0.true in
+    let fits = fits_end c.args.placed.now c.loop-placed.placed-index c.placed-item.result
+    c.loop-placed-test.true c.placed-item.is c.if-placed-gt0.true in
     omega (arith, fits, c.requires.whole)
 
 pub returns-then-any_written : goal.returns-then-any_written
@@ -25,9 +27,11 @@ returns-then-any_written c =
     let i = c.loop-placed.placed-index in
     let item = c.placed-item.result in
     let some = c.if-any_written.ensures.some in
-    let bad = overlaps_true (take i placed) item some.0 some.1 some.2 (sym (c.loop-placed.invariant.marked some.0) ∙ some.3) in
+    let bad = overlaps_true (take i placed) item some.0 some.1 some.2
+    (sym (c.loop-placed.invariant.marked some.0) ∙ some.3) in
     sym (c.loop-placed.invariant.rest
-    ∙ (found_at line_of overlaps placed i item c.loop-placed-test.true (ap (overlaps (take i placed)) (sym c.placed-item.is) ∙ bad)
+    ∙ (found_at line_of overlaps placed i item c.loop-placed-test.true
+    (ap (overlaps (take i placed)) (sym c.placed-item.is) ∙ bad)
     ∙ ap (λ (p : Placed). Some (line_of p)) (sym c.placed-item.is)))
 
 pub loop-placed-preserved : goal.loop-placed-preserved
@@ -37,21 +41,34 @@ loop-placed-preserved c =
     let item = c.placed-item.result in
     elim c.if-placed-gt0.branch [
       | then-placed-gt0+else-any_written w ↦ record {
-        marked = λ k. rw w.written-is (marked_more placed i item k (get_or c.loop-placed.written k false) (get_or w.mark.new.written k false) c.loop-placed-test.true
-            (w.mark.ensures k ∙ ap (λ (p : Placed). covers p k || get_or c.loop-placed.written k false) c.placed-item.is) (c.loop-placed.invariant.marked k));
-        rest = c.loop-placed.invariant.rest ∙ next_at line_of overlaps placed i item c.loop-placed-test.true
+        marked = λ k. rw w.written-is
+            (marked_more placed i item k (get_or c.loop-placed.written k false)
+            (get_or w.mark.new.written k false) c.loop-placed-test.true
+            (w.mark.ensures k ∙ ap (λ (p : Placed). covers p k || get_or c.loop-placed.written k
+            false) c.placed-item.is) (c.loop-placed.invariant.marked k));
+        rest = c.loop-placed.invariant.rest ∙ next_at line_of overlaps placed i item
+            c.loop-placed-test.true
             (ap (overlaps (take i placed)) (sym c.placed-item.is)
-            ∙ overlaps_false (take i placed) item (λ k a b. sym (c.loop-placed.invariant.marked k) ∙ w.if-any_written.ensures.none k a b));
+            ∙ overlaps_false (take i placed) item (λ k a b. sym (c.loop-placed.invariant.marked k)
+            ∙ w.if-any_written.ensures.none k a b));
       }
       | else-placed-gt0 w ↦
           let empty : c.placed-item.result.size ≡ 0 = omega (arith, w.if-placed-gt0.false) in
           record {
-            marked = λ k. rw w.written-is (marked_same placed i item k (get_or c.loop-placed.written k false) c.loop-placed-test.true
-                (ap (λ (p : Placed). p.size) (sym c.placed-item.is) ∙ empty) (c.loop-placed.invariant.marked k));
-            rest = c.loop-placed.invariant.rest ∙ next_at line_of overlaps placed i item c.loop-placed-test.true
-                (ap (overlaps (take i placed)) (sym c.placed-item.is) ∙ overlaps_empty (take i placed) item empty);
+            marked = λ k. rw w.written-is
+                (marked_same placed i item k (get_or c.loop-placed.written k false)
+                c.loop-placed-test.true
+                (ap (λ (p : Placed). p.size) (sym c.placed-item.is) ∙ empty)
+                (c.loop-placed.invariant.marked k));
+            rest = c.loop-placed.invariant.rest ∙ next_at line_of overlaps placed i item
+                c.loop-placed-test.true
+                (ap (overlaps (take i placed)) (sym c.placed-item.is)
+                ∙ overlaps_empty (take i placed) item empty);
           }
     ]
 
 pub returns : goal.returns
-returns c = sym (c.loop-placed.invariant.rest ∙ none_at line_of overlaps c.args.placed.now c.loop-placed.placed-index c.loop-placed-test.false)
+returns c =
+    sym
+    (c.loop-placed.invariant.rest ∙ none_at line_of overlaps c.args.placed.now
+    c.loop-placed.placed-index c.loop-placed-test.false)

@@ -8,6 +8,8 @@ use Rattle.mips_asm.proofs.overlap.first_overlap.Given as goal
 
 abbrev pub invariant-loop-placed : goal.invariant-loop-placed
 invariant-loop-placed l = record {
-  marked : (k : ℕ) → get_or l.written k false ≡ list_any (λ (p : Placed). covers p k) (take l.placed-index l.placed);
-  rest : overlap_line l.placed ≡ first_fault line_of overlaps (take l.placed-index l.placed) (drop l.placed-index l.placed);
+  marked : (k : ℕ) → get_or l.written k false ≡ list_any (λ (p : Placed). covers p k)
+      (take l.placed-index l.placed);
+  rest : overlap_line l.placed ≡ first_fault line_of overlaps (take l.placed-index l.placed)
+      (drop l.placed-index l.placed);
 }

@@ -9,9 +9,20 @@ use Rattle.mips_asm.proofs.overlap.last_end.Goals.{then-placed-gt0, else-placed-
 
 pub loop-placed-preserved : goal.loop-placed-preserved
 loop-placed-preserved c =
-    let more = rw (sym c.placed-item.is) at (last_end_more c.args.placed.now c.loop-placed.placed-index c.placed-item.result c.loop-placed-test.true) in
-    let inside = subst IsInside (sym c.placed-item.is) (All-get_or IsInside c.args.placed.now c.loop-placed.placed-index c.placed-item.result c.loop-placed-test.true c.requires) in
+    let more = rw (sym c.placed-item.is) at
+    (last_end_more c.args.placed.now c.loop-placed.placed-index c.placed-item.result
+    c.loop-placed-test.true) in
+    let inside = subst IsInside (sym c.placed-item.is) (All-get_or IsInside c.args.placed.now
+    c.loop-placed.placed-index c.placed-item.result c.loop-placed-test.true c.requires) in
     elim c.if-placed-gt0.branch [
-      | then-placed-gt0 w ↦ record { value = grind (arith, nat_tests, more); inside = grind (arith, nat_tests, inside) }
-      | else-placed-gt0 w ↦ record { value = grind (arith, nat_tests, more); inside = grind (arith, nat_tests) }
+      | then-placed-gt0 w ↦ record {
+        value = grind (arith, nat_tests, more);
+        inside =
+            grind (arith, nat_tests, inside);
+      }
+      | else-placed-gt0 w ↦ record {
+        value = grind (arith, nat_tests, more);
+        inside =
+            grind (arith, nat_tests);
+      }
     ]

@@ -9,7 +9,8 @@ write-requires c = λ some.
     let placed = c.args.placed.now in
     let given = rw c.if-not-written.false at c.in_ok-written.ensures in
     let written : length c.as_slice.result.now ≡ placed.size =
-    rw c.as_slice.ensures.value (Gives-size (place_in c.args.labels.now) placed.place placed.part.content _ given ∙ sym c.requires.sized) in
+    rw c.as_slice.ensures.value (Gives-size (place_in c.args.labels.now) placed.place
+    placed.part.content _ given ∙ sym c.requires.sized) in
     let room = c.requires.room in
     let few = c.as_slice.ensures.len in
     omega (arith, some, written, room)

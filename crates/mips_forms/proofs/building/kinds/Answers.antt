@@ -13,4 +13,5 @@ taken shown name None is = kinds_of-none name is
 taken shown name (Some shape) is = kinds_of-Takes name (shown shape) is
 
 pub returns-clause-exact : goal.returns-clause-exact
-returns-clause-exact c = taken (λ shape. shape.now) c.args.name.now c.found_kinds.result c.found_kinds.ensures
+returns-clause-exact c =
+    taken (λ shape. shape.now) c.args.name.now c.found_kinds.result c.found_kinds.ensures

@@ -6,4 +6,6 @@ use Rattle.plain_run.proofs.received.read_received.Goals as goal
 
 pub returns-clause-text : goal.returns-clause-text
 unfolding received_at
-returns-clause-text c = AnswersText-rows value_of IsValue value_exact value_nothing c.args.text.now c.read_values.result c.read_values.ensures
+returns-clause-text c =
+    AnswersText-rows value_of IsValue value_exact value_nothing c.args.text.now c.read_values.result
+    c.read_values.ensures

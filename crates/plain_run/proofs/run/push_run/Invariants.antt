@@ -5,7 +5,8 @@ use Rattle.plain_run.proofs.run.push_run.Given as goal
 
 abbrev pub invariant-loop-left : goal.invariant-loop-left
 invariant-loop-left l =
-    behind l.text.items (run_from l.left l.plain l.values) ≡ behind l.fn.text.items (run_from l.fn.steps l.fn.plain l.fn.received)
+    behind l.text.items (run_from l.left l.plain l.values) ≡ behind l.fn.text.items
+    (run_from l.fn.steps l.fn.plain l.fn.received)
 
 abbrev pub decreases-loop-left : goal.decreases-loop-left
 decreases-loop-left l = l.left

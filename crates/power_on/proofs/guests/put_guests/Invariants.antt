@@ -9,5 +9,6 @@ invariant-loop-image g l = record {
   machine : l.machine ≡ with_bytes l.fn.machine (ram_of l.machine);
   size : length (ram_of l.machine) ≡ length (ram_of l.fn.machine);
   fit : FitsAll l.frames l.frame (drop l.image-index l.images);
-  bytes : with_guests (ram_of l.machine) l.frame (drop l.image-index l.images) ≡ with_guests (ram_of l.fn.machine) first_frame l.images;
+  bytes : with_guests (ram_of l.machine) l.frame (drop l.image-index l.images) ≡ with_guests
+      (ram_of l.fn.machine) first_frame l.images;
 }

@@ -7,5 +7,6 @@ abbrev pub invariant-loop-i : goal.invariant-loop-i
 invariant-loop-i g l = record {
   machine : l.machine ≡ with_bytes l.fn.machine (ram_of l.machine);
   size : length (ram_of l.machine) ≡ length (ram_of l.fn.machine);
-  bytes : with_lines (ram_of l.machine) l.frame l.i (drop l.i l.lines) ≡ with_lines (ram_of l.fn.machine) l.frame 0 l.lines;
+  bytes : with_lines (ram_of l.machine) l.frame l.i (drop l.i l.lines) ≡ with_lines
+      (ram_of l.fn.machine) l.frame 0 l.lines;
 }

@@ -5,4 +5,6 @@ use Rattle.replay_tree.specs.Build.{versions_to}
 use Rattle.replay_tree.proofs.build.write_versions.Given as goal
 
 abbrev pub invariant-loop-line : goal.invariant-loop-line
-invariant-loop-line l = (l.ram ≡ stored l.initial.ram l.area (versions_to l.lines l.line)) × (length l.ram ≡ length l.initial.ram)
+invariant-loop-line l =
+    (l.ram ≡ stored l.initial.ram l.area (versions_to l.lines l.line))
+    × (length l.ram ≡ length l.initial.ram)

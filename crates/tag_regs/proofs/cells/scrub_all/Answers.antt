@@ -12,5 +12,7 @@ loop-cell-preserved c =
     let i = c.loop-cell.cell-index in
     let cell = get_or cells i empty in
     let within : i < length cells = omega arith in
-    let written = c.without.ensures ∙ ap (scrubbed_cell c.args.slot) (get_or_default cells i _ empty within) in
-    rw written (map_over_more (scrubbed_cell c.args.slot) old cells i cell (omega arith) c.loop-cell.invariant (get_or_default cells i empty cell within))
+    let written = c.without.ensures ∙ ap (scrubbed_cell c.args.slot)
+    (get_or_default cells i _ empty within) in
+    rw written (map_over_more (scrubbed_cell c.args.slot) old cells i cell (omega arith)
+    c.loop-cell.invariant (get_or_default cells i empty cell within))

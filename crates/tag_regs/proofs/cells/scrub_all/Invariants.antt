@@ -4,4 +4,5 @@ use Rattle.tag_regs.specs.TaggedCells.{scrubbed}
 use Rattle.tag_regs.proofs.cells.scrub_all.Given as goal
 
 abbrev pub invariant-loop-cell : goal.invariant-loop-cell
-invariant-loop-cell l = l.cells ≡ scrubbed l.slot (take l.cell-index l.fn.cells) ++ drop l.cell-index l.fn.cells
+invariant-loop-cell l =
+    l.cells ≡ scrubbed l.slot (take l.cell-index l.fn.cells) ++ drop l.cell-index l.fn.cells

@@ -8,9 +8,11 @@ pub loop-i-preserved : goal.loop-i-preserved
 loop-i-preserved c =
     elim c.match-get.branch [
       | in-Some+in_ok-push w ↦
-          let more = front_some c.args.journal.now.entries c.loop-i.i w.in-Some.entry (sym c.get.ensures ∙ w.in-Some.is) in
+          let more = front_some c.args.journal.now.entries c.loop-i.i w.in-Some.entry
+          (sym c.get.ensures ∙ w.in-Some.is) in
           rw w.entries-is (rw w.in_ok-push.ensures.items (rw c.loop-i.invariant (sym more)))
       | in_default w ↦
-          let same = front_none c.args.journal.now.entries c.loop-i.i (sym c.get.ensures ∙ w.in_default.is) in
+          let same = front_none c.args.journal.now.entries c.loop-i.i (sym c.get.ensures
+          ∙ w.in_default.is) in
           rw w.entries-is (rw c.loop-i.invariant (sym same))
     ]

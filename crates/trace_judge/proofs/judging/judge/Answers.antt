@@ -15,11 +15,15 @@ loop-i-preserved c =
     let i = c.loop-i.i in
     elim c.match-get.branch [
       | in-Some+else-not-may_feed+in_ok-feed w ↦
-          let got : slice_get entries i ≡ Some w.in-Some.entry = sym (rw w.in-Some.is at c.get.ensures) in
+          let got : slice_get entries i ≡ Some w.in-Some.entry =
+          sym (rw w.in-Some.is at c.get.ensures) in
           let may = w.may_feed.ensures machine owners (take i entries) c.loop-i.invariant in
-          rw w.judge-is (judged_next machine owners c.loop-i.judge w.feed.new.self entries i w.in-Some.entry got (omega (arith, c.loop-i-test.true, c.loop-i.auto.i-end)) (sym may ∙ w.if-not-may_feed.false) w.in_ok-feed.ensures.ok c.loop-i.invariant)
+          rw w.judge-is (judged_next machine owners c.loop-i.judge w.feed.new.self entries i
+          w.in-Some.entry got (omega (arith, c.loop-i-test.true, c.loop-i.auto.i-end))
+          (sym may ∙ w.if-not-may_feed.false) w.in_ok-feed.ensures.ok c.loop-i.invariant)
       | in_default w ↦
-          rw w.judge-is (judged_none machine owners c.loop-i.judge entries i (sym (rw w.in_default.is at c.get.ensures)) c.loop-i.invariant)
+          rw w.judge-is (judged_none machine owners c.loop-i.judge entries i
+          (sym (rw w.in_default.is at c.get.ensures)) c.loop-i.invariant)
     ]
 
 pub returns : goal.returns
@@ -27,5 +31,7 @@ returns c =
     let machine = c.args.machine.now in
     let owners = c.args.owners.now in
     let entries = c.args.journal.now.entries in
-    let all = take_all c.loop-i.i entries (omega (arith, c.loop-i-test.false, c.len-i-end.ensures)) in
-    judgement-of_report machine owners c.loop-i.judge entries c.report.result c.report.ensures (subst (HasJudged machine owners c.loop-i.judge) all c.loop-i.invariant)
+    let all = take_all c.loop-i.i entries
+    (omega (arith, c.loop-i-test.false, c.len-i-end.ensures)) in
+    judgement-of_report machine owners c.loop-i.judge entries c.report.result c.report.ensures
+    (subst (HasJudged machine owners c.loop-i.judge) all c.loop-i.invariant)

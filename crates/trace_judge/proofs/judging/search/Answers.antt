@@ -6,4 +6,8 @@ use Rattle.trace_judge.proofs.judging.search.Goals as goal
 
 pub loop-entry-preserved : goal.loop-entry-preserved
 loop-entry-preserved c =
-    searched_next (sealed_by c.args.machine.now c.args.owners.now) c.loop-entry.searches c.feed.new.self c.args.entries.now c.loop-entry.entry-index c.entry-item.result c.loop-entry-test.true (omega (arith, c.loop-entry-test.true, c.loop-entry.auto.entry-index-end)) c.entry-item.is c.in_ok-feed.ensures.ok c.loop-entry.invariant
+    searched_next (sealed_by c.args.machine.now c.args.owners.now) c.loop-entry.searches
+    c.feed.new.self c.args.entries.now c.loop-entry.entry-index c.entry-item.result
+    c.loop-entry-test.true
+    (omega (arith, c.loop-entry-test.true, c.loop-entry.auto.entry-index-end)) c.entry-item.is
+    c.in_ok-feed.ensures.ok c.loop-entry.invariant

@@ -5,4 +5,5 @@ use Rattle.trace_judge.specs.Judging.{HasSearched}
 use Rattle.trace_judge.proofs.judging.search.Given as goal
 
 abbrev pub invariant-loop-entry : goal.invariant-loop-entry
-invariant-loop-entry l = HasSearched (sealed_by l.machine l.owners) l.searches (take l.entry-index l.entries)
+invariant-loop-entry l =
+    HasSearched (sealed_by l.machine l.owners) l.searches (take l.entry-index l.entries)

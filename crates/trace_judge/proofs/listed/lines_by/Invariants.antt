@@ -7,4 +7,7 @@ use Rattle.trace_judge.proofs.listed.lines_by.Given as goal
 
 abbrev pub invariant-loop-entry : goal.invariant-loop-entry
 invariant-loop-entry l =
-    AreVerdicts l.owners (told_of_install l.trails) l.found × (l.lines ++ filter_map (line_by l.owners (told_of_install l.trails)) (drop l.entry-index l.entries) ≡ filter_map (line_by l.owners (told_of_install l.trails)) l.entries)
+    AreVerdicts l.owners (told_of_install l.trails) l.found
+    × (l.lines ++ filter_map (line_by l.owners (told_of_install l.trails))
+    (drop l.entry-index l.entries) ≡ filter_map (line_by l.owners (told_of_install l.trails))
+    l.entries)

@@ -7,4 +7,6 @@ use Rattle.trace_judge.proofs.sealings.any_has.Given as goal
 
 abbrev pub invariant-loop-own : goal.invariant-loop-own
 invariant-loop-own l =
-    list_any (λ own. is_sealed l.key l.message (sealing_of own.machine own.owner)) (drop l.own-index l.items) ≡ list_any (λ own. is_sealed l.key l.message (sealing_of own.machine own.owner)) l.items
+    list_any (λ own. is_sealed l.key l.message (sealing_of own.machine own.owner))
+    (drop l.own-index l.items) ≡ list_any
+    (λ own. is_sealed l.key l.message (sealing_of own.machine own.owner)) l.items

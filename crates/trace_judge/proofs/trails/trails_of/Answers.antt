@@ -8,4 +8,5 @@ pub loop-entry-preserved : goal.loop-entry-preserved
 loop-entry-preserved c n =
     c.in_ok-add.ensures n
     ∙ ap (λ was. told_after was n c.entry-item.result) (c.loop-entry.invariant n)
-    ∙ sym (told_of-take c.args.entries.now c.loop-entry.entry-index c.entry-item.result c.loop-entry-test.true c.entry-item.is n)
+    ∙ sym (told_of-take c.args.entries.now c.loop-entry.entry-index c.entry-item.result
+    c.loop-entry-test.true c.entry-item.is n)

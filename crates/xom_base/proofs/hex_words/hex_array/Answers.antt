@@ -7,10 +7,12 @@ use Rattle.xom_base.specs.Hex.{IsHex}
 use Rattle.xom_base.proofs.hex_words.hex_array.Goals as goal
 
 pub returns-clause-value : goal.returns-clause-value
-returns-clause-value g c = c.ok.ensures.value ∙ (ap result_ok c.from_hex.ensures ∙ decoded_is g.row.N c.args.word.now)
+returns-clause-value g c =
+    c.ok.ensures.value ∙ (ap result_ok c.from_hex.ensures ∙ decoded_is g.row.N c.args.word.now)
 
 pub returns-clause-exact : goal.returns-clause-exact
 returns-clause-exact g c = rw (returns-clause-value g c) (hex_of-exact g.row.N c.args.word.now)
 
 pub returns-clause-none : goal.returns-clause-none
-returns-clause-none g c = none_by_exact (IsHex g.row.N c.args.word.now) c.ok.result (returns-clause-exact g c)
+returns-clause-none g c =
+    none_by_exact (IsHex g.row.N c.args.word.now) c.ok.result (returns-clause-exact g c)

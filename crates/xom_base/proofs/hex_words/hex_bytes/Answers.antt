@@ -5,7 +5,8 @@ use Rattle.xom_base.proofs.HexLaws.{decoded_new}
 use Rattle.xom_base.proofs.hex_words.hex_bytes.Goals as goal
 
 pub returns-in-Ok : goal.returns-in-Ok
-returns-in-Ok c = rw c.from_vec.ensures (sym (ap result_ok c.in-Ok.ensures.ok) ∙ decoded_new c.args.word.now)
+returns-in-Ok c =
+    rw c.from_vec.ensures (sym (ap result_ok c.in-Ok.ensures.ok) ∙ decoded_new c.args.word.now)
 
 pub returns-in_ok-word_fault-in-Err : goal.returns-in_ok-word_fault-in-Err
 returns-in_ok-word_fault-in-Err c =

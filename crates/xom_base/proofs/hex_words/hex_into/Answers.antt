@@ -5,8 +5,10 @@ use Rattle.xom_base.specs.Hex.{WritesHex}
 use Rattle.xom_base.proofs.hex_words.hex_into.Goals as goal
 
 pub returns-clause-exact : goal.returns-clause-exact
-returns-clause-exact c = rw c.into_room.ensures.value (hex_within-exact (length c.args.room.now) c.args.word.now)
+returns-clause-exact c =
+    rw c.into_room.ensures.value (hex_within-exact (length c.args.room.now) c.args.word.now)
 
 pub returns-clause-none : goal.returns-clause-none
 returns-clause-none c =
-    none_made (WritesHex (length c.args.room.now) c.args.word.now) (λ count. take count c.into_room.new.room) c.into_room.result (returns-clause-exact c)
+    none_made (WritesHex (length c.args.room.now) c.args.word.now)
+    (λ count. take count c.into_room.new.room) c.into_room.result (returns-clause-exact c)

@@ -5,8 +5,10 @@ use Rattle.xom_base.proofs.hex_words.hex_list.Goals as goal
 
 pub returns-clause-exact : goal.returns-clause-exact
 returns-clause-exact c =
-    exact_in (WritesHex c.args.most c.args.word.now) (hex_within c.args.most c.args.word.now) (hex_within-exact c.args.most c.args.word.now) c.list_within.result c.list_within.ensures
+    exact_in (WritesHex c.args.most c.args.word.now) (hex_within c.args.most c.args.word.now)
+    (hex_within-exact c.args.most c.args.word.now) c.list_within.result c.list_within.ensures
 
 pub returns-clause-none : goal.returns-clause-none
 returns-clause-none c =
-    none_in (WritesHex c.args.most c.args.word.now) (hex_within c.args.most c.args.word.now) (hex_within-exact c.args.most c.args.word.now) c.list_within.result c.list_within.ensures
+    none_in (WritesHex c.args.most c.args.word.now) (hex_within c.args.most c.args.word.now)
+    (hex_within-exact c.args.most c.args.word.now) c.list_within.result c.list_within.ensures

@@ -5,4 +5,6 @@ use Rattle.xom_base.specs.Words.{words_of}
 use Rattle.xom_base.proofs.line_words.few_words.Given as goal
 
 abbrev pub invariant-loop-taken : goal.invariant-loop-taken
-invariant-loop-taken g l = (words_of l.line ≡ map (λ word. word.now) l.found.items ++ words_of l.rest) × (array_vec_len l.found ≡ l.taken)
+invariant-loop-taken g l =
+    (words_of l.line ≡ map (λ word. word.now) l.found.items ++ words_of l.rest)
+    × (array_vec_len l.found ≡ l.taken)

@@ -15,5 +15,6 @@ returns c =
     (YieldsList-from_filter _ has_bytes
     (YieldsList-at c.filter.ensures.source
     (YieldsList-from_slice_split _ is_blank (before_first begins_comment c.args.line.now)
-    (c.split.ensures.rest ∙ c.before_comment.ensures) c.split.ensures.done c.split.ensures.closure (λ x b q k. search (rules, tests))))
+    (c.split.ensures.rest ∙ c.before_comment.ensures) c.split.ensures.done c.split.ensures.closure
+    (λ x b q k. search (rules, tests))))
     c.filter.ensures.closure (λ x b q k. search (rules, tests))))

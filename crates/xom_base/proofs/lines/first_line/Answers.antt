@@ -9,7 +9,8 @@ returns-in-Some-clause-lines c =
 
 pub returns-in-Some-clause-shorter : goal.returns-in-Some-clause-shorter
 returns-in-Some-clause-shorter c =
-    cut_of-shorter 10 c.args.text.now c.in-Some.parts.0.now c.in-Some.parts.1.now (sym c.in-Some.ensures)
+    cut_of-shorter 10 c.args.text.now c.in-Some.parts.0.now c.in-Some.parts.1.now
+    (sym c.in-Some.ensures)
 
 pub returns-in-None-clause-lines : goal.returns-in-None-clause-lines
 returns-in-None-clause-lines c = lines_of-whole c.args.text.now c.requires (sym c.in-None.ensures)

@@ -5,7 +5,8 @@ use Rattle.xom_base.proofs.lines.read_counted.Given as goal
 
 abbrev pub invariant-loop-rest : goal.invariant-loop-rest
 invariant-loop-rest g l = record {
-  read : with_front l.values.items (read_from g.R.LineFormat.step l.reader l.number (lines_of l.rest)) ≡ read_from g.R.LineFormat.step l.fn.reader 1 (lines_of l.text);
+  read : with_front l.values.items (read_from g.R.LineFormat.step l.reader l.number
+      (lines_of l.rest)) ≡ read_from g.R.LineFormat.step l.fn.reader 1 (lines_of l.text);
   number : l.number + length l.rest ≤ length l.text + 1;
   count : l.number + length (lines_of l.rest) ≡ 1 + length (lines_of l.text);
 }

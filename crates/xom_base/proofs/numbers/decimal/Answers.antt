@@ -7,4 +7,5 @@ pub returns-clause-exact : goal.returns-clause-exact
 returns-clause-exact c = rw c.numeral.ensures (numeral_of-exact 10 c.args.word.now)
 
 pub returns-clause-none : goal.returns-clause-none
-returns-clause-none c = none_by_exact (IsDecimal c.args.word.now) c.numeral.result (returns-clause-exact c)
+returns-clause-none c =
+    none_by_exact (IsDecimal c.args.word.now) c.numeral.result (returns-clause-exact c)

@@ -5,11 +5,15 @@ use Rattle.xom_base.specs.Numbers.{WritesDecimal}
 use Rattle.xom_base.proofs.numbers.decimal_below.Goals as goal
 
 pub returns-clause-exact : goal.returns-clause-exact
-returns-clause-exact c = rw c.decimal_in.ensures (decimal_below_of-exact c.args.bound c.args.word.now)
+returns-clause-exact c =
+    rw c.decimal_in.ensures (decimal_below_of-exact c.args.bound c.args.word.now)
 
 pub returns-clause-none : goal.returns-clause-none
-returns-clause-none c = none_by_exact (WritesDecimal c.args.bound c.args.word.now) c.decimal_in.result (returns-clause-exact c)
+returns-clause-none c =
+    none_by_exact (WritesDecimal c.args.bound c.args.word.now) c.decimal_in.result
+    (returns-clause-exact c)
 
 pub returns-clause-small : goal.returns-clause-small
 returns-clause-small c =
-    some_by_exact (WritesDecimal c.args.bound c.args.word.now) (λ n. n < c.args.bound) c.decimal_in.result (returns-clause-exact c) (λ n written. written.1)
+    some_by_exact (WritesDecimal c.args.bound c.args.word.now) (λ n. n < c.args.bound)
+    c.decimal_in.result (returns-clause-exact c) (λ n written. written.1)

@@ -8,8 +8,10 @@ pub returns-clause-exact : goal.returns-clause-exact
 returns-clause-exact c = rw c.below.ensures (number_below_of-exact c.args.bound c.args.word.now)
 
 pub returns-clause-none : goal.returns-clause-none
-returns-clause-none c = none_by_exact (Writes c.args.bound c.args.word.now) c.below.result (returns-clause-exact c)
+returns-clause-none c =
+    none_by_exact (Writes c.args.bound c.args.word.now) c.below.result (returns-clause-exact c)
 
 pub returns-clause-small : goal.returns-clause-small
 returns-clause-small c =
-    some_by_exact (Writes c.args.bound c.args.word.now) (λ n. n < c.args.bound) c.below.result (returns-clause-exact c) (λ n written. written.1)
+    some_by_exact (Writes c.args.bound c.args.word.now) (λ n. n < c.args.bound) c.below.result
+    (returns-clause-exact c) (λ n written. written.1)

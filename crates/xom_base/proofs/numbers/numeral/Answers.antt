@@ -12,10 +12,12 @@ returns-then-starts_with c =
 pub returns : goal.returns
 returns c =
     c.ok.ensures.value
-    ∙ numeral_unsigned c.args.base c.args.word.now c.from_str_radix.result (sym c.starts_with.ensures.value ∙ c.if-starts_with.false)
+    ∙ numeral_unsigned c.args.base c.args.word.now c.from_str_radix.result
+    (sym c.starts_with.ensures.value ∙ c.if-starts_with.false)
     (rw c.in-Ok.ensures.cases.0 at c.from_str_radix.ensures.value)
 
 pub returns-in_default : goal.returns-in_default
 returns-in_default c =
     sym (numeral_none c.args.base c.args.word.now (λ numeral.
-    c.in_default.ensures.cases.0 (IsUtf8-digits c.args.base c.args.word.now c.requires.most numeral.1)))
+    c.in_default.ensures.cases.0 (IsUtf8-digits c.args.base c.args.word.now c.requires.most
+    numeral.1)))

@@ -6,7 +6,8 @@ use Rattle.cli_base.specs.declared.refusal.Stop.{Stop}
 use Rattle.xom_cli.proofs.top.answer.Goals as goal
 
 -- status 0 alone
-done-alone : (r : Result Answer Stop) → IfOk r (λ answer. answer.status ≡ 0) → IfOk r (λ answer. IsDone answer.status)
+done-alone : (r : Result Answer Stop) → IfOk r (λ answer. answer.status ≡ 0)
+    → IfOk r (λ answer. IsDone answer.status)
 done-alone (Ok answer) is = inl is
 done-alone (Err why) is = tt
 

@@ -10,9 +10,13 @@ use Rattle.xom_debug.proofs.debugger.debugged.Goals as goal
 
 pub loop-command-init : goal.loop-command-init
 loop-command-init g c =
-    subst (λ text. CarriedOut g.K.Kernel.told c.args.schedule.now g.V.VersionStore.versions c.args.budget c.args.commands.now c.in_ok-session.session c.args.machine.now c.args.kernel.now 0 c.in_ok-session.session c.args.machine.now c.args.kernel.now text)
+    subst (λ text. CarriedOut g.K.Kernel.told c.args.schedule.now g.V.VersionStore.versions
+    c.args.budget c.args.commands.now c.in_ok-session.session c.args.machine.now c.args.kernel.now
+    0 c.in_ok-session.session c.args.machine.now c.args.kernel.now text)
     (sym c.new-text.ensures.items)
-    (carried-none g.K.Kernel.told c.args.schedule.now g.V.VersionStore.versions c.args.budget c.args.commands.now c.in_ok-session.session c.args.machine.now c.args.kernel.now c.in_ok-session.ensures.guests c.requires.first)
+    (carried-none g.K.Kernel.told c.args.schedule.now g.V.VersionStore.versions c.args.budget
+    c.args.commands.now c.in_ok-session.session c.args.machine.now c.args.kernel.now
+    c.in_ok-session.ensures.guests c.requires.first)
 
 pub loop-command-preserved : goal.loop-command-preserved
 loop-command-preserved g c =
@@ -22,11 +26,17 @@ loop-command-preserved g c =
     let command : Command = get_or items i (command_kinds.Step 0) in
     let same : items ≡ commands = c.as_slice-command-items.ensures in
     let here : drop i commands ≡ command ∷ drop (i + 1) commands =
-      subst (λ (xs : List Command). drop i xs ≡ command ∷ drop (i + 1) xs) same (drop_more items i (command_kinds.Step 0) c.loop-command-test.true) in
-    subst (λ text. CarriedOut g.K.Kernel.told c.args.schedule.now g.V.VersionStore.versions c.args.budget c.args.commands.now c.in_ok-session.session c.args.machine.now c.args.kernel.now (i + 1) c.advance.new.self c.advance.new.machine c.advance.new.kernel text)
-    (sym (c.in_ok-show.ensures ∙ ap (λ view. c.loop-command.text.items ++ said command c.advance.new.self.last.items view) c.view.ensures))
-    (carried-more g.K.Kernel.told c.args.schedule.now g.V.VersionStore.versions c.args.budget c.args.commands.now
-    c.in_ok-session.session c.args.machine.now c.args.kernel.now i c.loop-command.session c.loop-command.machine c.loop-command.kernel c.loop-command.text.items
+    subst (λ (xs : List Command). drop i xs ≡ command ∷ drop (i + 1) xs) same
+    (drop_more items i (command_kinds.Step 0) c.loop-command-test.true) in
+    subst (λ text. CarriedOut g.K.Kernel.told c.args.schedule.now g.V.VersionStore.versions
+    c.args.budget c.args.commands.now c.in_ok-session.session c.args.machine.now c.args.kernel.now
+    (i + 1) c.advance.new.self c.advance.new.machine c.advance.new.kernel text)
+    (sym (c.in_ok-show.ensures ∙ ap (λ view. c.loop-command.text.items
+    ++ said command c.advance.new.self.last.items view) c.view.ensures))
+    (carried-more g.K.Kernel.told c.args.schedule.now g.V.VersionStore.versions c.args.budget
+    c.args.commands.now
+    c.in_ok-session.session c.args.machine.now c.args.kernel.now i c.loop-command.session
+    c.loop-command.machine c.loop-command.kernel c.loop-command.text.items
     c.requires.first c.in_ok-session.ensures.noted c.loop-command.invariant
     command (drop (i + 1) commands) here
     c.advance.new.self c.advance.new.machine c.advance.new.kernel c.in_ok-advance.ensures refl)

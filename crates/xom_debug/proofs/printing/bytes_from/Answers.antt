@@ -11,5 +11,6 @@ loop-i-preserved c =
     let i = c.loop-i.i in
     c.in_ok-push.ensures.items
     ∙ ap (λ bytes. bytes ++ c.byte_at.result ∷ []) c.loop-i.invariant
-    ∙ ap (λ byte. bytes_from_of view address i ++ byte ∷ []) (rw (c.from.ensures, c.from-in-loop-i.ensures) at c.byte_at.ensures)
+    ∙ ap (λ byte. bytes_from_of view address i ++ byte ∷ [])
+    (rw (c.from.ensures, c.from-in-loop-i.ensures) at c.byte_at.ensures)
     ∙ sym (map-range_with_len_more (byte_at_of view) address i (address + i) refl)

@@ -9,4 +9,5 @@ use Rattle.xom_debug.proofs.session.has_left.Goals as goal
 pub returns-then-is_guest : goal.returns-then-is_guest
 returns-then-is_guest g c =
     ap not (c.is_guest_running.ensures ∙ sym (running-seen c.args.machine.now.state))
-    ∙ ap (λ b. b && not (is_guest_running (view_of c.args.machine.now.state))) (sym (sym c.is_guest.ensures ∙ c.if-is_guest.true))
+    ∙ ap (λ b. b && not (is_guest_running (view_of c.args.machine.now.state)))
+    (sym (sym c.is_guest.ensures ∙ c.if-is_guest.true))

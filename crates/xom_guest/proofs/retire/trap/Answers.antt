@@ -7,5 +7,7 @@ use Rattle.xom_guest.proofs.retire.trap.Goals as goal
 
 pub invariant_of-core : goal.invariant_of-core
 invariant_of-core g c =
-    fits_paused _ _ _ _ _ _ _ _ c.args.slot _ (subst (λ w. IsRunning w.core c.args.slot) (sym c.core.view_is) c.requires.runs)
-    (c.paused-session.ensures ∙ ap paused c.session.ensures) c.renew.ensures.keys c.renew.ensures.others c.core.invariant
+    fits_paused _ _ _ _ _ _ _ _ c.args.slot _ (subst (λ w. IsRunning w.core c.args.slot)
+    (sym c.core.view_is) c.requires.runs)
+    (c.paused-session.ensures ∙ ap paused c.session.ensures) c.renew.ensures.keys
+    c.renew.ensures.others c.core.invariant

@@ -5,4 +5,5 @@ use Rattle.xom_image.specs.SealedFiles.{line_bytes}
 use Rattle.xom_image.proofs.sealed.write_lines.Given as goal
 
 abbrev pub invariant-loop-line : goal.invariant-loop-line
-invariant-loop-line l = l.file.items ≡ l.initial.file.items ++ flat_map line_bytes (take l.line-index l.lines)
+invariant-loop-line l =
+    l.file.items ≡ l.initial.file.items ++ flat_map line_bytes (take l.line-index l.lines)

@@ -7,5 +7,6 @@ use Rattle.xom_ops.proofs.guests.run.Goals as goal
 
 pub invariant_of-core : goal.invariant_of-core
 invariant_of-core g c =
-    fits_resumed _ _ _ _ _ _ _ c.args.slot _ c.core.invariant (c.resumed.ensures ∙ ap resumed c.session.ensures)
+    fits_resumed _ _ _ _ _ _ _ c.args.slot _ c.core.invariant (c.resumed.ensures
+    ∙ ap resumed c.session.ensures)
     (subst (λ w. IsLive w.core c.args.slot) (sym c.core.view_is) c.requires.live)

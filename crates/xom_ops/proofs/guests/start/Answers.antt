@@ -8,5 +8,7 @@ use Rattle.xom_ops.proofs.guests.start.Goals as goal
 
 pub invariant_of-core : goal.invariant_of-core
 invariant_of-core g c =
-    fits_entered _ _ _ _ _ _ _ c.args.slot _ c.core.invariant (c.entered.ensures ∙ ap entered c.session.ensures)
-    (subst (λ w. (session_of w.core c.args.slot).state ≡ state.Fresh) (sym c.core.view_is) c.requires.fresh)
+    fits_entered _ _ _ _ _ _ _ c.args.slot _ c.core.invariant (c.entered.ensures
+    ∙ ap entered c.session.ensures)
+    (subst (λ w. (session_of w.core c.args.slot).state ≡ state.Fresh) (sym c.core.view_is)
+    c.requires.fresh)

@@ -11,5 +11,6 @@ invariant_of-core g c =
     fits_paged _ _ _ _ _ _ _ _ c.args.slot c.args.page c.args.frame c.in-Ok.ensures.frames
     (subst (λ w. HoldsFrame w.core.ram c.args.frame) (sym c.core.view_is) c.requires.frame)
     (subst (λ w. IsLive w.core c.args.slot) (sym c.core.view_is) c.requires.live)
-    (subst (λ w. frame_of w.core.pages c.args.slot c.args.page ≡ None) (sym c.core.view_is) c.requires.none)
+    (subst (λ w. frame_of w.core.pages c.args.slot c.args.page ≡ None) (sym c.core.view_is)
+    c.requires.none)
     c.core.invariant

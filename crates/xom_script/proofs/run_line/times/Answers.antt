@@ -14,7 +14,8 @@ returns-in_default c =
     let i = c.loop-word.word-index in
     let before = rw (drop_more words i no_word c.loop-word-test.true) at c.loop-word.invariant in
     sym (sym before
-    ∙ times_none c.loop-word.times c.loop-word.last (get_or words i no_word).now (map (λ word. word.now) (drop (i + 1) words))
+    ∙ times_none c.loop-word.times c.loop-word.last (get_or words i no_word).now
+    (map (λ word. word.now) (drop (i + 1) words))
     (sym c.number.ensures.value ∙ c.in_default.is))
 
 pub returns-then-time-last : goal.returns-then-time-last
@@ -23,7 +24,8 @@ returns-then-time-last c =
     let i = c.loop-word.word-index in
     let before = rw (drop_more words i no_word c.loop-word-test.true) at c.loop-word.invariant in
     sym (sym before
-    ∙ times_low c.loop-word.times c.loop-word.last c.in-Some.time (get_or words i no_word).now (map (λ word. word.now) (drop (i + 1) words))
+    ∙ times_low c.loop-word.times c.loop-word.last c.in-Some.time (get_or words i no_word).now
+    (map (λ word. word.now) (drop (i + 1) words))
     (sym c.number.ensures.value ∙ c.in-Some.is) c.if-time-last.true)
 
 pub loop-word-preserved : goal.loop-word-preserved
@@ -32,11 +34,13 @@ loop-word-preserved c =
     let i = c.loop-word.word-index in
     let before = rw (drop_more words i no_word c.loop-word-test.true) at c.loop-word.invariant in
     rw c.in_ok-push.ensures.ok
-    (sym (times_next c.loop-word.times c.loop-word.last c.in-Some.time (get_or words i no_word).now (map (λ word. word.now) (drop (i + 1) words))
+    (sym (times_next c.loop-word.times c.loop-word.last c.in-Some.time (get_or words i no_word).now
+    (map (λ word. word.now) (drop (i + 1) words))
     (sym c.number.ensures.value ∙ c.in-Some.is) c.if-time-last.false)
     ∙ before)
 
 pub returns : goal.returns
 returns c =
-    let before = rw (drop_all c.loop-word.word-index c.args.words.now c.loop-word-test.false) at c.loop-word.invariant in
+    let before = rw (drop_all c.loop-word.word-index c.args.words.now c.loop-word-test.false) at
+    c.loop-word.invariant in
     sym (sym before ∙ times_done c.loop-word.times c.loop-word.last)

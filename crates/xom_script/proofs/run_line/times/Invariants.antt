@@ -5,5 +5,6 @@ use Rattle.xom_script.proofs.run_line.times.Given as goal
 
 abbrev pub invariant-loop-word : goal.invariant-loop-word
 invariant-loop-word l =
-    option_map (λ more. l.times ++ more) (times_of l.last (map (λ word. word.now) (drop l.word-index l.words)))
+    option_map (λ more. l.times ++ more)
+    (times_of l.last (map (λ word. word.now) (drop l.word-index l.words)))
     ≡ times_of 0 (map (λ word. word.now) l.words)

@@ -13,6 +13,7 @@ returns c =
     let key = c.self.inside.key in
     let from_states = λ (ready : IsPrepared c.self.inside.inner c.self.inside.outer key).
     c.digest_behind.ensures (masked opad (block_key key)) ready.outer
-    ∙ ap (λ text. sha256 (masked opad (block_key key) ++ text)) (c.digest_behind-inner.ensures (masked ipad (block_key key)) ready.inner) in
+    ∙ ap (λ text. sha256 (masked opad (block_key key) ++ text))
+    (c.digest_behind-inner.ensures (masked ipad (block_key key)) ready.inner) in
     ∥∥₁_elim c.self.invariant (Coded-set (coded_list coded_ℕ) _ _) from_states
     ∙ ap (λ seen. hmac_sha256 seen c.args.text.now) c.self.view_is

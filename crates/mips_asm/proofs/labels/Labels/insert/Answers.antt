@@ -3,4 +3,6 @@ use Rattle.std.proofs.lemmas.Map.Text.{btree_map_updates_str}
 use Rattle.mips_asm.proofs.labels.Labels.insert.Goals as goal
 
 pub returns-clause-places : goal.returns-clause-places
-returns-clause-places c = λ other. btree_map_updates_str c.args.name.now c.args.self.now.places c.insert.new.self _ c.in_ok-old.ensures.updates other
+returns-clause-places c =
+    λ other. btree_map_updates_str c.args.name.now c.args.self.now.places c.insert.new.self
+    _ c.in_ok-old.ensures.updates other

@@ -6,7 +6,8 @@ use Rattle.mips_plain.proofs.memory.Memory.store.Goals as goal
 
 pub returns : goal.returns
 returns c =
-    stored_as private_size c.args.address c.args.count c.args.value _ c.self.inside.bytes.items c.reach.new.bytes.items _ c.self.inside.bytes.ok.0 c.reach.ensures.items
+    stored_as private_size c.args.address c.args.count c.args.value _ c.self.inside.bytes.items
+    c.reach.new.bytes.items _ c.self.inside.bytes.ok.0 c.reach.ensures.items
     c.put.ensures.items
     c.requires.word c.requires.room
     ∙ ap (λ all. written_at all c.args.address (low_bytes c.args.count c.args.value)) c.self.view_is

@@ -4,7 +4,8 @@ use Rattle.trace_judge.proofs.collisions.Collisions.feed.Goals as goal
 
 pub returns-in-Ok-clause-ok : goal.returns-in-Ok-clause-ok
 returns-in-Ok-clause-ok c es counted was =
-    fed_one c.args.number _ _ _ _ es c.args.entry.now counted c.in-Ok.ensures.found c.in-Ok.ensures.firsts was
+    fed_one c.args.number _ _ _ _ es c.args.entry.now counted c.in-Ok.ensures.found
+    c.in-Ok.ensures.firsts was
 
 pub returns-in-Err-clause-err : goal.returns-in-Err-clause-err
 returns-in-Err-clause-err c es was =

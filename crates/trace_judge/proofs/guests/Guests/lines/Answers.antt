@@ -6,4 +6,5 @@ use Rattle.trace_judge.proofs.guests.Guests.lines.Goals as goal
 
 pub returns : goal.returns
 returns c owners es fed =
-    c.in_ok-lines.ensures ∙ ap (map (λ g. line_after g [])) c.deref.ensures.value ∙ lines_now owners _ es fed
+    c.in_ok-lines.ensures ∙ ap (map (λ g. line_after g [])) c.deref.ensures.value ∙ lines_now owners
+    _ es fed

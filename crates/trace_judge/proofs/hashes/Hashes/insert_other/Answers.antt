@@ -5,4 +5,5 @@ use Rattle.trace_judge.proofs.hashes.Hashes.insert_other.Goals as goal
 
 pub returns-clause-ok : goal.returns-clause-ok
 returns-clause-ok c =
-    other_digest_put c.args.self.now (record c.args.self.now { others = c.insert.new.self }) c.args.digest.now c.args.first.now c.in_ok-_old.ensures.updates refl c.requires
+    other_digest_put c.args.self.now (record c.args.self.now { others = c.insert.new.self })
+    c.args.digest.now c.args.first.now c.in_ok-_old.ensures.updates refl c.requires

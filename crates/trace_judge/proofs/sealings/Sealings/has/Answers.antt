@@ -12,5 +12,7 @@ returns c =
     let key = c.args.key.now in
     let message = c.args.message.now in
     c.any_has.ensures
-    ∙ ap (list_any (λ (own : OwnerSealing). is_sealed key message (sealing_of own.machine own.owner))) c.as_slice.ensures.value
-    ∙ sealed_by_any (λ (own : OwnerSealing). sealing_of own.machine own.owner) c.args.self.now.items.items key message
+    ∙ ap (list_any (λ (own : OwnerSealing). is_sealed key message
+    (sealing_of own.machine own.owner))) c.as_slice.ensures.value
+    ∙ sealed_by_any (λ (own : OwnerSealing). sealing_of own.machine own.owner)
+    c.args.self.now.items.items key message

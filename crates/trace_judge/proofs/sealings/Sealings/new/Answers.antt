@@ -14,8 +14,12 @@ loop-i-preserved c =
     let i = c.loop-i.i in
     elim c.match-get.branch [
       | in-Some+in_ok-push w ↦
-          let got : slice_get owners i ≡ Some w.in-Some.owner.now = sym (rw w.in-Some.is at c.get.ensures) in
-          rw (w.items-is, w.in_ok-push.ensures.items, w.new.ensures) (sealings_more machine owners i w.in-Some.owner.now c.loop-i.items.items got c.loop-i.invariant)
+          let got : slice_get owners i ≡ Some w.in-Some.owner.now =
+          sym (rw w.in-Some.is at c.get.ensures) in
+          rw (w.items-is, w.in_ok-push.ensures.items, w.new.ensures)
+          (sealings_more machine owners i w.in-Some.owner.now c.loop-i.items.items got
+          c.loop-i.invariant)
       | in_default w ↦
-          rw w.items-is (c.loop-i.invariant ∙ ap (sealed_by machine) (sym (take_none owners i (sym (rw w.in_default.is at c.get.ensures)))))
+          rw w.items-is (c.loop-i.invariant ∙ ap (sealed_by machine)
+          (sym (take_none owners i (sym (rw w.in_default.is at c.get.ensures)))))
     ]

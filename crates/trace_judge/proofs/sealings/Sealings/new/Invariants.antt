@@ -6,4 +6,6 @@ use Rattle.journal_findings.specs.Findings.{sealed_by}
 use Rattle.trace_judge.proofs.sealings.Sealings.new.Given as goal
 
 abbrev pub invariant-loop-i : goal.invariant-loop-i
-invariant-loop-i l = flat_map (λ own. sealing_of own.machine own.owner) l.items.items ≡ sealed_by l.machine (take l.i l.owners)
+invariant-loop-i l =
+    flat_map (λ own. sealing_of own.machine own.owner) l.items.items
+    ≡ sealed_by l.machine (take l.i l.owners)

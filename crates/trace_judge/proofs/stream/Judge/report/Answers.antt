@@ -5,4 +5,6 @@ use Rattle.trace_judge.proofs.stream.Judge.report.Goals as goal
 
 pub returns : goal.returns
 returns c machine owners es fed =
-    same_report (c.in_ok-guests.ensures owners es fed.guests) (c.forged.ensures (sealed_by machine owners) es fed.searches) (c.collision.ensures (sealed_by machine owners) es fed.searches)
+    same_report (c.in_ok-guests.ensures owners es fed.guests)
+    (c.forged.ensures (sealed_by machine owners) es fed.searches)
+    (c.collision.ensures (sealed_by machine owners) es fed.searches)

@@ -4,5 +4,6 @@ use Rattle.xom_io.proofs.shelf.Shelf.set.Goals as goal
 
 pub returns-clause-ok : goal.returns-clause-ok
 returns-clause-ok c =
-    let inserted = named-insert c.self.inside.files c.insert.new.self c.in_ok-key.key c.in_ok-copy.copy c.in_ok-insert.ensures.updates in
+    let inserted = named-insert c.self.inside.files c.insert.new.self c.in_ok-key.key
+    c.in_ok-copy.copy c.in_ok-insert.ensures.updates in
     rw (← c.self.view_is, inserted) (cc (c.in_ok-key.ensures.cases, c.in_ok-copy.ensures))

@@ -11,10 +11,12 @@ pub invariant_of-result : goal.invariant_of-result
 invariant_of-result g c =
     let ram = replicate (c.args.frames * frame_size) 0 in
     let v = g.V.VersionStore.versions in
-    alike-InTime (power_on v c.args.machine.now c.args.boot ram c.args.null_entry) _ c.in_ok-new.ensures.core refl refl
+    alike-InTime (power_on v c.args.machine.now c.args.boot ram c.args.null_entry)
+    _ c.in_ok-new.ensures.core refl refl
     (start-InTime v c.args.machine.now c.args.boot ram c.args.null_entry)
 
 pub returns-clause-holds : goal.returns-clause-holds
 returns-clause-holds g c owners =
     subst (Holds g.V.VersionStore.Stands owners) (sym c.in_ok-new.ensures.core)
-    (start_holds g.V.VersionStore.versions g.V.VersionStore.Stands owners c.args.machine.now c.args.boot (replicate (c.args.frames * frame_size) 0) (omega (arith, c.ranges.boot.fits)))
+    (start_holds g.V.VersionStore.versions g.V.VersionStore.Stands owners c.args.machine.now
+    c.args.boot (replicate (c.args.frames * frame_size) 0) (omega (arith, c.ranges.boot.fits)))

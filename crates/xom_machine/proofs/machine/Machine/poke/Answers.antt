@@ -5,4 +5,6 @@ use Rattle.xom_machine.proofs.machine.Machine.poke.Goals as goal
 
 pub invariant_of-self : goal.invariant_of-self
 invariant_of-self g c =
-    open-InTime _ _ _ c.put_bytes.new.ram refl refl (rw (← c.self-inside.view_is) at c.self.invariant) (rw (← c.self.view_is, ← c.self-inside.view_is) at c.requires.few)
+    open-InTime _ _ _ c.put_bytes.new.ram refl refl
+    (rw (← c.self-inside.view_is) at c.self.invariant)
+    (rw (← c.self.view_is, ← c.self-inside.view_is) at c.requires.few)

@@ -5,4 +5,5 @@ use Rattle.xom_private.proofs.parts.Core.new.Goals as goal
 
 pub invariant_of-result : goal.invariant_of-result
 invariant_of-result g c =
-    fits_fresh _ _ _ _ _ _ _ (ap (λ t. t.list) c.in_ok-new-4.ensures) c.in_ok-new-2.ensures (ap (λ w. w.ways) c.in_ok-new-3.ensures)
+    fits_fresh _ _ _ _ _ _ _ (ap (λ t. t.list) c.in_ok-new-4.ensures) c.in_ok-new-2.ensures
+    (ap (λ w. w.ways) c.in_ok-new-3.ensures)
