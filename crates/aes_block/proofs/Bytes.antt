@@ -7,9 +7,9 @@ use Rattle.std.proofs.lemmas.Bool.{cases_Bool, cases_lt}
 use Rattle.std.proofs.lemmas.List.{get_or_append_left, get_or-append_right}
 use Rattle.aes_block.specs.Cipher.{aes128, cipher, rounds_of}
 use Rattle.aes_block.specs.Field.{inverse, polynomial_product, remainder, times}
-use Rattle.aes_block.specs.Keys.{add_words, addend, key_expansion, key_word, next_word, power_of_x, rot_word, round_constant, sub_word, words_of}
+use Rattle.aes_block.specs.Keys.{add_words, addend, key_expansion, key_word, next_word, power_of_x, rot_word, round_constant, schedule_words, sub_word}
 use Rattle.aes_block.specs.Laws.{AreBytes, BlocksAreBytes}
-use Rattle.aes_block.specs.State.{add_round_key, at, shift_rows, state_of, sub_bytes}
+use Rattle.aes_block.specs.State.{add_round_key, at, shift_rows, state_by_place, sub_bytes}
 use Rattle.aes_block.specs.Substitution.{affine_bit, affine_bits, s_box}
 use Rattle.aes_block.proofs.Growth.{length-words_of}
 
@@ -120,15 +120,15 @@ key_word-bytes key bytes i =
     (bytes (4 * i)) (bytes (4 * i + 1)) (bytes (4 * i + 2)) (bytes (4 * i + 3))
 
 words-bytes : (key : List ℕ) → AreBytes key → (n : ℕ) → n ≤ 40 → (i : ℕ)
-    → AreBytes (get_or (words_of key n) i [])
-unfolding words_of next_word
+    → AreBytes (get_or (schedule_words key n) i [])
+unfolding schedule_words next_word
 words-bytes key bytes zero within zero = key_word-bytes key bytes 0
 words-bytes key bytes zero within (suc zero) = key_word-bytes key bytes 1
 words-bytes key bytes zero within (suc (suc zero)) = key_word-bytes key bytes 2
 words-bytes key bytes zero within (suc (suc (suc zero))) = key_word-bytes key bytes 3
 words-bytes key bytes zero within (suc (suc (suc (suc i)))) = no_bytes
 words-bytes key bytes (suc n) within i =
-    let before = words_of key n in
+    let before = schedule_words key n in
     let next = next_word before (n + 4) in
     let known : (j : ℕ) → AreBytes (get_or before j []) = words-bytes key bytes n (omega arith) in
     let added : AreBytes next = add_words-bytes (get_or before (n + 4 - 4) [])
@@ -146,10 +146,10 @@ words-bytes key bytes (suc n) within i =
 
 -- ---- Blocks
 
-state-bytes : (byte : ℕ → ℕ → ℕ) → ((r c : ℕ) → byte r c < 256) → AreBytes (state_of byte)
+state-bytes : (byte : ℕ → ℕ → ℕ) → ((r c : ℕ) → byte r c < 256) → AreBytes (state_by_place byte)
 unfolding Small
 state-bytes byte is_byte =
-    small-bytes (state_of byte) (
+    small-bytes (state_by_place byte) (
       is_byte 0 0,
       (
         is_byte 1 0,
@@ -207,8 +207,8 @@ add_round_key-bytes words round s keyed bytes =
 pub blocks_are_bytes : BlocksAreBytes
 unfolding aes128 cipher key_expansion
 blocks_are_bytes key block bytes =
-    add_round_key-bytes (words_of key 40) 10
-    (shift_rows (sub_bytes (rounds_of (words_of key 40) 9 block)))
+    add_round_key-bytes (schedule_words key 40) 10
+    (shift_rows (sub_bytes (rounds_of (schedule_words key 40) 9 block)))
     (words-bytes key bytes 40 (omega arith))
-    (shift_rows-bytes (sub_bytes (rounds_of (words_of key 40) 9 block))
-    (sub_bytes-bytes (rounds_of (words_of key 40) 9 block)))
+    (shift_rows-bytes (sub_bytes (rounds_of (schedule_words key 40) 9 block))
+    (sub_bytes-bytes (rounds_of (schedule_words key 40) 9 block)))

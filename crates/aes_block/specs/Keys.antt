@@ -46,13 +46,13 @@ next_word words i =
     add_words (slice_index_or words (i - 4) []) (addend i (slice_index_or words (i - 1) []))
 
 -- the first 4 + n words
-unfoldable pub words_of : List ℕ → ℕ → List (List ℕ)
-words_of key zero = key_word key 0 ∷ key_word key 1 ∷ key_word key 2 ∷ key_word key 3 ∷ []
-words_of key (suc n) = words_of key n ++ next_word (words_of key n) (n + 4) ∷ []
+unfoldable pub schedule_words : List ℕ → ℕ → List (List ℕ)
+schedule_words key zero = key_word key 0 ∷ key_word key 1 ∷ key_word key 2 ∷ key_word key 3 ∷ []
+schedule_words key (suc n) = schedule_words key n ++ next_word (schedule_words key n) (n + 4) ∷ []
 
 -- KEYEXPANSION
 unfoldable pub key_expansion : List ℕ → List (List ℕ)
-key_expansion key = words_of key 40
+key_expansion key = schedule_words key 40
 
 -- the key whose words begin a key schedule: what a `Schedule` is seen as
 abbrev pub key_of : List (List ℕ) → List ℕ

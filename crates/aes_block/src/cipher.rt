@@ -3,7 +3,7 @@
 ghost use Rattle.std.specs.Prelude.{◌≡◌, ◌<◌, [], ◌∷◌};
 ghost use Rattle.std.specs.Int.{w32, to_be_bytes};
 ghost use Rattle.aes_block.specs.Cipher.{cipher, round_of, rounds_of};
-ghost use Rattle.aes_block.specs.Columns.{bytes_of, mixed_column as mixed_column_of, row, shifted_column as shifted_column_of, words_in};
+ghost use Rattle.aes_block.specs.Columns.{byte_in_row, bytes_of_columns, mixed_column as mixed_column_of, shifted_column as shifted_column_of, words_in};
 ghost use Rattle.aes_block.specs.Keys.{add_words, key_word};
 ghost use Rattle.aes_block.specs.State.{add_round_key, shift_rows, sub_bytes};
 
@@ -22,7 +22,7 @@ pub fn encrypted(words: &[u32; 44], block: &[u8; 16]) -> [u8; 16]
 #[inline(always)]
 pub fn after_rounds(words: &[u32; 44], rounds: usize, start: [u32; 4]) -> [u32; 4]
     requires { rounds < 10 }
-    ensures { bytes_of result ≡ rounds_of (words_in words.now) rounds (bytes_of start) }
+    ensures { bytes_of_columns result ≡ rounds_of (words_in words.now) rounds (bytes_of_columns start) }
 {
     let mut state = first_key_added(words, start);
     for done in 0..rounds {
@@ -35,7 +35,7 @@ pub fn after_rounds(words: &[u32; 44], rounds: usize, start: [u32; 4]) -> [u32; 
 /// ADDROUNDKEY before the first round.
 #[inline(always)]
 fn first_key_added(words: &[u32; 44], start: [u32; 4]) -> [u32; 4]
-    ensures { bytes_of result ≡ add_round_key (words_in words.now) 0 (bytes_of start) }
+    ensures { bytes_of_columns result ≡ add_round_key (words_in words.now) 0 (bytes_of_columns start) }
 {
     let [a, b, c, d] = start;
     [a ^ words[0], b ^ words[1], c ^ words[2], d ^ words[3]]
@@ -45,7 +45,7 @@ fn first_key_added(words: &[u32; 44], start: [u32; 4]) -> [u32; 4]
 #[inline(always)]
 fn round_of(words: &[u32; 44], round: usize, state: [u32; 4]) -> [u32; 4]
     requires { round < 10 }
-    ensures { bytes_of result ≡ round_of (words_in words.now) round (bytes_of state) }
+    ensures { bytes_of_columns result ≡ round_of (words_in words.now) round (bytes_of_columns state) }
 {
     let [a, b, c, d] = state;
     [
@@ -59,7 +59,7 @@ fn round_of(words: &[u32; 44], round: usize, state: [u32; 4]) -> [u32; 4]
 /// Round 10, which mixes no columns.
 #[inline(always)]
 fn last_round(words: &[u32; 44], state: [u32; 4]) -> [u32; 4]
-    ensures { bytes_of result ≡ add_round_key (words_in words.now) 10 (shift_rows (sub_bytes (bytes_of state))) }
+    ensures { bytes_of_columns result ≡ add_round_key (words_in words.now) 10 (shift_rows (sub_bytes (bytes_of_columns state))) }
 {
     let [a, b, c, d] = state;
     [
@@ -92,7 +92,7 @@ fn shifted_column(key: u32, a: u32, b: u32, c: u32, d: u32) -> u32
 /// SHIFTROWS for one column: its byte of each row comes from a column of its own.
 #[inline(always)]
 fn rows(a: u32, b: u32, c: u32, d: u32) -> [u8; 4]
-    ensures { result ≡ row 0 a ∷ row 1 b ∷ row 2 c ∷ row 3 d ∷ [] }
+    ensures { result ≡ byte_in_row 0 a ∷ byte_in_row 1 b ∷ byte_in_row 2 c ∷ byte_in_row 3 d ∷ [] }
 {
     let [row_0, _, _, _] = a.to_be_bytes();
     let [_, row_1, _, _] = b.to_be_bytes();
@@ -105,7 +105,7 @@ fn rows(a: u32, b: u32, c: u32, d: u32) -> [u8; 4]
 #[tactic(auto, unfolding(crate::specs::Keys::key_word))]
 #[inline(always)]
 pub fn columns_of(block: &[u8; 16]) -> [u32; 4]
-    ensures { bytes_of result ≡ block.now }
+    ensures { bytes_of_columns result ≡ block.now }
 {
     [
         column(block, 0),
@@ -133,7 +133,7 @@ pub fn column(block: &[u8; 16], i: usize) -> u32
 /// The bytes of four columns.
 #[inline(always)]
 pub fn block_of(columns: [u32; 4]) -> [u8; 16]
-    ensures { result ≡ bytes_of columns }
+    ensures { result ≡ bytes_of_columns columns }
 {
     let a = columns[0].to_be_bytes();
     let b = columns[1].to_be_bytes();

@@ -3,7 +3,7 @@
 ghost use Rattle.std.specs.Prelude.{◌≡◌, ◌≤◌, ◌<◌, ◌%◌, take};
 ghost use Rattle.std.specs.Int.{w32, to_be_bytes};
 ghost use Rattle.aes_block.specs.Columns.{words_in};
-ghost use Rattle.aes_block.specs.Keys.{addend, key_expansion, key_of, next_word, rot_word, round_constant, sub_word, words_of};
+ghost use Rattle.aes_block.specs.Keys.{addend, key_expansion, key_of, next_word, rot_word, round_constant, schedule_words, sub_word};
 
 use crate::cipher::column;
 use crate::table::s_box;
@@ -25,9 +25,9 @@ pub fn expanded(key: &[u8; 16]) -> [u32; 44]
     words
 }
 
-#[tactic(auto, unfolding(crate::specs::Keys::words_of))]
+#[tactic(auto, unfolding(crate::specs::Keys::schedule_words))]
 fn first_words(key: &[u8; 16]) -> [u32; 44]
-    ensures { take 4 (words_in result) ≡ words_of key.now 0 }
+    ensures { take 4 (words_in result) ≡ schedule_words key.now 0 }
 {
     let mut words = [0; 44];
     words[0] = column(key, 0);

@@ -10,7 +10,7 @@ use Rattle.asm_source.specs.declared.content.Part.{Part}
 use Rattle.asm_syntax.specs.Lines.{source_of}
 use Rattle.mips_asm.specs.declared.placed.Placed.{Placed}
 use Rattle.mips_asm.specs.Layout.{covers, layout}
-use Rattle.mips_asm.specs.Passes.{first_fault, line_of, meets, overlap_line, overlaps}
+use Rattle.mips_asm.specs.Passes.{first_fault, meets, overlap_line, overlaps, statement_line}
 use Rattle.mips_asm.proofs.FaultLaws.{first_good, rest_good}
 use Rattle.mips_asm.proofs.OneOutcome.{same_Ok}
 use Rattle.asm_laws.specs.Sizes.{PlacesAreWrittenOnce}
@@ -46,7 +46,7 @@ not_later placed i j k p q none first second p_there q_there before =
     (omega (arith, long)) meet in
     let good : overlaps (take j placed) q ≡ false =
     ap (overlaps (take j placed)) (sym (get_or_from_slice_get placed j q q second))
-    ∙ good_at line_of overlaps [] placed j q none within in
+    ∙ good_at statement_line overlaps [] placed j q none within in
     true≢false (sym some ∙ good)
 
 pub places_once : PlacesAreWrittenOnce

@@ -7,7 +7,7 @@ use Rattle.mips_effect.specs.declared.seen.Mode.{Mode}
 use Rattle.mips_effect.specs.declared.seen.Mode.TheVariants.{Guest, Null}
 use Rattle.mips_effect.specs.declared.seen.Seen.{Seen}
 use Rattle.mips_effect.specs.declared.seen.Seen.TheVariants.{Value}
-use Rattle.mips_effect.specs.Effects.{sources_of, act, effect_of, judged, seen_at, sets, jumps}
+use Rattle.mips_effect.specs.Effects.{act, effect_of, effect_or_fault, jumps, seen_at, sets, sources_of}
 use Rattle.asm_laws.specs.Runs.{Cells, state, effect_on}
 
 -- an instruction that reads $0 alone, as two of its cells
@@ -49,9 +49,9 @@ pub ori_own : (mode : Mode) (cells : Cells) (pc npc reg imm v : ℕ)
     → effect_on mode (state cells pc npc) (Some (Ori reg reg imm)) ≡ sets reg (bit_or v imm) npc
 unfolding effect_of sources_of act
 ori_own Guest cells pc npc reg imm v own =
-    ap (λ (s : Seen). judged (Ori reg reg imm) Guest s (Value 0) (Value 0) npc) own
+    ap (λ (s : Seen). effect_or_fault (Ori reg reg imm) Guest s (Value 0) (Value 0) npc) own
 ori_own Null cells pc npc reg imm v own =
-    ap (λ (s : Seen). judged (Ori reg reg imm) Null s (Value 0) (Value 0) npc) own
+    ap (λ (s : Seen). effect_or_fault (Ori reg reg imm) Null s (Value 0) (Value 0) npc) own
 
 pub addu_zero : (mode : Mode) (cells : Cells) (pc npc a b v : ℕ) → seen_at b (cells b) ≡ Value v
     → v < 2 ^ 32
@@ -59,9 +59,9 @@ pub addu_zero : (mode : Mode) (cells : Cells) (pc npc a b v : ℕ) → seen_at b
 unfolding effect_of sources_of act
 addu_zero Guest cells pc npc a b v own fits =
     let same : (v + 0) % 2 ^ 32 ≡ v = omega arith in
-    ap (λ (s : Seen). judged (Addu a b 0) Guest s (Value 0) (Value 0) npc) own
+    ap (λ (s : Seen). effect_or_fault (Addu a b 0) Guest s (Value 0) (Value 0) npc) own
     ∙ ap (λ (n : ℕ). sets a n npc) same
 addu_zero Null cells pc npc a b v own fits =
     let same : (v + 0) % 2 ^ 32 ≡ v = omega arith in
-    ap (λ (s : Seen). judged (Addu a b 0) Null s (Value 0) (Value 0) npc) own
+    ap (λ (s : Seen). effect_or_fault (Addu a b 0) Null s (Value 0) (Value 0) npc) own
     ∙ ap (λ (n : ℕ). sets a n npc) same

@@ -4,9 +4,9 @@ use Rattle.std.proofs.lemmas.List.{get_or-take, get_or-drop, get_or_append_left,
 use Rattle.std.proofs.lemmas.Nat.{from_be_bytes-to_be_bytes_4}
 use Rattle.std.specs.Int.{w32, to_be_bytes, from_be_bytes}
 use Rattle.mips_instruction.specs.declared.instruction.Ins.{Ins}
-use Rattle.mips_instruction.specs.Words.{word_of, read}
+use Rattle.mips_instruction.specs.Words.{instruction_of_word, word_of}
 use Rattle.mips_isa.proofs.Reading.{Word-read}
-use Rattle.mips_plain.specs.Memory.{word_at}
+use Rattle.mips_plain.specs.Memory.{word_at_address}
 use Rattle.mips_asm.specs.Encoding.{AreWords}
 
 -- memory has these bytes at this place
@@ -25,7 +25,7 @@ same_number xs ys same =
 
 -- the number of the four bytes at a place
 word_there : (memory more : List ℕ) (place word : ℕ) → word < 2 ^ 32
-    → Has memory place (to_be_bytes w32 word ++ more) → word_at memory place ≡ word
+    → Has memory place (to_be_bytes w32 word ++ more) → word_at_address memory place ≡ word
 word_there memory more place word fits has =
     same_number (take 4 (drop place memory)) (to_be_bytes w32 word) each
     ∙ from_be_bytes-to_be_bytes_4 word fits
@@ -41,9 +41,9 @@ word_there memory more place word fits has =
 
 -- the first of some instructions whose words stand at a place
 pub read_there : (memory own : List ℕ) (place : ℕ) (i : Ins) (is : List Ins) → word_of i < 2 ^ 32
-    → AreWords (i ∷ is) own → Has memory place own → read (word_at memory place) ≡ Some i
+    → AreWords (i ∷ is) own → Has memory place own → instruction_of_word (word_at_address memory place) ≡ Some i
 read_there memory own place i is small words has =
-    ap read (word_there memory words.0 place (word_of i) small
+    ap instruction_of_word (word_there memory words.0 place (word_of i) small
     (λ k below. has k (subst_below k below) ∙ ap (λ xs. slice_index xs k) words.2))
     ∙ Word-read i (word_of i) (record { fits = words.1; word = refl })
   where

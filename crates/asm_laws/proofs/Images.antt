@@ -8,8 +8,8 @@ use Rattle.std.proofs.lemmas.Option.{none-some}
 use Rattle.asm_source.specs.declared.content.Part.{Part}
 use Rattle.asm_syntax.specs.Lines.{source_of}
 use Rattle.mips_asm.specs.declared.placed.Placed.{Placed}
-use Rattle.mips_asm.specs.Layout.{IsSized, after, is_too_long, layout, limit}
-use Rattle.mips_asm.specs.Passes.{line_of, too_long_line}
+use Rattle.mips_asm.specs.Layout.{IsSized, is_too_long, layout, limit, place_after}
+use Rattle.mips_asm.specs.Passes.{statement_line, too_long_line}
 use Rattle.mips_asm.proofs.BytesLaws.{bytes_of_statements}
 use Rattle.mips_asm.proofs.LayoutLaws.{placed_at}
 use Rattle.mips_asm.proofs.OneOutcome.{same_Ok}
@@ -21,8 +21,8 @@ layout-sized : (place : ℕ) (parts : List Part) → All IsSized (layout place p
 unfolding layout
 layout-sized place [] = All-nil IsSized
 layout-sized place (part ∷ parts) =
-    All-cons IsSized (placed_at place part) (layout (after place part.content) parts) refl
-    (layout-sized (after place part.content) parts)
+    All-cons IsSized (placed_at place part) (layout (place_after place part.content) parts) refl
+    (layout-sized (place_after place part.content) parts)
 
 abbrev IsShort : Placed → Type 0
 IsShort p = is_too_long p ≡ false
@@ -30,7 +30,7 @@ IsShort p = is_too_long p ≡ false
 -- where no line is too long, no statement is
 first_short : (p : Placed) (placed : List Placed) → too_long_line (p ∷ placed) ≡ None → IsShort p
 first_short p placed none =
-    false_from_ne_true (is_too_long p) (λ long. none-some (line_of p) (sym (rw long at none)))
+    false_from_ne_true (is_too_long p) (λ long. none-some (statement_line p) (sym (rw long at none)))
 
 all_short : (placed : List Placed) → too_long_line placed ≡ None → All IsShort placed
 all_short [] none = All-nil IsShort

@@ -10,11 +10,11 @@ use Rattle.asm_source.specs.declared.content.Part.{Part}
 use Rattle.asm_syntax.specs.Lines.{source_of}
 use Rattle.mips_asm.specs.declared.placed.Placed.{Placed}
 use Rattle.mips_asm.specs.Images.{PlacedBytes}
-use Rattle.mips_asm.specs.Layout.{after, is_too_long, layout, size_of}
-use Rattle.mips_asm.specs.Passes.{Labels, duplicate_line, first_fault, is_label, is_unknown, label_in, line_of, meets, overlap_line, overlaps, place_of, repeats, too_long_line, unknown_line}
-use Rattle.mips_asm.specs.Sources.{IsPlacedImage, Writes, entry_by, entry_content, is_entry, labels_of, last_entry}
+use Rattle.mips_asm.specs.Layout.{is_too_long, layout, place_after, statement_size}
+use Rattle.mips_asm.specs.Passes.{Labels, duplicate_line, first_fault, is_label, is_unknown, label_said, meets, overlap_line, overlaps, place_of, repeats, statement_line, too_long_line, unknown_line}
+use Rattle.mips_asm.specs.Sources.{IsPlacedImage, StatementsWrite, entry_by, entry_content, is_entry_statement, labels_of, last_entry}
 use Rattle.mips_asm.proofs.OneOutcome.{same_Ok}
-use Rattle.asm_laws.specs.Replaced.{ImagesByNumbers, numbered, numbered_content, numbered_part}
+use Rattle.asm_laws.specs.Replaced.{ImagesByNumbers, numbered_content, numbered_part, value_with_place}
 use Rattle.asm_laws.proofs.Replacing.{Gives-numbered, content_unknown-numbered, entry_in-numbered}
 
 -- ---- Lists whose elements are changed one by one
@@ -59,15 +59,15 @@ first_fault-map f line bad lines same before (x ∷ xs) =
     ) refl
 
 -- the line of what is found
-found_line : (f : Placed → Placed) → ((p : Placed) → line_of (f p) ≡ line_of p)
-    → (found : Option Placed) → option_map line_of (option_map f found) ≡ option_map line_of found
+found_line : (f : Placed → Placed) → ((p : Placed) → statement_line (f p) ≡ statement_line p)
+    → (found : Option Placed) → option_map statement_line (option_map f found) ≡ option_map statement_line found
 found_line f same None = refl
 found_line f same (Some p) = ap (λ (n : ℕ). Some n) (same p)
 
 -- ---- Contents
 
 module _ (labels : Labels) where
-  label_in-numbered : (c : Content) → label_in (numbered_content labels c) ≡ label_in c
+  label_in-numbered : (c : Content) → label_said (numbered_content labels c) ≡ label_said c
   label_in-numbered (Label name) = refl
   label_in-numbered (Words vs) = refl
   label_in-numbered (Bytes ns) = refl
@@ -95,10 +95,10 @@ module _ (labels : Labels) where
   entry_content-numbered (Instruction name list) = refl
 
   size_of-numbered : (place : ℕ) (c : Content)
-      → size_of place (numbered_content labels c) ≡ size_of place c
-  unfolding size_of
+      → statement_size place (numbered_content labels c) ≡ statement_size place c
+  unfolding statement_size
   size_of-numbered place (Label name) = refl
-  size_of-numbered place (Words vs) = ap (λ (n : ℕ). 4 * n) (length-map vs (numbered labels))
+  size_of-numbered place (Words vs) = ap (λ (n : ℕ). 4 * n) (length-map vs (value_with_place labels))
   size_of-numbered place (Bytes ns) = refl
   size_of-numbered place (Ascii text) = refl
   size_of-numbered place (Space n) = refl
@@ -110,8 +110,8 @@ module _ (labels : Labels) where
   size_of-numbered place (Instruction name list) = refl
 
   after-numbered : (place : ℕ) (c : Content)
-      → after place (numbered_content labels c) ≡ after place c
-  unfolding after
+      → place_after place (numbered_content labels c) ≡ place_after place c
+  unfolding place_after
   after-numbered place (Label name) = refl
   after-numbered place (Words vs) = ap (λ (n : ℕ). place + n) (size_of-numbered place (Words vs))
   after-numbered place (Bytes ns) = refl
@@ -139,7 +139,7 @@ module _ (labels : Labels) where
         size_of-numbered place part.content,
         after-numbered place part.content,
         layout-numbered
-            (after place part.content) parts,
+            (place_after place part.content) parts,
       ) refl
 
   -- ---- Labels
@@ -159,7 +159,7 @@ module _ (labels : Labels) where
       → repeats (map (numbered_part labels) before) (numbered_part labels part) ≡ repeats before
       part
   repeats-numbered before part = rw (label_in-numbered part.content)
-      (by_label (label_in part.content))
+      (by_label (label_said part.content))
     where
       by_label : (name : Option (List ℕ))
           → option_map_or (λ name. list_any (is_label name) (map (numbered_part labels) before))
@@ -180,7 +180,7 @@ module _ (labels : Labels) where
   too_long-numbered : (placed : List Placed)
       → too_long_line (map numbered_placed placed) ≡ too_long_line placed
   too_long-numbered placed =
-      ap (option_map line_of) (find-map numbered_placed is_too_long is_too_long (λ p. refl) placed)
+      ap (option_map statement_line) (find-map numbered_placed is_too_long is_too_long (λ p. refl) placed)
       ∙ found_line numbered_placed (λ p. refl) (find is_too_long placed)
 
   overlaps-numbered : (before : List Placed) (p : Placed)
@@ -191,16 +191,16 @@ module _ (labels : Labels) where
   overlap-numbered : (placed : List Placed)
       → overlap_line (map numbered_placed placed) ≡ overlap_line placed
   overlap-numbered placed =
-      first_fault-map numbered_placed line_of overlaps (λ p. refl) overlaps-numbered [] placed
+      first_fault-map numbered_placed statement_line overlaps (λ p. refl) overlaps-numbered [] placed
 
-  is_entry-numbered : (p : Placed) → is_entry (numbered_placed p) ≡ is_entry p
+  is_entry-numbered : (p : Placed) → is_entry_statement (numbered_placed p) ≡ is_entry_statement p
   is_entry-numbered p = entry_content-numbered p.part.content
 
   last_entry-numbered : (placed : List Placed)
       → last_entry (map numbered_placed placed) ≡ option_map numbered_placed (last_entry placed)
   last_entry-numbered placed =
-      ap (find is_entry) (reverse-map numbered_placed placed)
-      ∙ find-map numbered_placed is_entry is_entry is_entry-numbered (reverse placed)
+      ap (find is_entry_statement) (reverse-map numbered_placed placed)
+      ∙ find-map numbered_placed is_entry_statement is_entry_statement is_entry-numbered (reverse placed)
 
   -- ---- Values, by labels with the same places
 
@@ -208,7 +208,7 @@ module _ (labels : Labels) where
     unknown_line-numbered : (placed : List Placed)
         → unknown_line others (map numbered_placed placed) ≡ unknown_line labels placed
     unknown_line-numbered placed =
-        ap (option_map line_of) (find-map numbered_placed (is_unknown labels) (is_unknown others)
+        ap (option_map statement_line) (find-map numbered_placed (is_unknown labels) (is_unknown others)
         (λ p. content_unknown-numbered labels others same p.part.content) placed)
         ∙ found_line numbered_placed (λ p. refl) (find (is_unknown labels) placed)
 
@@ -218,7 +218,7 @@ module _ (labels : Labels) where
     entry_by-numbered (Some p) = entry_in-numbered labels others same p.part.content
 
     Writes-numbered : (placed : List Placed) (chunks : List PlacedBytes)
-        → Writes labels placed chunks → Writes others (map numbered_placed placed) chunks
+        → StatementsWrite labels placed chunks → StatementsWrite others (map numbered_placed placed) chunks
     Writes-numbered [] chunks writes = writes
     Writes-numbered (p ∷ placed) chunks writes = (
       writes.0,

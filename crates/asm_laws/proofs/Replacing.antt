@@ -14,10 +14,10 @@ use Rattle.asm_source.specs.declared.argument.Value.{Value as ValueType}
 use Rattle.asm_source.specs.declared.argument.Value.TheVariants.{Number, Label}
 use Rattle.asm_source.specs.declared.content.Content.{Content}
 use Rattle.asm_source.specs.declared.content.Content.TheVariants as content
-use Rattle.mips_asm.specs.Encoding.{Gives, IsCode, field_of, instruction_at, join_some, load_address, number_of, offset_field, one_instruction, operand_of, operands_of, unsigned_below, unsigned_number, word_bytes, word_value}
+use Rattle.mips_asm.specs.Encoding.{IsCode, StatementGives, field_of, instruction_at, join_some, load_address, offset_field, one_instruction, operand_of, operands_of, unsigned_below, unsigned_number, value_number, word_bytes, word_value}
 use Rattle.mips_asm.specs.Passes.{Labels, argument_unknown, content_unknown, value_unknown}
-use Rattle.mips_asm.specs.Sources.{aligned_address, entry_in}
-use Rattle.asm_laws.specs.Replaced.{NumbersStandForLabels, numbered, numbered_content, numbered_operand, place_or}
+use Rattle.mips_asm.specs.Sources.{aligned_address, entry_value}
+use Rattle.asm_laws.specs.Replaced.{NumbersStandForLabels, numbered_content, numbered_operand, place_or, value_with_place}
 
 -- labels, and the labels of another source, with the same places
 module _ (labels others : Labels) (same : (name : List ℕ) → labels name ≡ others name) where
@@ -25,11 +25,11 @@ module _ (labels others : Labels) (same : (name : List ℕ) → labels name ≡ 
 
   -- what a name stands for
   named : (name : List ℕ) (place : Option ℕ) → labels name ≡ place
-      → option_map unsigned_number (labels name) ≡ number_of others (place_or place name)
+      → option_map unsigned_number (labels name) ≡ value_number others (place_or place name)
   named name None known = ap (option_map unsigned_number) (same name)
   named name (Some place) known = ap (option_map unsigned_number) known
 
-  number-numbered : (v : ValueType) → number_of labels v ≡ number_of others (numbered labels v)
+  number-numbered : (v : ValueType) → value_number labels v ≡ value_number others (value_with_place labels v)
   number-numbered (Number n) = refl
   number-numbered (Label name) = named name (labels name) refl
 
@@ -39,24 +39,24 @@ module _ (labels others : Labels) (same : (name : List ℕ) → labels name ≡ 
   unknown_named name (Some place) known = sym (ap is_none known)
 
   unknown-numbered : (v : ValueType)
-      → value_unknown others (numbered labels v) ≡ value_unknown labels v
+      → value_unknown others (value_with_place labels v) ≡ value_unknown labels v
   unknown-numbered (Number n) = refl
   unknown-numbered (Label name) = unknown_named name (labels name) refl
 
   -- ---- .word
 
   word_value-numbered : (v : ValueType)
-      → word_value labels v ≡ word_value others (numbered labels v)
+      → word_value labels v ≡ word_value others (value_with_place labels v)
   unfolding word_value
   word_value-numbered v = ap (λ (n : Option Integer). n >>= word_bytes) (number-numbered v)
 
   words-numbered : (vs : List ValueType)
-      → join_some (word_value labels) vs ≡ join_some (word_value others) (map (numbered labels) vs)
+      → join_some (word_value labels) vs ≡ join_some (word_value others) (map (value_with_place labels) vs)
   words-numbered [] = refl
   words-numbered (v ∷ vs) = rw (word_value-numbered v, words-numbered vs) refl
 
   words_unknown-numbered : (vs : List ValueType)
-      → list_any (value_unknown others) (map (numbered labels) vs) ≡ list_any (value_unknown labels)
+      → list_any (value_unknown others) (map (value_with_place labels) vs) ≡ list_any (value_unknown labels)
       vs
   words_unknown-numbered [] = refl
   words_unknown-numbered (v ∷ vs) = rw (unknown-numbered v, words_unknown-numbered vs) refl
@@ -113,7 +113,7 @@ module _ (labels others : Labels) (same : (name : List ℕ) → labels name ≡ 
   -- ---- .entry and la
 
   entry-numbered : (v : ValueType)
-      → entry_in labels (content.Entry v) ≡ entry_in others (content.Entry (numbered labels v))
+      → entry_value labels (content.Entry v) ≡ entry_value others (content.Entry (value_with_place labels v))
   entry-numbered v =
       ap (λ (n : Option Integer). n >>= (λ m. unsigned_below 1048575 m >>= aligned_address))
       (number-numbered v)
@@ -125,8 +125,8 @@ module _ (labels others : Labels) (same : (name : List ℕ) → labels name ≡ 
 
   -- ---- contents
 
-  pub Gives-numbered : (place : ℕ) (c : Content) (own : List ℕ) → Gives labels place c own
-      → Gives others place (numbered_content labels c) own
+  pub Gives-numbered : (place : ℕ) (c : Content) (own : List ℕ) → StatementGives labels place c own
+      → StatementGives others place (numbered_content labels c) own
   Gives-numbered place (content.Label name) own gives = gives
   Gives-numbered place (content.Words vs) own gives = (gives.0, sym (words-numbered vs) ∙ gives.1)
   Gives-numbered place (content.Bytes ns) own gives = gives
@@ -157,7 +157,7 @@ module _ (labels others : Labels) (same : (name : List ℕ) → labels name ≡ 
   content_unknown-numbered (content.Instruction name list) = operands_unknown-numbered list
 
   pub entry_in-numbered : (c : Content)
-      → entry_in others (numbered_content labels c) ≡ entry_in labels c
+      → entry_value others (numbered_content labels c) ≡ entry_value labels c
   entry_in-numbered (content.Label name) = refl
   entry_in-numbered (content.Words vs) = refl
   entry_in-numbered (content.Bytes ns) = refl

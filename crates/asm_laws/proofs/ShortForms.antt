@@ -3,16 +3,16 @@ use Rattle.std.proofs.Common.{◌≡◌, ℕ, ◌+◌, ◌*◌, ◌/◌, ◌%◌
 use Rattle.std.proofs.lemmas.Bool.{cases_Bool}
 use Rattle.mips_instruction.specs.declared.instruction.Ins.{Ins}
 use Rattle.mips_instruction.specs.declared.instruction.Ins.TheVariants.{Addiu, Addu, Beq, Lui, Ori, Sll}
-use Rattle.mips_instruction.specs.Words.{i_word, r_word, word_of, read}
-use Rattle.mips_instruction.specs.Numbers.{after, reduced, target as branch_target}
+use Rattle.mips_instruction.specs.Words.{i_word, instruction_of_word, r_word, word_of}
+use Rattle.mips_instruction.specs.Numbers.{next_address, number_modulo_word, target as branch_target}
 use Rattle.xom_base.specs.declared.step.Writes.TheVariants as writes
 use Rattle.mips_effect.specs.declared.seen.Mode.{Mode}
-use Rattle.mips_effect.specs.Effects.{set, sets, jumps}
+use Rattle.mips_effect.specs.Effects.{jumps, sets, write_of_register}
 use Rattle.asm_tokens.specs.Integers.{whole}
 use Rattle.asm_source.specs.declared.content.Content.TheVariants.{LoadNumber, LoadAddress}
-use Rattle.mips_asm.specs.Encoding.{AreWords, halves, load_number, one_instruction, twos_complement}
+use Rattle.mips_asm.specs.Encoding.{AreWords, load_halves, load_number, one_instruction, twos_complement}
 use Rattle.mips_asm.specs.Layout.{in_range, limit}
-use Rattle.asm_laws.specs.Runs.{Cells, State, cells_after, state, effect_on}
+use Rattle.asm_laws.specs.Runs.{Cells, State, cells_after_writes, effect_on, state}
 use Rattle.asm_laws.specs.ShortForms.{BGoesToItsTarget, LaLoadsThePlace, LiLoadsTheNumber, Loads, MoveCopies, NopGoesOn, Sets}
 use Rattle.asm_laws.proofs.Branching.{branch_field-target}
 use Rattle.asm_laws.proofs.Computing.{addiu_zero, addu_zero, beq_zero, lui_any, ori_own, ori_zero, sll_zero}
@@ -58,7 +58,7 @@ loads_one memory own place reg value i inside has small words comes =
       count = 1;
       all_words = long;
       sets = λ mode cells.
-          paired memory mode (state cells place (place + 4)) 1 (place + 4) (after (place + 4)) reg
+          paired memory mode (state cells place (place + 4)) 1 (place + 4) (next_address (place + 4)) reg
           value (place + length own) (place + length own + 4) (omega (arith, long))
           (omega (arith, long, inside))
           (sets_one memory mode cells place (place + 4) reg value i
@@ -68,15 +68,15 @@ loads_one memory own place reg value i inside has small words comes =
 
 -- the two halves of a number
 loads_halves : (memory own : List ℕ) (place reg n : ℕ) → place + length own ≤ limit
-    → Has memory place own → AreWords (halves reg n) own → Loads memory place (length own) reg n
+    → Has memory place own → AreWords (load_halves reg n) own → Loads memory place (length own) reg n
 loads_halves memory own place reg n inside has words =
     let upper : ℕ = n / 2 ^ 16 in
     let lower : ℕ = n % 2 ^ 16 in
     let long : length own ≡ 8 = two_long own (Lui reg upper) (Ori reg reg lower) words in
-    let upper_there : read _ ≡ Some (Lui reg upper) =
+    let upper_there : instruction_of_word _ ≡ Some (Lui reg upper) =
     read_there memory own place (Lui reg upper) (Ori reg reg lower ∷ [])
     (i_word-small 15 0 reg upper (omega arith) (omega arith) words.1.0 words.1.1) words has in
-    let lower_there : read _ ≡ Some (Ori reg reg lower) =
+    let lower_there : instruction_of_word _ ≡ Some (Ori reg reg lower) =
     read_there memory words.0 (place + 4) (Ori reg reg lower) []
     (i_word-small 13 reg reg lower (omega arith) words.3.1.0 words.3.1.0 (omega arith)) words.3
     (rest_there memory own place (Lui reg upper) (Ori reg reg lower ∷ []) words has) in
@@ -84,15 +84,15 @@ loads_halves memory own place reg n inside has words =
       count = 2;
       all_words = long;
       sets = λ mode cells.
-          paired memory mode (state cells place (place + 4)) 2 (after (place + 4))
-          (after (after (place + 4))) reg n (place + length own) (place + length own + 4)
+          paired memory mode (state cells place (place + 4)) 2 (next_address (place + 4))
+          (next_address (next_address (place + 4))) reg n (place + length own) (place + length own + 4)
           (omega (arith, long, inside)) (omega (arith, long, inside))
           (sets_two memory mode cells place (place + 4) reg (upper * 2 ^ 16)
           (bit_or (kept_in reg (upper * 2 ^ 16)) lower) n (Lui reg upper) (Ori reg reg lower)
           upper_there lower_there
           (lui_any mode cells place (place + 4) reg upper)
-          (ori_own mode (cells_after cells (set reg (upper * 2 ^ 16))) (place + 4)
-          (after (place + 4)) reg lower (kept_in reg (upper * 2 ^ 16))
+          (ori_own mode (cells_after_writes cells (write_of_register reg (upper * 2 ^ 16))) (place + 4)
+          (next_address (place + 4)) reg lower (kept_in reg (upper * 2 ^ 16))
           (set-seen cells reg (upper * 2 ^ 16)))
           (λ named. ap (λ (u : ℕ). bit_or u lower) (kept_in-named reg (upper * 2 ^ 16) named)
           ∙ halves-or n));
@@ -106,7 +106,7 @@ li_loads memory own labels place reg n stands =
     elim (cases_Bool (in_range 32768 32767 n)) [
       | inl small ↦
           let words = code_as place (load_number reg n) _ own code (li_by_addiu reg n small) in
-          loads_one memory own place reg (reduced (whole n)) (Addiu reg 0 (twos_complement 16 n))
+          loads_one memory own place reg (number_modulo_word (whole n)) (Addiu reg 0 (twos_complement 16 n))
           stands.inside stands.there (i_word-small 9 0 reg (twos_complement 16 n) (omega arith)
           (omega arith) words.1.0 words.1.2) words
           (λ mode cells pc npc. addiu_zero mode cells pc npc reg (twos_complement 16 n)
@@ -114,7 +114,7 @@ li_loads memory own labels place reg n stands =
       | inr more ↦ elim (cases_Bool (in_range 0 65535 n)) [
         | inl low ↦
             let words = code_as place (load_number reg n) _ own code (li_by_ori reg n more low) in
-            loads_one memory own place reg (reduced (whole n)) (Ori reg 0 n.magnitude) stands.inside
+            loads_one memory own place reg (number_modulo_word (whole n)) (Ori reg 0 n.magnitude) stands.inside
             stands.there (i_word-small 13 0 reg n.magnitude (omega arith) (omega arith) words.1.0
             words.1.2) words
             (λ mode cells pc npc. ori_zero mode cells pc npc reg n.magnitude

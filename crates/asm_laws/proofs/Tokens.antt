@@ -4,19 +4,19 @@ use Rattle.std.specs.Prelude.{IsTrue, slice_range}
 use Rattle.std.specs.Option.{option_to_list}
 use Rattle.std.specs.List.{AllZip, list_all, onto_first}
 use Rattle.std.proofs.lemmas.List.{take-append-le, drop-append-le, length-drop}
-use Rattle.xom_base.specs.Lines.{go_on, lines_of, read_from, with_front}
+use Rattle.xom_base.specs.Lines.{go_on_behind_line, lines_of, read_from, with_front}
 use Rattle.xom_base.specs.Options.{◌>>=◌}
 use Rattle.xom_base.specs.Words.{is_blank}
 use Rattle.asm_tokens.specs.declared.token.Token.{Token}
 use Rattle.asm_tokens.specs.declared.token.TokenKind.{TokenKind}
 use Rattle.asm_tokens.specs.declared.token.TokenKind.TheVariants.{Name, Number, Register, Text, Comma, Colon, Left, Right}
-use Rattle.asm_tokens.specs.Tokens.{AreTokens, BlankBetween, EndsBefore, IsTextOf, IsTokenOf, NoNameByte, StandBetween, is_over, tokens_from, tokens_of}
+use Rattle.asm_tokens.specs.Tokens.{AreTokens, BlankBetween, EndsBefore, IsTextOf, IsTokenOf, NoNameByte, StandBetween, nothing_follows, tokens_from, tokens_of}
 use Rattle.asm_tokens.proofs.LineLaws.{tokens_only}
 use Rattle.asm_source.specs.declared.content.Part.{Part}
 use Rattle.asm_syntax.specs.declared.lexeme.Lexeme.{Lexeme}
 use Rattle.asm_syntax.specs.Forms.{map_some}
 use Rattle.asm_syntax.specs.Lexing.{lexeme_at, lexeme_of, lexemes_in, lexemes_of}
-use Rattle.asm_syntax.specs.Lines.{last_of, line_parts, parts_of, source_of, source_step, state_of}
+use Rattle.asm_syntax.specs.Lines.{line_parts, parts_of_line, source_of, source_step, state_behind, statement_parts}
 use Rattle.asm_laws.specs.Texts.{CommentsSayNothing, HaveSameTokens, LastLineEndSaysNothing, TokensSayAll, said_by}
 
 -- ---- Lines
@@ -39,17 +39,17 @@ lexemes_of-said line tokens has =
 line_parts-same : (n : ℕ) (a b : List ℕ) → HaveSameTokens a b → line_parts n a ≡ line_parts n b
 unfolding line_parts
 line_parts-same n a b both =
-    ap (λ (o : Option (List Lexeme)). o >>= parts_of n) (lexemes_of-said a both.of_a both.a_has
+    ap (λ (o : Option (List Lexeme)). o >>= parts_of_line n) (lexemes_of-said a both.of_a both.a_has
     ∙ ap (map_some lexeme_said) both.same ∙ sym (lexemes_of-said b both.of_b both.b_has))
 
 -- ---- Texts
 
 -- what follows of a line is the same where the line says the same
 go_on-same : {S X : Type 0} (n : ℕ) (o p : Option (Option X × S)) (f g : S → Result (List X × S) ℕ)
-    → o ≡ p → ((s : S) → f s ≡ g s) → go_on n o f ≡ go_on n p g
-go_on-same n None p f g same next = subst (λ q. Err n ≡ go_on n q g) same refl
+    → o ≡ p → ((s : S) → f s ≡ g s) → go_on_behind_line n o f ≡ go_on_behind_line n p g
+go_on-same n None p f g same next = subst (λ q. Err n ≡ go_on_behind_line n q g) same refl
 go_on-same n (Some read) p f g same next =
-    subst (λ q. with_front (option_to_list read.0) (f read.1) ≡ go_on n q g) same
+    subst (λ q. with_front (option_to_list read.0) (f read.1) ≡ go_on_behind_line n q g) same
     (ap (with_front (option_to_list read.0)) (next read.1))
 
 read-same : (before : List Part) (n : ℕ) (xs ys : List (List ℕ)) → AllZip HaveSameTokens xs ys
@@ -66,13 +66,13 @@ read-same before n (x ∷ xs) (y ∷ ys) all =
 
 pub tokens_say_all : TokensSayAll
 unfolding source_of
-tokens_say_all a b same = ap state_of (read-same [] 1 (lines_of a) (lines_of b) same)
+tokens_say_all a b same = ap state_behind (read-same [] 1 (lines_of a) (lines_of b) same)
 
 -- ---- The last line end
 
 -- one line more, which is empty
 empty_line : (n : ℕ) → line_parts n [] ≡ Some []
-unfolding line_parts lexemes_of parts_of last_of tokens_of tokens_from
+unfolding line_parts lexemes_of parts_of_line statement_parts tokens_of tokens_from
 empty_line n = refl
 
 read-empty : (before : List Part) (n : ℕ) (lines : List (List ℕ))
@@ -112,9 +112,9 @@ lines-ended (byte ∷ bytes) =
 pub last_line_end : LastLineEndSaysNothing
 unfolding source_of
 last_line_end text = elim (lines-ended text) [
-  | inl same ↦ ap (λ (lines : List (List ℕ)). state_of (read_from source_step [] 1 lines)) same
-  | inr more ↦ ap (λ (lines : List (List ℕ)). state_of (read_from source_step [] 1 lines)) more
-      ∙ ap state_of (read-empty [] 1 (lines_of text))
+  | inl same ↦ ap (λ (lines : List (List ℕ)). state_behind (read_from source_step [] 1 lines)) same
+  | inr more ↦ ap (λ (lines : List (List ℕ)). state_behind (read_from source_step [] 1 lines)) more
+      ∙ ap state_behind (read-empty [] 1 (lines_of text))
 ]
 
 -- ---- Comments
@@ -194,8 +194,8 @@ module _ (line comment : List ℕ) where
   stand-within from [] to stand = stand.within
   stand-within from (token ∷ tokens) to stand = stand-within token.end tokens to stand.2
 
-  longer-over : (behind : List ℕ) → IsTrue (is_over behind)
-      → IsTrue (is_over (behind ++ (35 ∷ comment)))
+  longer-over : (behind : List ℕ) → IsTrue (nothing_follows behind)
+      → IsTrue (nothing_follows (behind ++ (35 ∷ comment)))
   longer-over [] over = refl
   longer-over (byte ∷ behind) over = over
 
@@ -207,7 +207,7 @@ comments_say_nothing line comment tokens has = record {
   b_has = record {
     place = has.place;
     stand = longer-stand line comment 0 tokens has.place has.stand;
-    over = subst (λ (behind : List ℕ). IsTrue (is_over behind))
+    over = subst (λ (behind : List ℕ). IsTrue (nothing_follows behind))
         (sym (drop-append-le has.place line (35 ∷ comment) (stand-within line comment 0 tokens
         has.place has.stand)))
         (longer-over line comment (drop has.place line) has.over);

@@ -10,10 +10,10 @@ use Rattle.asm_source.specs.declared.content.Content.{Content}
 use Rattle.asm_source.specs.declared.content.Content.TheVariants.{Words, Entry, Instruction}
 use Rattle.asm_source.specs.declared.content.Part.{Part}
 use Rattle.asm_syntax.specs.Lines.{source_of}
-use Rattle.mips_asm.specs.Encoding.{Gives, unsigned_number}
+use Rattle.mips_asm.specs.Encoding.{StatementGives, unsigned_number}
 use Rattle.mips_asm.specs.Layout.{layout}
 use Rattle.mips_asm.specs.Passes.{Labels}
-use Rattle.mips_asm.specs.Sources.{IsImageOf, entry_in, labels_of}
+use Rattle.mips_asm.specs.Sources.{IsImageOf, entry_value, labels_of}
 
 -- the number of a place, or the name where it has none
 abbrev pub place_or : Option ℕ → (name : List ℕ) → ValueType
@@ -21,15 +21,15 @@ place_or None name = Label name
 place_or (Some place) name = Number (unsigned_number place)
 
 -- a value, with the number of its place for a label that has one
-abbrev pub numbered : Labels → ValueType → ValueType
-numbered labels (Number n) = Number n
-numbered labels (Label name) = place_or (labels name) name
+abbrev pub value_with_place : Labels → ValueType → ValueType
+value_with_place labels (Number n) = Number n
+value_with_place labels (Label name) = place_or (labels name) name
 
 -- the same of an operand
 abbrev pub numbered_operand : Labels → Argument → Argument
 numbered_operand labels (Register r) = Register r
-numbered_operand labels (Value v) = Value (numbered labels v)
-numbered_operand labels (Offset v r) = Offset (numbered labels v) r
+numbered_operand labels (Value v) = Value (value_with_place labels v)
+numbered_operand labels (Offset v r) = Offset (value_with_place labels v) r
 numbered_operand labels (Text bytes) = Text bytes
 
 -- an instruction with numbers for its labels writes the same bytes, and so do the values of
@@ -38,16 +38,16 @@ numbered_operand labels (Text bytes) = Text bytes
 abbrev pub NumbersStandForLabels : Type 0
 NumbersStandForLabels = (labels : Labels) (place : ℕ) (name : List ℕ) (operands : List Argument)
     (vs : List ValueType) (v : ValueType) (own : List ℕ)
-    → (Gives labels place (Instruction name operands) own ↔ Gives labels place
+    → (StatementGives labels place (Instruction name operands) own ↔ StatementGives labels place
     (Instruction name (map (numbered_operand labels) operands)) own)
-    × (Gives labels place (Words vs) own ↔ Gives labels place (Words (map (numbered labels) vs))
+    × (StatementGives labels place (Words vs) own ↔ StatementGives labels place (Words (map (value_with_place labels) vs))
     own)
-    × (entry_in labels (Entry v) ≡ entry_in labels (Entry (numbered labels v)))
+    × (entry_value labels (Entry v) ≡ entry_value labels (Entry (value_with_place labels v)))
 
 -- a label or a statement, with numbers for the labels that its operands name
 abbrev pub numbered_content : Labels → Content → Content
-numbered_content labels (Words vs) = Words (map (numbered labels) vs)
-numbered_content labels (Entry v) = Entry (numbered labels v)
+numbered_content labels (Words vs) = Words (map (value_with_place labels) vs)
+numbered_content labels (Entry v) = Entry (value_with_place labels v)
 numbered_content labels (Instruction name operands) =
     Instruction name (map (numbered_operand labels) operands)
 numbered_content labels content = content

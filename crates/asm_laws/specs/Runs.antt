@@ -4,7 +4,7 @@
 -- writer's own, which is this project's own.
 use Rattle.std.specs.Prelude.{ℕ, zero, suc, ◌==◌, List, Option, Some, None, Result, Ok, Err, if◌then◌else◌}
 use Rattle.mips_instruction.specs.declared.instruction.Ins.{Ins}
-use Rattle.mips_instruction.specs.Words.{read}
+use Rattle.mips_instruction.specs.Words.{instruction_of_word}
 use Rattle.xom_base.specs.Options.{◌>>=◌}
 use Rattle.xom_base.specs.declared.event.OwnFault.{OwnFault}
 use Rattle.xom_base.specs.declared.event.OwnFault.TheVariants as fault
@@ -17,7 +17,7 @@ use Rattle.mips_effect.specs.declared.seen.Seen.TheVariants.{Value}
 use Rattle.mips_effect.specs.declared.wish.Wish.{Wish}
 use Rattle.mips_effect.specs.declared.wish.Wish.TheVariants as wish
 use Rattle.mips_effect.specs.Effects.{sources_of, effect_of}
-use Rattle.mips_plain.specs.Memory.{word_at}
+use Rattle.mips_plain.specs.Memory.{word_at_address}
 
 -- ---- Cells and pairs
 
@@ -26,10 +26,10 @@ abbrev pub Cells : Type 0
 Cells = ℕ → Seen
 
 -- the cells after they were written; what was foreign and is written is the writer's own
-abbrev pub cells_after : Cells → Writes → Cells
-cells_after cells writes.Nothing = cells
-cells_after cells (writes.One reg value) = λ cell. if cell == reg then Value value else cells cell
-cells_after cells (writes.Pair hi lo) =
+abbrev pub cells_after_writes : Cells → Writes → Cells
+cells_after_writes cells writes.Nothing = cells
+cells_after_writes cells (writes.One reg value) = λ cell. if cell == reg then Value value else cells cell
+cells_after_writes cells (writes.Pair hi lo) =
     λ cell. if cell == 32 then Value hi else (if cell == 33 then Value lo else cells cell)
 
 -- the cells, and the addresses of the next instruction and of the one after it
@@ -56,15 +56,15 @@ without_wish wish.Nothing next = Some next
 without_wish other next = None
 
 -- the state after an effect that only computes; none where it is a fault or wishes anything
-abbrev pub state_of : Cells → Result Effect OwnFault → Option State
-state_of cells (Err fault) = None
-state_of cells (Ok effect) =
-    without_wish effect.wish (state (cells_after cells effect.writes) effect.pc effect.npc)
+abbrev pub state_after_effect : Cells → Result Effect OwnFault → Option State
+state_after_effect cells (Err fault) = None
+state_after_effect cells (Ok effect) =
+    without_wish effect.wish (state (cells_after_writes cells effect.writes) effect.pc effect.npc)
 
 -- the state after the instruction whose word stands in memory at pc
 abbrev pub state_after_one : List ℕ → Mode → State → Option State
 state_after_one memory mode before =
-    state_of before.cells (effect_on mode before (read (word_at memory before.pc)))
+    state_after_effect before.cells (effect_on mode before (instruction_of_word (word_at_address memory before.pc)))
 
 -- the state after so many instructions, each fetched from memory, where all of them only compute
 abbrev pub state_after : ℕ → List ℕ → Mode → State → Option State

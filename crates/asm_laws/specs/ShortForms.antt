@@ -4,7 +4,7 @@
 -- RISC Architecture, appendix A (MIPS I).
 use Rattle.std.specs.Prelude.{◌≡◌, ◌≢◌, ℕ, ◌+◌, ◌*◌, ◌^◌, ◌<◌, ◌≤◌, All, List, [], ◌∷◌, length, codes, slice_index, Some, Ok}
 use Rattle.xom_base.specs.declared.image.PlainImage.{PlainImage}
-use Rattle.mips_instruction.specs.Numbers.{reduced, after}
+use Rattle.mips_instruction.specs.Numbers.{next_address, number_modulo_word}
 use Rattle.mips_effect.specs.declared.seen.Mode.{Mode}
 use Rattle.mips_effect.specs.declared.seen.Seen.TheVariants as seen
 use Rattle.mips_effect.specs.Effects.{seen_at}
@@ -18,7 +18,7 @@ use Rattle.asm_source.specs.declared.content.Content.{Content}
 use Rattle.asm_source.specs.declared.content.Part.{Part}
 use Rattle.asm_syntax.specs.Lines.{source_of, statement_of}
 use Rattle.mips_asm.specs.declared.placed.Placed.{Placed}
-use Rattle.mips_asm.specs.Encoding.{Gives, number_of}
+use Rattle.mips_asm.specs.Encoding.{StatementGives, value_number}
 use Rattle.mips_asm.specs.Layout.{layout, limit}
 use Rattle.mips_asm.specs.Passes.{Labels}
 use Rattle.mips_asm.specs.Sources.{IsImageOf, labels_of}
@@ -33,7 +33,7 @@ pub record StandsIn (memory : List ℕ) (labels : Labels) (place : ℕ) (name : 
     (operands : List Argument) (own : List ℕ) : Type 0 where
   pub content : Content
   pub statement : statement_of name operands ≡ Some content
-  pub gives : Gives labels place content own
+  pub gives : StatementGives labels place content own
   pub there : (k : ℕ) → k < length own → slice_index memory (place + k) ≡ slice_index own k
   pub inside : place + length own ≤ limit
 
@@ -81,7 +81,7 @@ abbrev pub LiLoadsTheNumber : Type 0
 LiLoadsTheNumber =
     (memory own : List ℕ) (labels : Labels) (place reg : ℕ) (n : Integer)
     → StandsIn memory labels place (codes "li") (Register reg ∷ Value (Number n) ∷ []) own
-    → Loads memory place (length own) reg (reduced (whole n))
+    → Loads memory place (length own) reg (number_modulo_word (whole n))
 
 -- `la r, label`: the register is the label's place
 abbrev pub LaLoadsThePlace : Type 0
@@ -99,14 +99,14 @@ MoveCopies =
     (memory own : List ℕ) (labels : Labels) (place a b v npc : ℕ) (mode : Mode) (cells : Cells)
     → StandsIn memory labels place (codes "move") (Register a ∷ Register b ∷ []) own
     → seen_at b (cells b) ≡ seen.Value v → v < 2 ^ 32
-    → Sets memory mode (state cells place npc) 1 npc (after npc) a v
+    → Sets memory mode (state cells place npc) 1 npc (next_address npc) a v
 
 -- `nop`: no cell is written, and the pair goes on, wherever it goes
 abbrev pub NopGoesOn : Type 0
 NopGoesOn =
     (memory own : List ℕ) (labels : Labels) (place npc : ℕ) (mode : Mode) (cells : Cells)
     → StandsIn memory labels place (codes "nop") [] own
-    → state_after 1 memory mode (state cells place npc) ≡ Some (state cells npc (after npc))
+    → state_after 1 memory mode (state cells place npc) ≡ Some (state cells npc (next_address npc))
 
 -- `b target`: whatever the cells hold, the instruction behind it is next, and then the target: a
 -- number, or
@@ -114,7 +114,7 @@ NopGoesOn =
 abbrev pub BGoesToItsTarget : Type 0
 BGoesToItsTarget =
     (memory own : List ℕ) (labels : Labels) (place : ℕ) (target : ValueType) (n : Integer)
-    (mode : Mode) (cells : Cells) → number_of labels target ≡ Some n
+    (mode : Mode) (cells : Cells) → value_number labels target ≡ Some n
     → StandsIn memory labels place (codes "b") (Value target ∷ []) own
     → state_after 1 memory mode (state cells place (place + 4)) ≡ Some (state cells (place + 4)
     n.magnitude)

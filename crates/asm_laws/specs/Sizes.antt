@@ -6,8 +6,8 @@ use Rattle.asm_source.specs.declared.content.Content.{Content}
 use Rattle.asm_source.specs.declared.content.Part.{Part}
 use Rattle.asm_syntax.specs.Lines.{source_of}
 use Rattle.mips_asm.specs.declared.placed.Placed.{Placed}
-use Rattle.mips_asm.specs.Encoding.{Gives}
-use Rattle.mips_asm.specs.Layout.{covers, layout, size_of}
+use Rattle.mips_asm.specs.Encoding.{StatementGives}
+use Rattle.mips_asm.specs.Layout.{covers, layout, statement_size}
 use Rattle.mips_asm.specs.Passes.{Labels}
 use Rattle.mips_asm.specs.Sources.{IsImageOf}
 
@@ -15,7 +15,7 @@ use Rattle.mips_asm.specs.Sources.{IsImageOf}
 abbrev pub StatementsHaveTheirSizes : Type 0
 StatementsHaveTheirSizes =
     (labels : Labels) (place : ℕ) (content : Content) (own : List ℕ)
-    → Gives labels place content own → length own ≡ size_of place content
+    → StatementGives labels place content own → length own ≡ statement_size place content
 
 -- two statements of a source that has an image, the i-th and the j-th, which both write a place,
 -- are one

@@ -4,11 +4,11 @@ use Rattle.std.proofs.lemmas.Bool.{cases_Bool, eq-eqb, le-leb, lt-ltb, or_left, 
 use Rattle.std.proofs.lemmas.Int.{ints, int_rem_euclid_is}
 use Rattle.std.specs.Int.{int_rem_euclid}
 use Rattle.std.specs.Prelude.{unsigned_abs}
-use Rattle.mips_text.specs.Texts.{value_of}
+use Rattle.mips_text.specs.Texts.{operand_value}
 use Rattle.mips_forms.specs.declared.operand.Operand.TheVariants.{Branch, Jump, Signed}
 use Rattle.asm_tokens.specs.declared.integers.Integer.{Integer}
 use Rattle.asm_tokens.specs.Integers.{whole}
-use Rattle.mips_asm.specs.Encoding.{address_of, branch_field, distance, jump_field, signed_immediate, unsigned_below}
+use Rattle.mips_asm.specs.Encoding.{branch_field, distance, instruction_address, jump_field, signed_immediate, unsigned_below}
 
 -- ---- numbers
 
@@ -36,7 +36,7 @@ below_wrapped false n m is large fits = absurd (omega (arith, ints, is))
 
 -- a number of 16 bits with its sign
 abbrev signed_16 : ℕ → ℤ
-signed_16 m = value_of 0 (Signed m)
+signed_16 m = operand_value 0 (Signed m)
 
 -- it is itself, or itself less 2^16
 signed_16-is : (m : ℕ)
@@ -72,7 +72,7 @@ signed-read m n is fits = elim (signed_16-is m) [
 
 -- the address of an instruction
 address-read : (m : ℕ) (n : Integer) → whole n ≡ pos m → m < 2 ^ 32 → m % 4 ≡ 0
-    → address_of n ≡ Some m
+    → instruction_address n ≡ Some m
 address-read m n is fits even =
     let it = natural n.negative n.magnitude m 0 4294967295 is (omega arith) in
     let four : (n.magnitude % 4 == 0) ≡ true = eq-eqb (n.magnitude % 4) 0
@@ -100,9 +100,9 @@ jump-field : (pc index : ℕ) → index < 2 ^ 26 → jump_from pc index % 2 ^ 28
 jump-field pc index fits = omega arith
 
 -- the address that a jump shows gives its index
-pub jump-read : (pc index : ℕ) (n : Integer) → whole n ≡ value_of pc (Jump index) → pc + 4 < 2 ^ 32
+pub jump-read : (pc index : ℕ) (n : Integer) → whole n ≡ operand_value pc (Jump index) → pc + 4 < 2 ^ 32
     → index < 2 ^ 26
-    → (address : ℕ) × (address_of n ≡ Some address) × (jump_field pc address ≡ Some index)
+    → (address : ℕ) × (instruction_address n ≡ Some address) × (jump_field pc address ≡ Some index)
 jump-read pc index n is below fits =
     let top : (jump_from pc index / 2 ^ 28 == (pc + 4) / 2 ^ 28) ≡ true =
     eq-eqb (jump_from pc index / 2 ^ 28) ((pc + 4) / 2 ^ 28) (jump-top pc index below fits) in (
@@ -210,9 +210,9 @@ branch-lands pc imm even below fits = elim (signed_16-is imm) [
 ]
 
 -- the address that a branch shows gives its field
-pub branch-read : (pc imm : ℕ) (n : Integer) → whole n ≡ value_of pc (Branch imm) → pc % 4 ≡ 0
+pub branch-read : (pc imm : ℕ) (n : Integer) → whole n ≡ operand_value pc (Branch imm) → pc % 4 ≡ 0
     → pc + 4 < 2 ^ 32 → imm < 2 ^ 16
-    → (address : ℕ) × (address_of n ≡ Some address) × (branch_field pc address ≡ Some imm)
+    → (address : ℕ) × (instruction_address n ≡ Some address) × (branch_field pc address ≡ Some imm)
 branch-read pc imm n is even below fits =
     let lands = branch-lands pc imm even below fits in
     (branch_from pc imm, address-read (branch_from pc imm) n is lands.0 lands.1, lands.2)

@@ -10,7 +10,7 @@ use Rattle.asm_tokens.proofs.SizeLaws.{token_found, token_kind, token_only}
 use Rattle.asm_tokens.proofs.StepLaws.{NoBlank, tokens_from-blank, tokens_from-token}
 use Rattle.asm_tokens.specs.declared.token.Token.{Token}
 use Rattle.asm_tokens.specs.declared.token.TokenKind.{TokenKind}
-use Rattle.asm_tokens.specs.Tokens.{EndsBefore, IsTextOf, is_over, token_at, token_of, tokens_from, tokens_of, with_tokens}
+use Rattle.asm_tokens.specs.Tokens.{EndsBefore, IsTextOf, nothing_follows, token_at, token_of, tokens_from, tokens_of, with_tokens}
 use Rattle.asm_syntax.specs.declared.lexeme.Lexeme.{Lexeme}
 use Rattle.asm_syntax.specs.Lexing.{lexeme_at, lexeme_of, lexemes_in, lexemes_of}
 
@@ -43,7 +43,7 @@ lexes_space behind lexemes is =
 
 -- where a token begins, no blank stands and the line isn't over
 token_front : (bytes : List ℕ) (kind : TokenKind) (size : ℕ) → token_of bytes ≡ Some (kind, size)
-    → NoBlank bytes × (is_over bytes ≡ false)
+    → NoBlank bytes × (nothing_follows bytes ≡ false)
 unfolding token_of
 token_front [] kind size h = absurd (none-some (kind, size) h)
 token_front (first ∷ rest) kind size h =

@@ -7,12 +7,12 @@ use Rattle.std.specs.List.{AllByRecursion, list_any}
 use Rattle.std.proofs.lemmas.Bool.{cond_both, ne_eqb, or_from, or_parts}
 use Rattle.std.proofs.lemmas.List.Folds.{list_any-append}
 use Rattle.hex.specs.Hex.{encode_lower, encode_with, lower_digits}
-use Rattle.mips_instruction.specs.Words.{read}
+use Rattle.mips_instruction.specs.Words.{instruction_of_word}
 use Rattle.mips_instruction.specs.declared.instruction.Ins.{Ins}
 use Rattle.mips_instruction.specs.declared.instruction.Ins.TheVariants.{Sll}
 use Rattle.mips_instruction.specs.Numbers.{signed_16}
 use Rattle.mips_forms.specs.Forms.{form_of}
-use Rattle.mips_text.specs.Texts.{address_text, joined, operand_text, operands_text, read_text, text_of, word_text}
+use Rattle.mips_text.specs.Texts.{address_text, comma_joined, instruction_text, operand_text, operands_text, read_text, word_text}
 use Rattle.mips_forms.specs.declared.operand.Operand.{Operand}
 use Rattle.mips_forms.specs.declared.operand.Operand.TheVariants.{Register, Shift, Signed, Unsigned, Code, Branch, Jump, Offset}
 
@@ -105,11 +105,11 @@ operand-one pc (Offset imm base) =
     (one_line-append (decimal base) (codes ")") (decimal-one base) refl)
 
 -- operands, with commas between them
-joined-one : (pc : ℕ) (vs : List Operand) → OneLine (joined (map (operand_text pc) vs))
+joined-one : (pc : ℕ) (vs : List Operand) → OneLine (comma_joined (map (operand_text pc) vs))
 joined-one pc [] = refl
 joined-one pc (v ∷ []) = operand-one pc v
 joined-one pc (v ∷ w ∷ vs) =
-    one_line-append (operand_text pc v) (codes ", " ++ joined (map (operand_text pc) (w ∷ vs)))
+    one_line-append (operand_text pc v) (codes ", " ++ comma_joined (map (operand_text pc) (w ∷ vs)))
     (operand-one pc v) (joined-one pc (w ∷ vs))
 
 -- all operands of an instruction
@@ -123,8 +123,8 @@ name-one (Sll rd rt sa) = refl
 name-one _ = refl
 
 -- an instruction
-text-one : (i : Ins) (pc : ℕ) → OneLine (text_of i pc)
-unfolding text_of
+text-one : (i : Ins) (pc : ℕ) → OneLine (instruction_text i pc)
+unfolding instruction_text
 text-one i pc =
     one_line-append (form_of i).0 (operands_text (map (operand_text pc) (form_of i).1)) (name-one i)
     (operands-one pc (form_of i).1)
@@ -136,4 +136,4 @@ read-one None word pc = address-one word
 
 -- the text of a word
 pub no_line_end : (word pc : ℕ) → OneLine (word_text word pc)
-no_line_end word pc = read-one (read word) word pc
+no_line_end word pc = read-one (instruction_of_word word) word pc

@@ -9,13 +9,13 @@ use Rattle.std.proofs.lemmas.List.Elements.{All-get_or}
 use Rattle.std.proofs.lemmas.Nat.{be_bytes_4}
 use Rattle.xom_base.specs.declared.image.PlainImage.{PlainImage}
 use Rattle.xom_base.specs.Lines.{lines_of, read_from}
-use Rattle.mips_text.specs.Texts.{word_at, word_text}
+use Rattle.mips_text.specs.Texts.{image_word_at, word_text}
 use Rattle.asm_source.specs.declared.content.Content.{Content}
 use Rattle.asm_source.specs.declared.content.Part.{Part}
-use Rattle.asm_syntax.specs.Lines.{line_parts, part, source_of, source_step, state_of}
+use Rattle.asm_syntax.specs.Lines.{line_parts, part_of_line, source_of, source_step, state_behind}
 use Rattle.mips_asm.specs.declared.placed.Placed.{Placed}
-use Rattle.mips_asm.specs.Layout.{after, layout, padding}
-use Rattle.mips_asm.specs.Passes.{duplicate_line, first_fault, line_of, repeats}
+use Rattle.mips_asm.specs.Layout.{layout, padding, place_after}
+use Rattle.mips_asm.specs.Passes.{duplicate_line, first_fault, repeats, statement_line}
 use Rattle.mips_asm.specs.Sources.{IsPlacedImage, entry_by, labels_of}
 use Rattle.mips_asm.proofs.ImageLaws.{chunk_at}
 use Rattle.mips_asm.proofs.LabelLaws.{repeats_none}
@@ -61,7 +61,7 @@ four-at bytes p (suc (suc (suc (suc k)))) below = absurd (omega arith)
 
 -- the word is below 2^32
 word-below : (bytes : List ℕ) (p : ℕ) → ((i : ℕ) → get_or bytes i 0 < 256)
-    → word_at bytes p < 2 ^ 32
+    → image_word_at bytes p < 2 ^ 32
 word-below bytes p small =
     let a = small p in
     let b = small (p + 1) in
@@ -71,9 +71,9 @@ word-below bytes p small =
 
 -- its bytes are those of the list
 word-bytes : (bytes : List ℕ) (p : ℕ) → ((i : ℕ) → get_or bytes i 0 < 256) → (k : ℕ) → k < 4
-    → get_or (to_be_bytes w32 (word_at bytes p)) k 0 ≡ get_or bytes (p + k) 0
+    → get_or (to_be_bytes w32 (image_word_at bytes p)) k 0 ≡ get_or bytes (p + k) 0
 word-bytes bytes p small k below =
-    ap (λ (word : List ℕ). get_or word k 0) (be_bytes_4 (four bytes p) (word_at bytes p) refl
+    ap (λ (word : List ℕ). get_or word k 0) (be_bytes_4 (four bytes p) (image_word_at bytes p) refl
     (four-below bytes p small) refl) ∙ four-at bytes p k below
 
 -- ---- lines
@@ -82,10 +82,10 @@ word-bytes bytes p small k below =
 read-line : (text line : List ℕ) (parts : List Part) (n : ℕ) (content : Content) → OneLine line
     → ((rest : List ℕ) → read_from source_step [] 1 (lines_of (text ++ rest)) ≡ read_from
     source_step parts n (lines_of rest))
-    → line_parts n line ≡ Some (part n content ∷ [])
+    → line_parts n line ≡ Some (part_of_line n content ∷ [])
     → (rest : List ℕ)
     → read_from source_step [] 1 (lines_of ((text ++ (line ++ 10 ∷ [])) ++ rest)) ≡ read_from
-    source_step (parts ++ part n content ∷ []) (n + 1) (lines_of rest)
+    source_step (parts ++ part_of_line n content ∷ []) (n + 1) (lines_of rest)
 read-line text line parts n content one read is rest =
     let whole : (text ++ (line ++ 10 ∷ [])) ++ rest ≡ text ++ (line ++ (10 ∷ rest)) =
     append_assoc text (line ++ 10 ∷ []) rest ∙ ap (λ (more : List ℕ). text ++ more)
@@ -93,7 +93,7 @@ read-line text line parts n content one read is rest =
     ap (λ (t : List ℕ). read_from source_step [] 1 (lines_of t)) whole
     ∙ read (line ++ (10 ∷ rest))
     ∙ ap (read_from source_step parts n) (lines-front line rest one)
-    ∙ read-next source_step parts (parts ++ part n content ∷ []) n line (lines_of rest) (rw is refl)
+    ∙ read-next source_step parts (parts ++ part_of_line n content ∷ []) n line (lines_of rest) (rw is refl)
 
 -- ---- one word after another
 
@@ -133,21 +133,21 @@ layout-more place parts x is =
 
 -- and the next place is behind it
 next-more : (place end : ℕ) (parts : List Part) (x : Part) → place_behind 0 parts ≡ place
-    → after place x.content ≡ end → place_behind 0 (parts ++ x ∷ []) ≡ end
+    → place_after place x.content ≡ end → place_behind 0 (parts ++ x ∷ []) ≡ end
 next-more place end parts x is behind =
-    place_behind-push 0 parts x ∙ ap (λ (p : ℕ). after p x.content) is ∙ behind
+    place_behind-push 0 parts x ∙ ap (λ (p : ℕ). place_after p x.content) is ∙ behind
 
 -- one more word, whose text is a line with this statement
 grown-more : (bytes : List ℕ) (n : ℕ) (content : Content) → ((i : ℕ) → get_or bytes i 0 < 256)
     → 4 * n + 4 ≤ 2 ^ 20
-    → line_parts (suc n) (word_text (word_at bytes (4 * n)) (4 * n)) ≡ Some (part (suc n) content
+    → line_parts (suc n) (word_text (image_word_at bytes (4 * n)) (4 * n)) ≡ Some (part_of_line (suc n) content
     ∷ [])
-    → IsFixed (4 * n) content (to_be_bytes w32 (word_at bytes (4 * n))) → Grown bytes n
+    → IsFixed (4 * n) content (to_be_bytes w32 (image_word_at bytes (4 * n))) → Grown bytes n
     → Grown bytes (suc n)
 grown-more bytes n content small below is fixed g =
-    let x : Part = part (suc n) content in
-    let own : List ℕ = to_be_bytes w32 (word_at bytes (4 * n)) in
-    let line : List ℕ = word_text (word_at bytes (4 * n)) (4 * n) in
+    let x : Part = part_of_line (suc n) content in
+    let own : List ℕ = to_be_bytes w32 (image_word_at bytes (4 * n)) in
+    let line : List ℕ = word_text (image_word_at bytes (4 * n)) (4 * n) in
     let end : 4 * n + 4 ≡ 4 * suc n = omega arith in
     let stand = stand-more bytes (4 * n) (layout 0 g.parts) g.chunks (placed_at (4 * n) x) own
     g.stand refl fixed.size refl below fixed (word-bytes bytes (4 * n) small) in
@@ -156,7 +156,7 @@ grown-more bytes n content small below is fixed g =
       chunks = g.chunks ++ chunk_at (4 * n) own ∷ [];
       read = λ rest.
           read-line (texts_of bytes n) line g.parts (suc n) content
-          (no_line_end (word_at bytes (4 * n)) (4 * n)) g.read is rest
+          (no_line_end (image_word_at bytes (4 * n)) (4 * n)) g.read is rest
           ∙ ap (λ (m : ℕ). read_from source_step (g.parts ++ x ∷ []) m (lines_of rest))
           (add-one (suc n));
       unique = fault-more (λ (p : Part). p.line) repeats [] g.parts x g.unique
@@ -174,10 +174,10 @@ grown : WordsAreReadAgain → (bytes : List ℕ) → ((i : ℕ) → get_or bytes
     → 4 * n ≤ 2 ^ 20 → Grown bytes n
 grown words bytes small zero below = grown-none bytes
 grown words bytes small (suc n) below =
-    let w = words no_labels (suc n) (4 * n) (word_at bytes (4 * n)) (omega arith) (omega arith)
+    let w = words no_labels (suc n) (4 * n) (image_word_at bytes (4 * n)) (omega arith) (omega arith)
     (word-below bytes (4 * n) small) in
     grown-more bytes n w.0 small (omega arith) w.1
-    (gives_no_names (4 * n) w.0 (to_be_bytes w32 (word_at bytes (4 * n))) (omega arith) w.2)
+    (gives_no_names (4 * n) w.0 (to_be_bytes w32 (image_word_at bytes (4 * n))) (omega arith) w.2)
     (grown words bytes small n (omega arith))
 
 -- ---- the whole
@@ -232,8 +232,8 @@ source-read : (text : List ℕ) (parts : List Part) (n : ℕ)
     → source_of text ≡ Ok parts
 unfolding source_of read_from
 source-read text parts n read =
-    ap (λ (t : List ℕ). state_of (read_from source_step [] 1 (lines_of t))) (sym (append-nil text))
-    ∙ ap state_of (read [])
+    ap (λ (t : List ℕ). state_behind (read_from source_step [] 1 (lines_of t))) (sym (append-nil text))
+    ∙ ap state_behind (read [])
 
 -- statements that stand have the image with their bytes
 placed_image : (bytes : List ℕ) (end : ℕ) (placed : List Placed) (chunks : List PlacedBytes)
@@ -243,7 +243,7 @@ placed_image : (bytes : List ℕ) (end : ℕ) (placed : List Placed) (chunks : L
     → IsPlacedImage placed image
 placed_image bytes end placed chunks image so entry long same = record {
   no_overlap = so.apart;
-  no_unknown = ap (λ (found : Option Placed). option_map line_of found)
+  no_unknown = ap (λ (found : Option Placed). option_map statement_line found)
       (so.known (labels_of placed));
   entry = ap (entry_by (labels_of placed)) so.no_entry ∙ ap (λ (n : ℕ). Some n) (sym entry);
   chunks = chunks;
@@ -267,7 +267,7 @@ listings_assembled_again words bytes small short =
         parts = g.parts;
         read = source-read (texts_of bytes n) g.parts (suc n) g.read;
         no_duplicate = g.unique;
-        not_too_long = ap (λ (found : Option Placed). option_map line_of found) g.stand.short;
+        not_too_long = ap (λ (found : Option Placed). option_map statement_line found) g.stand.short;
         placed = placed_image bytes (4 * n) (layout 0 g.parts) g.chunks (image_of bytes short)
             g.stand refl (whole-length bytes) (whole-at bytes);
       },

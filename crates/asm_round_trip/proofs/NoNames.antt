@@ -15,9 +15,9 @@ use Rattle.asm_source.specs.declared.argument.Value.{Value}
 use Rattle.asm_source.specs.declared.argument.Value.TheVariants as values
 use Rattle.asm_source.specs.declared.content.Content.{Content}
 use Rattle.asm_source.specs.declared.content.Content.TheVariants.{Label, Words, Org, Entry, LoadAddress, Instruction}
-use Rattle.mips_asm.specs.Encoding.{Gives, instruction_at, join_some, load_address, one_instruction, operand_of, operands_of, word_value}
-use Rattle.mips_asm.specs.Layout.{after, size_of}
-use Rattle.mips_asm.specs.Passes.{Labels, argument_unknown, content_unknown, label_in, value_unknown}
+use Rattle.mips_asm.specs.Encoding.{StatementGives, instruction_at, join_some, load_address, one_instruction, operand_of, operands_of, word_value}
+use Rattle.mips_asm.specs.Layout.{place_after, statement_size}
+use Rattle.mips_asm.specs.Passes.{Labels, argument_unknown, content_unknown, label_said, value_unknown}
 use Rattle.mips_asm.specs.Sources.{entry_content}
 use Rattle.mips_asm.proofs.SizeLaws.{Gives-size}
 
@@ -119,26 +119,26 @@ not_empty (byte ∷ bytes) some is = absurd (let e : byte ∷ bytes ≡ [] = is 
 
 -- a statement that writes some bytes is no label
 no_label-by : (place : ℕ) (content : Content) (bytes : List ℕ) → 0 < length bytes
-    → Gives no_labels place content bytes → label_in content ≡ None
+    → StatementGives no_labels place content bytes → label_said content ≡ None
 no_label-by place (Label name) bytes some given = absurd (not_empty bytes some given)
 no_label-by place _ bytes some given = refl
 
 -- and no `.entry`
 no_entry-by : (place : ℕ) (content : Content) (bytes : List ℕ) → 0 < length bytes
-    → Gives no_labels place content bytes → entry_content content ≡ false
+    → StatementGives no_labels place content bytes → entry_content content ≡ false
 no_entry-by place (Entry v) bytes some given = absurd (not_empty bytes some given)
 no_entry-by place _ bytes some given = refl
 
 -- and the next place is behind its bytes
 behind-by : (place : ℕ) (content : Content) (bytes : List ℕ) → 0 < length bytes
-    → Gives no_labels place content bytes → after place content ≡ place + size_of place content
-unfolding after size_of
+    → StatementGives no_labels place content bytes → place_after place content ≡ place + statement_size place content
+unfolding place_after statement_size
 behind-by place (Org n) bytes some given = absurd (not_empty bytes some given)
 behind-by place _ bytes some given = refl
 
 -- it uses no name
 known-by : (labels : Labels) (place : ℕ) (content : Content) (bytes : List ℕ) → 0 < length bytes
-    → Gives no_labels place content bytes → content_unknown labels content ≡ false
+    → StatementGives no_labels place content bytes → content_unknown labels content ≡ false
 known-by labels place (Words vs) bytes some given = (words-known labels vs bytes given.1).0
 known-by labels place (Entry v) bytes some given = absurd (not_empty bytes some given)
 known-by labels place (LoadAddress r name) bytes some given =
@@ -149,7 +149,7 @@ known-by labels place _ bytes some given = refl
 
 -- so it writes the same whatever the labels are
 gives-by : (labels : Labels) (place : ℕ) (content : Content) (bytes : List ℕ)
-    → Gives no_labels place content bytes → Gives labels place content bytes
+    → StatementGives no_labels place content bytes → StatementGives labels place content bytes
 gives-by labels place (Words vs) bytes given = (given.0, (words-known labels vs bytes given.1).1)
 gives-by labels place (LoadAddress r name) bytes given = absurd (no_address r name given.0 given.2)
 gives-by labels place (Instruction name arguments) bytes given =
@@ -159,16 +159,16 @@ gives-by labels place _ bytes given = given
 -- a statement that writes these bytes at this place, uses no name, and is no label, no `.org` and
 -- no `.entry`
 pub record IsFixed (place : ℕ) (content : Content) (bytes : List ℕ) : Type 0 where
-  pub no_label : label_in content ≡ None
+  pub no_label : label_said content ≡ None
   pub no_entry : entry_content content ≡ false
   pub known : (labels : Labels) → content_unknown labels content ≡ false
-  pub size : size_of place content ≡ length bytes
-  pub behind : after place content ≡ place + length bytes
-  pub gives : (labels : Labels) → Gives labels place content bytes
+  pub size : statement_size place content ≡ length bytes
+  pub behind : place_after place content ≡ place + length bytes
+  pub gives : (labels : Labels) → StatementGives labels place content bytes
 
 -- one that writes some bytes where no label is known is such a statement
 pub gives_no_names : (place : ℕ) (content : Content) (bytes : List ℕ) → 0 < length bytes
-    → Gives no_labels place content bytes → IsFixed place content bytes
+    → StatementGives no_labels place content bytes → IsFixed place content bytes
 gives_no_names place content bytes some given =
     let sized = sym (Gives-size no_labels place content bytes given) in
     record {

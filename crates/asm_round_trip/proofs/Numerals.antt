@@ -15,7 +15,7 @@ use Rattle.xom_base.specs.Numbers.{IsNumber, value}
 use Rattle.text_pieces.specs.Pieces.{hex8}
 use Rattle.mips_instruction.specs.Numbers.{signed_16}
 use Rattle.asm_tokens.specs.declared.integers.Integer.{Integer}
-use Rattle.asm_tokens.specs.Integers.{IsInteger, signed, whole}
+use Rattle.asm_tokens.specs.Integers.{IsInteger, signed_integer, whole}
 use Rattle.mips_text.specs.Texts.{address_text}
 
 -- ---- decimal
@@ -33,8 +33,8 @@ decimal-number n fits =
 
 -- the sign and the magnitude of a whole number
 abbrev pub printed : ℤ → Integer
-printed (pos n) = signed false n
-printed (negsuc n) = signed true (suc n)
+printed (pos n) = signed_integer false n
+printed (negsuc n) = signed_integer true (suc n)
 
 -- they are those of that number
 pub whole-printed : (z : ℤ) → whole (printed z) ≡ z

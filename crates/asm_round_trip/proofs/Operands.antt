@@ -7,15 +7,15 @@ use Rattle.std.specs.Str.{bytes_eq}
 use Rattle.std.proofs.lemmas.Bool.{and_parts, cases_lt, le-ltb, lt-ltb, true≢false}
 use Rattle.std.proofs.lemmas.Fmt.{decimal_digit, decimal_step}
 use Rattle.std.proofs.lemmas.Slice.Eq.{bytes_eq-Decides}
-use Rattle.mips_instruction.specs.Numbers.{signed_16, reduced, target, jump_target, after}
+use Rattle.mips_instruction.specs.Numbers.{jump_target, next_address, number_modulo_word, signed_16, target}
 use Rattle.asm_tokens.specs.declared.integers.Integer.{Integer}
 use Rattle.mips_forms.specs.declared.operand.Operand.{Operand}
 use Rattle.mips_forms.specs.declared.operand.Operand.TheVariants as operand
 use Rattle.asm_tokens.specs.declared.token.TokenKind.TheVariants as kinds
-use Rattle.mips_forms.specs.Forms.{InRange, kind_of}
+use Rattle.mips_forms.specs.Forms.{InRange, operand_kind_of}
 use Rattle.asm_tokens.specs.Integers.{IsInteger}
 use Rattle.asm_tokens.specs.Registers.{IsRegister, register_numbers}
-use Rattle.mips_text.specs.Texts.{joined, operand_text, operands_text, register_text, value_of}
+use Rattle.mips_text.specs.Texts.{comma_joined, operand_text, operand_value, operands_text, register_text}
 use Rattle.asm_tokens.specs.Tokens.{NoNameByte}
 use Rattle.asm_tokens.proofs.IntegerLaws.{integer_of-exact}
 use Rattle.asm_tokens.proofs.RegisterLaws.{register_of-exact}
@@ -124,16 +124,16 @@ abbrev pub lexed : (pc : ℕ) → Operand → List Lexeme
 lexed pc (operand.Register r) = Register r ∷ []
 lexed pc (operand.Offset imm base) =
     Number (printed (signed_16 imm)) ∷ Left ∷ Register base ∷ Right ∷ []
-lexed pc v = Number (printed (value_of pc v)) ∷ []
+lexed pc v = Number (printed (operand_value pc v)) ∷ []
 
 -- and the argument that they are
 abbrev pub shown : (pc : ℕ) → Operand → Argument
 shown pc (operand.Register r) = argument.Register r
 shown pc (operand.Offset imm base) = argument.Offset (values.Number (printed (signed_16 imm))) base
-shown pc v = argument.Value (values.Number (printed (value_of pc v)))
+shown pc v = argument.Value (values.Number (printed (operand_value pc v)))
 
 -- what is reduced to 32 bits
-reduced-below : (z : ℤ) → reduced z < 2 ^ 32
+reduced-below : (z : ℤ) → number_modulo_word z < 2 ^ 32
 reduced-below (pos n) = omega arith
 reduced-below (negsuc n) = omega arith
 
@@ -141,7 +141,7 @@ reduced-below (negsuc n) = omega arith
 target-below : (following imm : ℕ) → target following imm < 2 ^ 32
 target-below following imm = reduced-below (pos following +ℤ signed_16 imm *ℤ pos 4)
 
-jump_target-below : (pc index : ℕ) → index < 2 ^ 26 → jump_target (after pc) index < 2 ^ 32
+jump_target-below : (pc index : ℕ) → index < 2 ^ 26 → jump_target (next_address pc) index < 2 ^ 32
 jump_target-below pc index fits = omega arith
 
 -- a number without a sign
@@ -171,11 +171,11 @@ lexes_operand pc (operand.Unsigned n) behind lexemes fits ends more =
 lexes_operand pc (operand.Code n) behind lexemes fits ends more =
     lexes_decimal n behind lexemes (omega arith) ends more
 lexes_operand pc (operand.Branch imm) behind lexemes fits ends more =
-    let address : ℕ = target (after pc) imm in
+    let address : ℕ = target (next_address pc) imm in
     lexes_number (operand_text pc (operand.Branch imm)) behind (printed (pos address)) lexemes
-    (address-integer address (target-below (after pc) imm)) ends more
+    (address-integer address (target-below (next_address pc) imm)) ends more
 lexes_operand pc (operand.Jump index) behind lexemes fits ends more =
-    let address : ℕ = jump_target (after pc) index in
+    let address : ℕ = jump_target (next_address pc) index in
     lexes_number (operand_text pc (operand.Jump index)) behind (printed (pos address)) lexemes
     (address-integer address (jump_target-below pc index fits)) ends more
 lexes_operand pc (operand.Offset imm base) behind lexemes fits ends more =
@@ -201,11 +201,11 @@ shows-shown pc (operand.Shift n) = (printed (pos n), refl, refl)
 shows-shown pc (operand.Signed imm) = (printed (signed_16 imm), whole-printed (signed_16 imm), refl)
 shows-shown pc (operand.Unsigned n) = (printed (pos n), refl, refl)
 shows-shown pc (operand.Code n) = (printed (pos n), refl, refl)
-shows-shown pc (operand.Branch imm) = (printed (pos (target (after pc) imm)), refl, refl)
-shows-shown pc (operand.Jump index) = (printed (pos (jump_target (after pc) index)), refl, refl)
+shows-shown pc (operand.Branch imm) = (printed (pos (target (next_address pc) imm)), refl, refl)
+shows-shown pc (operand.Jump index) = (printed (pos (jump_target (next_address pc) index)), refl, refl)
 
 -- and may stand for its kind
-may_be-shown : (pc : ℕ) (v : Operand) → may_be (kind_of v) (shown pc v) ≡ true
+may_be-shown : (pc : ℕ) (v : Operand) → may_be (operand_kind_of v) (shown pc v) ≡ true
 may_be-shown pc (operand.Register r) = refl
 may_be-shown pc _ = refl
 
@@ -223,13 +223,13 @@ operand_texts pc vs = map (operand_text pc) vs
 
 -- they are read as their lexemes
 lexes_joined : (pc : ℕ) (vs : List Operand) → AllByRecursion InRange vs
-    → Lexes (joined (operand_texts pc vs)) (all_lexed pc vs)
+    → Lexes (comma_joined (operand_texts pc vs)) (all_lexed pc vs)
 lexes_joined pc [] fits = lexes_none
 lexes_joined pc (v ∷ []) fits =
     let alone = lexes_operand pc v [] [] fits.0 tt lexes_none in
     rw (append-nil (operand_text pc v), append-nil (lexed pc v)) at alone
 lexes_joined pc (v ∷ next ∷ vs) fits =
-    let others : List ℕ = joined (operand_texts pc (next ∷ vs)) in
+    let others : List ℕ = comma_joined (operand_texts pc (next ∷ vs)) in
     let rest : List Lexeme = all_lexed pc (next ∷ vs) in
     lexes_operand pc v (44 ∷ 32 ∷ others) (Comma ∷ rest) fits.0 refl
     (lexes_token kinds.Comma (44 ∷ []) (32 ∷ others) Comma rest refl tt refl
@@ -240,7 +240,7 @@ pub lexes_operands : (pc : ℕ) (vs : List Operand) → AllByRecursion InRange v
     → Lexes (operands_text (operand_texts pc vs)) (all_lexed pc vs)
 lexes_operands pc [] fits = lexes_none
 lexes_operands pc (v ∷ vs) fits =
-    lexes_space (joined (operand_texts pc (v ∷ vs))) (all_lexed pc (v ∷ vs))
+    lexes_space (comma_joined (operand_texts pc (v ∷ vs))) (all_lexed pc (v ∷ vs))
     (lexes_joined pc (v ∷ vs) fits)
 
 -- no name byte follows the mnemonic
@@ -296,6 +296,6 @@ all_shown pc (v ∷ vs) = (shows-shown pc v, all_shown pc vs)
 
 -- and they may stand for the kinds of the operands
 pub may_be_all-shown : (pc : ℕ) (vs : List Operand)
-    → may_be_all (map kind_of vs) (map (shown pc) vs) ≡ true
+    → may_be_all (map operand_kind_of vs) (map (shown pc) vs) ≡ true
 may_be_all-shown pc [] = refl
 may_be_all-shown pc (v ∷ vs) = rw (may_be-shown pc v, may_be_all-shown pc vs) refl

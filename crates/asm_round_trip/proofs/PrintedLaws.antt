@@ -3,7 +3,7 @@ use Rattle.std.proofs.Common.{◌≡◌, ℕ, ◌+◌, ◌%◌, ◌^◌, ◌<◌
 use Rattle.std.specs.List.{AllByRecursion, AllZip}
 use Rattle.mips_instruction.specs.Words.{Fits}
 use Rattle.mips_instruction.specs.declared.instruction.Ins.{Ins}
-use Rattle.mips_forms.specs.Forms.{InRange, form_of, kind_of}
+use Rattle.mips_forms.specs.Forms.{InRange, form_of, operand_kind_of}
 use Rattle.mips_forms.specs.declared.operand.Operand.{Operand}
 use Rattle.mips_forms.specs.declared.operand.Operand.TheVariants.{Register, Shift, Signed, Unsigned, Code, Branch, Jump, Offset}
 use Rattle.asm_source.specs.declared.argument.Argument.{Argument}
@@ -16,7 +16,7 @@ use Rattle.asm_round_trip.proofs.FieldLaws.{branch-read, jump-read, signed-read,
 -- an operand as it is printed is read as itself
 operand-read : (labels : Labels) (pc : ℕ) (v : Operand) (shown : Argument) → pc % 4 ≡ 0
     → pc + 4 < 2 ^ 32 → InRange v → Shows pc v shown
-    → operand_of labels pc (kind_of v) shown ≡ Some v
+    → operand_of labels pc (operand_kind_of v) shown ≡ Some v
 unfolding operand_of field_of
 operand-read labels pc (Register r) shown even below fits is = rw is refl
 operand-read labels pc (Shift m) shown even below fits is =
@@ -43,7 +43,7 @@ operand-read labels pc (Offset m base) shown even below fits is =
 -- and so are all of them
 operands-read : (labels : Labels) (pc : ℕ) (vs : List Operand) (arguments : List Argument)
     → pc % 4 ≡ 0 → pc + 4 < 2 ^ 32 → AllByRecursion InRange vs → AllZip (Shows pc) vs arguments
-    → operands_of labels pc (map kind_of vs) arguments ≡ Some vs
+    → operands_of labels pc (map operand_kind_of vs) arguments ≡ Some vs
 unfolding operands_of
 operands-read labels pc [] [] even below fits is = refl
 operands-read labels pc [] (shown ∷ arguments) even below fits is = absurd is

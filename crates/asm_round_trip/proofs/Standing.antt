@@ -6,14 +6,14 @@ use Rattle.std.specs.List.{list_any}
 use Rattle.std.proofs.lemmas.Bool.{cases_lt}
 use Rattle.std.proofs.lemmas.Bool.Decides.{nat_tests}
 use Rattle.mips_asm.specs.declared.placed.Placed.{Placed}
-use Rattle.mips_asm.specs.Images.{PlacedBytes, byte_over, chunk_end, chunks_end, holds}
+use Rattle.mips_asm.specs.Images.{PlacedBytes, byte_over, chunk_end, chunks_end, piece_covers}
 use Rattle.mips_asm.specs.Layout.{covers, is_too_long}
-use Rattle.mips_asm.specs.Passes.{Labels, first_fault, is_unknown, line_of, overlap_line, overlaps}
-use Rattle.mips_asm.specs.Sources.{Writes, last_entry}
+use Rattle.mips_asm.specs.Passes.{Labels, first_fault, is_unknown, overlap_line, overlaps, statement_line}
+use Rattle.mips_asm.specs.Sources.{StatementsWrite, last_entry}
 use Rattle.mips_asm.proofs.ImageLaws.{byte_over-push, chunk_at, chunks_end-push, chunks_end_none}
 use Rattle.mips_asm.proofs.OverlapLaws.{overlaps_false}
 use Rattle.mips_asm.proofs.RangeLaws.{Writes-push}
-use Rattle.mips_asm.specs.Sources.{is_entry}
+use Rattle.mips_asm.specs.Sources.{is_entry_statement}
 use Rattle.asm_round_trip.proofs.Growing.{any-more, fault-more, find-more, find_last-more}
 use Rattle.asm_round_trip.proofs.NoNames.{IsFixed}
 
@@ -27,7 +27,7 @@ pub record Stand (bytes : List ℕ) (end : ℕ) (placed : List Placed)
   pub free : (k : ℕ) → end ≤ k → list_any (λ (p : Placed). covers p k) placed ≡ false
   pub known : (labels : Labels) → find (is_unknown labels) placed ≡ None
   pub no_entry : last_entry placed ≡ None
-  pub writes : (labels : Labels) → Writes labels placed chunks
+  pub writes : (labels : Labels) → StatementsWrite labels placed chunks
   pub ends : chunks_end chunks ≡ end
   pub each : (k : ℕ) → k < end → byte_over 0 chunks k ≡ get_or bytes k 0
 
@@ -64,12 +64,12 @@ own_end : (place : ℕ) (own : List ℕ) → length own ≡ 4 → chunk_end (chu
 own_end place own size = grind (arith, nat_tests)
 
 -- they hold no place before
-holds-not : (place k : ℕ) (own : List ℕ) → k < place → holds (chunk_at place own) k ≡ false
+holds-not : (place k : ℕ) (own : List ℕ) → k < place → piece_covers (chunk_at place own) k ≡ false
 holds-not place k own before = grind (arith, nat_tests)
 
 -- and each of its places
 holds-own : (place k : ℕ) (own : List ℕ) → length own ≡ 4 → place ≤ k → k < place + 4
-    → holds (chunk_at place own) k ≡ true
+    → piece_covers (chunk_at place own) k ≡ true
 holds-own place k own size from below = grind (arith, nat_tests)
 
 -- what stands at a place before, or at one of its own
@@ -98,12 +98,12 @@ pub stand-more : (bytes : List ℕ) (end : ℕ) (placed : List Placed) (chunks :
     → Stand bytes (end + 4) (placed ++ p ∷ []) (chunks ++ chunk_at p.place own ∷ [])
 stand-more bytes end placed chunks p own so at size long below is same = record {
   short = find-more is_too_long placed p so.short (fits p size (omega arith));
-  apart = fault-more line_of overlaps [] placed p so.apart
+  apart = fault-more statement_line overlaps [] placed p so.apart
       (overlaps_false placed p (λ k from before. so.free k (omega arith)));
   free = λ k past. any-more (λ (q : Placed). covers q k) placed p (so.free k (omega arith))
       (covers-not p k size (omega arith));
   known = λ labels. find-more (is_unknown labels) placed p (so.known labels) (is.known labels);
-  no_entry = find_last-more is_entry placed p so.no_entry is.no_entry;
+  no_entry = find_last-more is_entry_statement placed p so.no_entry is.no_entry;
   writes = λ labels. Writes-push labels placed p chunks own (so.writes labels) (is.gives labels);
   ends =
       let own_ends = own_end p.place own long in

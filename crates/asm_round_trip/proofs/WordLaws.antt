@@ -4,7 +4,7 @@ use Rattle.std.specs.Prelude.{codes}
 use Rattle.std.specs.Int.{w32, to_be_bytes}
 use Rattle.std.proofs.lemmas.Bool.{le-leb}
 use Rattle.mips_isa.proofs.Reading.{read-Word}
-use Rattle.mips_instruction.specs.Words.{Fits, read}
+use Rattle.mips_instruction.specs.Words.{Fits, instruction_of_word}
 use Rattle.mips_instruction.specs.declared.instruction.Ins.{Ins}
 use Rattle.mips_instruction.specs.declared.instruction.Ins.TheVariants.{Jalr}
 use Rattle.mips_forms.proofs.FormTable.{kinds_of_forms, operands_fit}
@@ -14,7 +14,7 @@ use Rattle.mips_forms.specs.declared.operand.Operand.TheVariants as operand
 use Rattle.asm_tokens.specs.declared.token.TokenKind.TheVariants as kinds
 use Rattle.mips_forms.specs.Forms.{form_of}
 use Rattle.asm_tokens.specs.Lexemes.{IsName}
-use Rattle.mips_text.specs.Texts.{address_text, operand_text, operands_text, read_text, text_of}
+use Rattle.mips_text.specs.Texts.{address_text, instruction_text, operand_text, operands_text, read_text}
 use Rattle.asm_source.specs.declared.argument.Argument.{Argument}
 use Rattle.asm_source.specs.declared.argument.Argument.TheVariants as argument
 use Rattle.asm_source.specs.declared.argument.Value.TheVariants as values
@@ -24,9 +24,9 @@ use Rattle.asm_syntax.specs.declared.lexeme.Lexeme.{Lexeme}
 use Rattle.asm_syntax.specs.declared.lexeme.Lexeme.TheVariants.{Name, Number}
 use Rattle.asm_syntax.specs.Arguments.{argument_of, arguments_of}
 use Rattle.xom_base.specs.Options.{◌>>=◌}
-use Rattle.asm_syntax.specs.Lines.{coded_of, instruction_of, jalr_of, last_of, line_parts, mnemonic_of, part, parts_of, statement_of, word_of as words_of}
+use Rattle.asm_syntax.specs.Lines.{coded_statement, instruction_statement, jalr_statement, line_parts, mnemonic_statement, part_of_line, parts_of_line, statement_of, statement_parts, word_statement as words_of}
 use Rattle.asm_round_trip.proofs.PrintedLaws.{printed_is_assembled}
-use Rattle.mips_asm.specs.Encoding.{Gives, join_some, word_value}
+use Rattle.mips_asm.specs.Encoding.{StatementGives, join_some, word_value}
 use Rattle.mips_asm.specs.Passes.{Labels}
 use Rattle.asm_round_trip.specs.Listed.{WordsAreReadAgain}
 use Rattle.asm_round_trip.proofs.Lexed.{Lexes, lexes_line, lexes_none, lexes_space, lexes_token}
@@ -42,8 +42,8 @@ mnemonic-name _ = (refl, refl)
 
 -- the text of an instruction, in lexemes
 lexes_text : (i : Ins) (pc : ℕ) → Fits i
-    → Lexes (text_of i pc) (Name (form_of i).0 ∷ all_lexed pc (form_of i).1)
-unfolding text_of
+    → Lexes (instruction_text i pc) (Name (form_of i).0 ∷ all_lexed pc (form_of i).1)
+unfolding instruction_text
 lexes_text i pc fits =
     let vs : List Operand = (form_of i).1 in
     lexes_token kinds.Name (form_of i).0 (operands_text (map (operand_text pc) vs))
@@ -52,8 +52,8 @@ lexes_text i pc fits =
 
 -- no label stands in front
 no_label : (number pc : ℕ) (name : List ℕ) (vs : List Operand)
-    → parts_of number (Name name ∷ all_lexed pc vs) ≡ last_of number (Name name ∷ all_lexed pc vs)
-unfolding parts_of
+    → parts_of_line number (Name name ∷ all_lexed pc vs) ≡ statement_parts number (Name name ∷ all_lexed pc vs)
+unfolding parts_of_line
 no_label number pc name [] = refl
 no_label number pc name (operand.Register r ∷ []) = refl
 no_label number pc name (_ ∷ []) = refl
@@ -66,16 +66,16 @@ shown_of pc i = map (shown pc) (form_of i).1
 
 -- a mnemonic is no directive and no short form
 mnemonic-plain : (pc : ℕ) (i : Ins)
-    → statement_of (form_of i).0 (shown_of pc i) ≡ instruction_of (form_of i).0 (shown_of pc i)
-unfolding statement_of mnemonic_of jalr_of coded_of
+    → statement_of (form_of i).0 (shown_of pc i) ≡ instruction_statement (form_of i).0 (shown_of pc i)
+unfolding statement_of mnemonic_statement jalr_statement coded_statement
 mnemonic-plain pc (Jalr rd rs) = refl
 mnemonic-plain pc _ = refl
 
 -- so the statement is the instruction
 instruction-shown : (pc : ℕ) (i : Ins)
-    → instruction_of (form_of i).0 (shown_of pc i) ≡ Some (Instruction (form_of i).0
+    → instruction_statement (form_of i).0 (shown_of pc i) ≡ Some (Instruction (form_of i).0
     (shown_of pc i))
-unfolding instruction_of
+unfolding instruction_statement
 instruction-shown pc i = rw (kinds_of_forms i, may_be_all-shown pc (form_of i).1) refl
 
 -- a name and operands that give arguments and a statement
@@ -83,24 +83,24 @@ statement-last : (number : ℕ) (name : List ℕ) (operands : List Lexeme) (argu
     (content : Content)
     → arguments_of operands ≡ Some arguments
     → statement_of name arguments ≡ Some content
-    → last_of number (Name name ∷ operands) ≡ Some (part number content ∷ [])
-unfolding last_of
+    → statement_parts number (Name name ∷ operands) ≡ Some (part_of_line number content ∷ [])
+unfolding statement_parts
 statement-last number name operands arguments content are is = rw (are, is) refl
 
 -- a line by its lexemes
 line_parts-by : (number : ℕ) (line : List ℕ) (lexemes : List Lexeme) → Lexes line lexemes
-    → line_parts number line ≡ parts_of number lexemes
+    → line_parts number line ≡ parts_of_line number lexemes
 unfolding line_parts
 line_parts-by number line lexemes is =
-    ap (λ (o : Option (List Lexeme)). o >>= parts_of number) (lexes_line line lexemes is)
+    ap (λ (o : Option (List Lexeme)). o >>= parts_of_line number) (lexes_line line lexemes is)
 
 -- the text of an instruction is a line with that instruction
 text-read : (number pc : ℕ) (i : Ins) → Fits i
-    → line_parts number (text_of i pc) ≡ Some (part number
+    → line_parts number (instruction_text i pc) ≡ Some (part_of_line number
     (Instruction (form_of i).0 (shown_of pc i)) ∷ [])
 text-read number pc i fits =
     let vs : List Operand = (form_of i).1 in
-    line_parts-by number (text_of i pc) (Name (form_of i).0 ∷ all_lexed pc vs)
+    line_parts-by number (instruction_text i pc) (Name (form_of i).0 ∷ all_lexed pc vs)
     (lexes_text i pc fits)
     ∙ no_label number pc (form_of i).0 vs
     ∙ statement-last number (form_of i).0 (all_lexed pc vs) (shown_of pc i)
@@ -140,14 +140,14 @@ statement-word n = refl
 
 -- no label stands in front
 no_label-word : (number : ℕ) (n : Integer)
-    → parts_of number (Name (codes ".word") ∷ Number n ∷ []) ≡ last_of number (Name (codes ".word")
+    → parts_of_line number (Name (codes ".word") ∷ Number n ∷ []) ≡ statement_parts number (Name (codes ".word")
     ∷ Number n ∷ [])
-unfolding parts_of
+unfolding parts_of_line
 no_label-word number n = refl
 
 -- the text of a reserved word is a line with that directive
 reserved-read : (number word : ℕ) → word < 2 ^ 32
-    → line_parts number (codes ".word " ++ address_text word) ≡ Some (part number
+    → line_parts number (codes ".word " ++ address_text word) ≡ Some (part_of_line number
     (Words (values.Number (number_of word) ∷ [])) ∷ [])
 reserved-read number word fits =
     let n : Integer = number_of word in
@@ -178,19 +178,19 @@ reserved-joined labels word fits =
 -- a line that writes the word, by what was read of it
 abbrev IsReadAgain : Labels → (number pc word : ℕ) → Option Ins → Type 0
 IsReadAgain labels number pc word found =
-    (content : Content) × (line_parts number (read_text found word pc) ≡ Some (part number content
-    ∷ [])) × Gives labels pc content (to_be_bytes w32 word)
+    (content : Content) × (line_parts number (read_text found word pc) ≡ Some (part_of_line number content
+    ∷ [])) × StatementGives labels pc content (to_be_bytes w32 word)
 
 -- there is one, whatever was read
 read_again : (labels : Labels) (number pc word : ℕ) → pc % 4 ≡ 0 → pc + 4 < 2 ^ 32 → word < 2 ^ 32
-    → (found : Option Ins) → read word ≡ found → IsReadAgain labels number pc word found
+    → (found : Option Ins) → instruction_of_word word ≡ found → IsReadAgain labels number pc word found
 read_again labels number pc word even below fits (Some i) is =
     let w = read-Word i word is in
     let gives = printed_is_assembled labels pc i (shown_of pc i) even below w.fits
     (all_shown pc (form_of i).1) in (
       Instruction (form_of i).0 (shown_of pc i),
       text-read number pc i w.fits,
-      subst (λ (n : ℕ). Gives labels pc (Instruction (form_of i).0 (shown_of pc i))
+      subst (λ (n : ℕ). StatementGives labels pc (Instruction (form_of i).0 (shown_of pc i))
           (to_be_bytes w32 n)) (sym w.word) gives,
     )
 read_again labels number pc word even below fits None is = (
@@ -202,4 +202,4 @@ read_again labels number pc word even below fits None is = (
 -- so the text of each word is a line that writes it
 pub words_read_again : WordsAreReadAgain
 words_read_again labels number pc word even below fits =
-    read_again labels number pc word even below fits (read word) refl
+    read_again labels number pc word even below fits (instruction_of_word word) refl

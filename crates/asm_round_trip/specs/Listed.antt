@@ -2,10 +2,10 @@
 use Rattle.std.specs.Prelude.{◌≡◌, ℕ, zero, suc, ◌+◌, ◌*◌, ◌/◌, ◌%◌, ◌^◌, ◌<◌, ◌≤◌, List, [], ◌∷◌, ◌++◌, All, Some, length, replicate}
 use Rattle.std.specs.Int.{w32, to_be_bytes}
 use Rattle.xom_base.specs.declared.image.PlainImage.{PlainImage}
-use Rattle.mips_text.specs.Texts.{word_at, word_text}
+use Rattle.mips_text.specs.Texts.{image_word_at, word_text}
 use Rattle.asm_source.specs.declared.content.Content.{Content}
-use Rattle.asm_syntax.specs.Lines.{line_parts, part}
-use Rattle.mips_asm.specs.Encoding.{Gives}
+use Rattle.asm_syntax.specs.Lines.{line_parts, part_of_line}
+use Rattle.mips_asm.specs.Encoding.{StatementGives}
 use Rattle.mips_asm.specs.Layout.{padding}
 use Rattle.mips_asm.specs.Passes.{Labels}
 use Rattle.mips_asm.specs.Sources.{IsImageOf}
@@ -15,13 +15,13 @@ use Rattle.mips_asm.specs.Sources.{IsImageOf}
 abbrev pub WordsAreReadAgain : Type 0
 WordsAreReadAgain =
     (labels : Labels) (number pc word : ℕ) → pc % 4 ≡ 0 → pc + 4 < 2 ^ 32 → word < 2 ^ 32
-    → (content : Content) × (line_parts number (word_text word pc) ≡ Some (part number content
-    ∷ [])) × Gives labels pc content (to_be_bytes w32 word)
+    → (content : Content) × (line_parts number (word_text word pc) ≡ Some (part_of_line number content
+    ∷ [])) × StatementGives labels pc content (to_be_bytes w32 word)
 
 -- the texts of so many words of an image, from its start, each as a line of its own
 abbrev pub texts_of : List ℕ → ℕ → List ℕ
 texts_of bytes zero = []
-texts_of bytes (suc n) = texts_of bytes n ++ (word_text (word_at bytes (4 * n)) (4 * n) ++ 10 ∷ [])
+texts_of bytes (suc n) = texts_of bytes n ++ (word_text (image_word_at bytes (4 * n)) (4 * n) ++ 10 ∷ [])
 
 -- zeros behind, up to a whole word
 abbrev pub whole_words : List ℕ → List ℕ

@@ -9,7 +9,7 @@ use Rattle.asm_source.specs.declared.content.Part.{Part}
 use Rattle.asm_syntax.specs.declared.lexeme.Lexeme.{Lexeme}
 use Rattle.asm_syntax.specs.declared.lexeme.Lexeme.TheVariants as lexeme
 use Rattle.asm_syntax.specs.Forms.{Adds}
-use Rattle.asm_syntax.specs.Lines.{part, parts_of}
+use Rattle.asm_syntax.specs.Lines.{part_of_line, parts_of_line}
 
 -- one part in front, behind those before it
 in_front : (before : List Part) (p : Part) (o : Option (List Part))
@@ -22,12 +22,12 @@ in_front before p (Some more) =
 -- a label in front is added first
 pub parts_of_label : (n : ℕ) (before : List Part) (label : List ℕ) (rest : List Lexeme)
     → option_map (λ (more : List Part). before ++ more)
-    (parts_of n (lexeme.Name label ∷ lexeme.Colon ∷ rest)) ≡ option_map
-    (λ (more : List Part). (before ++ part n (content.Label label) ∷ []) ++ more)
-    (parts_of n rest)
-unfolding parts_of
+    (parts_of_line n (lexeme.Name label ∷ lexeme.Colon ∷ rest)) ≡ option_map
+    (λ (more : List Part). (before ++ part_of_line n (content.Label label) ∷ []) ++ more)
+    (parts_of_line n rest)
+unfolding parts_of_line
 parts_of_label n before label rest =
-    in_front before (part n (content.Label label)) (parts_of n rest)
+    in_front before (part_of_line n (content.Label label)) (parts_of_line n rest)
 
 -- what has no value in front of others has none
 nothing_mapped : {A B : Type 0} (f : A → B) (o : Option A) → option_map f o ≡ None → o ≡ None

@@ -20,10 +20,10 @@ abbrev pub zero_argument : Argument
 zero_argument = argument.Value («value».Number zero_integer)
 
 -- a number, or the name of a label
-abbrev pub value_of : Lexeme → Option Value
-value_of (Number n) = Some («value».Number n)
-value_of (Name label) = Some («value».Label label)
-value_of _ = None
+abbrev pub value_of_lexeme : Lexeme → Option Value
+value_of_lexeme (Number n) = Some («value».Number n)
+value_of_lexeme (Name label) = Some («value».Label label)
+value_of_lexeme _ = None
 
 -- an operand of one lexeme: a register, a number, a label or a quoted text
 abbrev pub single_of : Lexeme → Option Argument
@@ -41,7 +41,7 @@ based_of _ _ _ = None
 -- an offset in front of its register
 abbrev pub offset_of : Lexeme → Option ℕ → Option Argument
 offset_of offset register = do
-  offset ← value_of offset
+  offset ← value_of_lexeme offset
   r ← register
   Some (argument.Offset offset r)
 

@@ -13,17 +13,17 @@ map_some f (x ∷ xs) = do
   Some (y ∷ ys)
 
 -- the form has no value; want of memory comes freely
-abbrev pub Refuses : {A : Type 0} → Option A → LineFault → Type 0
-Refuses form Bad = form ≡ None
-Refuses form NoMemory = Unit {0}
+abbrev pub FormRefuses : {A : Type 0} → Option A → LineFault → Type 0
+FormRefuses form Bad = form ≡ None
+FormRefuses form NoMemory = Unit {0}
 
 -- what was answered is the value of the form, or its absence, unless memory ran out
-abbrev pub Answers : {A : Type 0} → Option A → Result A LineFault → Type 0
-Answers form (Ok value) = form ≡ Some value
-Answers form (Err fault) = Refuses form fault
+abbrev pub FormAnswers : {A : Type 0} → Option A → Result A LineFault → Type 0
+FormAnswers form (Ok value) = form ≡ Some value
+FormAnswers form (Err fault) = FormRefuses form fault
 
 -- What the form has was added at the end of a list. Where it was refused, nothing is said of the
 -- list.
 abbrev pub Adds : {A B : Type 0} → Option (List A) → List A → Result B LineFault → List A → Type 0
 Adds {A} form old (Ok done) new = (more : List A) × (form ≡ Some more) × (new ≡ old ++ more)
-Adds form old (Err fault) new = Refuses form fault
+Adds form old (Err fault) new = FormRefuses form fault

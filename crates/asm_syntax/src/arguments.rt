@@ -1,7 +1,7 @@
 ghost use Rattle.std.specs.Prelude.{◌≡◌, IfOk, map};
 ghost use Rattle.std.specs.List.{slice_split};
-ghost use Rattle.asm_syntax.specs.Arguments.{argument_of, arguments_of, based_of, is_comma, offset_of, single_of, value_of};
-ghost use Rattle.asm_syntax.specs.Forms.{Answers, map_some};
+ghost use Rattle.asm_syntax.specs.Arguments.{argument_of, arguments_of, based_of, is_comma, offset_of, single_of, value_of_lexeme};
+ghost use Rattle.asm_syntax.specs.Forms.{FormAnswers, map_some};
 
 use crate::copies::copy_bytes;
 use crate::lexeme::Lexeme;
@@ -19,7 +19,7 @@ pub const ZERO: Integer = Integer {
 /// All operands of a statement: the parts between commas.
 #[tactic(auto, using(crate::proofs::FormLaws::map_some_map), unfolding(crate::specs::Arguments::arguments_of))]
 pub fn arguments(alloc: Global, lexemes: &[Lexeme]) -> Result<List<Argument>, LineFault>
-    ensures { Answers (arguments_of lexemes.now) result }
+    ensures { FormAnswers (arguments_of lexemes.now) result }
 {
     if lexemes.is_empty() {
         return Ok(List::new(alloc));
@@ -42,7 +42,7 @@ fn between_commas(alloc: Global, lexemes: &[Lexeme]) -> Result<Vec<&[Lexeme]>, N
 /// The operand of each part.
 #[tactic(auto, using(crate::proofs::FormLaws::map_some_more, crate::proofs::FormLaws::map_some_stops))]
 fn each_argument(alloc: Global, parts: &[&[Lexeme]]) -> Result<List<Argument>, LineFault>
-    ensures { Answers (map_some (λ part. argument_of part.now) parts.now) result }
+    ensures { FormAnswers (map_some (λ part. argument_of part.now) parts.now) result }
 {
     let mut arguments = List::new(alloc);
     for part in parts {
@@ -55,7 +55,7 @@ fn each_argument(alloc: Global, parts: &[&[Lexeme]]) -> Result<List<Argument>, L
 /// One operand.
 #[tactic(auto, unfolding(crate::specs::Arguments::argument_of))]
 fn argument(alloc: Global, part: &[Lexeme]) -> Result<Argument, LineFault>
-    ensures { Answers (argument_of part.now) result }
+    ensures { FormAnswers (argument_of part.now) result }
 {
     match part {
         [one] => single(alloc, one),
@@ -70,7 +70,7 @@ fn argument(alloc: Global, part: &[Lexeme]) -> Result<Argument, LineFault>
 
 /// An operand of one lexeme.
 fn single(alloc: Global, lexeme: &Lexeme) -> Result<Argument, LineFault>
-    ensures { Answers (single_of lexeme.now) result }
+    ensures { FormAnswers (single_of lexeme.now) result }
 {
     match lexeme {
         Lexeme::Register(register) => Ok(Argument::Register(*register)),
@@ -89,7 +89,7 @@ fn single(alloc: Global, lexeme: &Lexeme) -> Result<Argument, LineFault>
 
 /// An offset in front of its register.
 fn offset_from(alloc: Global, offset: &Lexeme, base: Option<u8>) -> Result<Argument, LineFault>
-    ensures { Answers (offset_of offset.now base) result }
+    ensures { FormAnswers (offset_of offset.now base) result }
 {
     let offset = value(alloc, offset)?;
     let base = base.ok_or(LineFault::Bad)?;
@@ -98,7 +98,7 @@ fn offset_from(alloc: Global, offset: &Lexeme, base: Option<u8>) -> Result<Argum
 
 /// A number, or the name of a label.
 fn value(alloc: Global, lexeme: &Lexeme) -> Result<Value, LineFault>
-    ensures { Answers (value_of lexeme.now) result }
+    ensures { FormAnswers (value_of_lexeme lexeme.now) result }
 {
     match lexeme {
         Lexeme::Number(number) => Ok(Value::Number(*number)),

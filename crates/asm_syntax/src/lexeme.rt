@@ -1,6 +1,6 @@
 ghost use Rattle.std.specs.Prelude.{◌≡◌, [], All, IfOk};
 ghost use Rattle.asm_tokens.specs.Tokens.{IsTokenOf};
-ghost use Rattle.asm_syntax.specs.Forms.{Answers, map_some};
+ghost use Rattle.asm_syntax.specs.Forms.{FormAnswers, map_some};
 ghost use Rattle.asm_syntax.specs.Lexing.{lexeme_at, lexeme_of, lexemes_of};
 
 use crate::copies::copy_bytes;
@@ -32,7 +32,7 @@ pub enum Lexeme {
 /// The lexemes of a line. Bad is for a byte that begins no token. It costs time linear in the line.
 #[tactic(auto, unfolding(crate::specs::Lexing::lexemes_of))]
 pub fn lexemes(alloc: Global, line: &[u8]) -> Result<List<Lexeme>, LineFault>
-    ensures { Answers (lexemes_of line.now) result }
+    ensures { FormAnswers (lexemes_of line.now) result }
 {
     let tokens = match tokens(alloc, line) {
         Ok(tokens) => tokens,
@@ -46,7 +46,7 @@ pub fn lexemes(alloc: Global, line: &[u8]) -> Result<List<Lexeme>, LineFault>
 #[tactic(auto, using(crate::proofs::FormLaws::map_some_more, crate::proofs::FormLaws::map_some_stops))]
 fn lexemes_in(alloc: Global, line: &[u8], tokens: &[Token]) -> Result<List<Lexeme>, LineFault>
     requires { All (IsTokenOf line.now) tokens.now }
-    ensures { Answers (map_some (lexeme_at line.now) tokens.now) result }
+    ensures { FormAnswers (map_some (lexeme_at line.now) tokens.now) result }
 {
     let mut lexemes = room(alloc, tokens.len())?;
     for token in tokens {
@@ -66,7 +66,7 @@ fn room(alloc: Global, count: usize) -> Result<List<Lexeme>, NoMemory>
 
 /// The lexeme of a token of this kind with this text.
 fn make_lexeme(alloc: Global, kind: TokenKind, text: &[u8]) -> Result<Lexeme, LineFault>
-    ensures { Answers (lexeme_of kind text.now) result }
+    ensures { FormAnswers (lexeme_of kind text.now) result }
 {
     match kind {
         TokenKind::Name => Ok(Lexeme::Name(copy_bytes(alloc, text)?)),

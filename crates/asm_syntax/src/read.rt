@@ -1,8 +1,8 @@
 ghost use Rattle.std.specs.Prelude.{◌≡◌, ◌∷◌, ℕ, Ok, MatchOption, MatchResult};
-ghost use Rattle.xom_base.specs.Lines.{Faults};
+ghost use Rattle.xom_base.specs.Lines.{TextFaults};
 ghost use Rattle.asm_syntax.specs.declared.lexeme.Lexeme.TheVariants as lexeme;
 ghost use Rattle.asm_syntax.specs.Forms.{Adds};
-ghost use Rattle.asm_syntax.specs.Lines.{last_of, parts_of, source_of};
+ghost use Rattle.asm_syntax.specs.Lines.{parts_of_line, source_of, statement_parts};
 
 use crate::arguments::arguments;
 use crate::copies::copy_bytes;
@@ -17,7 +17,7 @@ use xom_base::{LineFault, LineFormat, List, TextFault, read_lines};
 /// the grammar. It costs time linear in the text.
 #[tactic(auto, unfolding(crate::specs::Lines::source_of))]
 pub fn read_source(alloc: Global, text: &[u8]) -> Result<List<Part>, TextFault>
-    ensures { MatchResult result (λ parts. source_of text.now ≡ Ok parts) (λ fault. Faults (source_of text.now) fault) }
+    ensures { MatchResult result (λ parts. source_of text.now ≡ Ok parts) (λ fault. TextFaults (source_of text.now) fault) }
 {
     let mut source = Source {
         parts: List::new(alloc),
@@ -71,7 +71,7 @@ fn add_line(
     lexemes: &[Lexeme],
     parts: &mut List<Part>,
 ) -> Result<(), LineFault>
-    ensures { Adds (parts_of number lexemes.now) parts.old result parts.new }
+    ensures { Adds (parts_of_line number lexemes.now) parts.old result parts.new }
 {
     let mut rest = lexemes;
     while let Some((label, more)) = first_label(rest) {
@@ -86,9 +86,9 @@ fn add_line(
 }
 
 /// The label in front of a line, and what stands behind its colon.
-#[tactic(auto, unfolding(crate::specs::Lines::parts_of))]
+#[tactic(auto, unfolding(crate::specs::Lines::parts_of_line))]
 fn first_label(lexemes: &[Lexeme]) -> Option<(&[u8], &[Lexeme])>
-    ensures { MatchOption result ((n : ℕ) → parts_of n lexemes.now ≡ last_of n lexemes.now) (λ found. lexemes.now ≡ lexeme.Name found.0.now ∷ lexeme.Colon ∷ found.1.now) }
+    ensures { MatchOption result ((n : ℕ) → parts_of_line n lexemes.now ≡ statement_parts n lexemes.now) (λ found. lexemes.now ≡ lexeme.Name found.0.now ∷ lexeme.Colon ∷ found.1.now) }
 {
     let [first, second, rest @ ..] = lexemes else {
         return None;
@@ -100,14 +100,14 @@ fn first_label(lexemes: &[Lexeme]) -> Option<(&[u8], &[Lexeme])>
 }
 
 /// Adds the statement behind the labels, if there is one.
-#[tactic(auto, unfolding(crate::specs::Lines::last_of))]
+#[tactic(auto, unfolding(crate::specs::Lines::statement_parts))]
 fn add_last(
     alloc: Global,
     number: u64,
     lexemes: &[Lexeme],
     parts: &mut List<Part>,
 ) -> Result<(), LineFault>
-    ensures { Adds (last_of number lexemes.now) parts.old result parts.new }
+    ensures { Adds (statement_parts number lexemes.now) parts.old result parts.new }
 {
     let [first, operands @ ..] = lexemes else {
         return Ok(());

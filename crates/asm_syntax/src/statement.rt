@@ -1,7 +1,7 @@
 ghost use Rattle.std.specs.Prelude.{◌≡◌, [], ◌∷◌, IfOk};
 ghost use Rattle.asm_source.specs.declared.content.Content.TheVariants as content;
-ghost use Rattle.asm_syntax.specs.Forms.{Answers, map_some};
-ghost use Rattle.asm_syntax.specs.Lines.{align_of, ascii_of, b_of, byte_of, coded_of, entry_of, instruction_of, jalr_of, la_of, label_in, li_of, may_be, may_be_all, mnemonic_of, move_of, nop_of, number_in, org_of, register_in, size_in, space_of, statement_of, value_in, word_of};
+ghost use Rattle.asm_syntax.specs.Forms.{FormAnswers, map_some};
+ghost use Rattle.asm_syntax.specs.Lines.{align_statement, ascii_statement, b_statement, byte_statement, coded_statement, entry_statement, instruction_statement, jalr_statement, la_statement, label_of_argument, li_statement, may_be, may_be_all, mnemonic_statement, move_statement, nop_statement, number_of_argument, org_statement, register_of_argument, size_in, space_statement, statement_of, value_of_argument, word_statement};
 
 use crate::arguments::ZERO;
 use crate::copies::{copy_bytes, copy_value};
@@ -18,7 +18,7 @@ pub fn statement(
     name: &[u8],
     arguments: List<Argument>,
 ) -> Result<Content, LineFault>
-    ensures { Answers (statement_of name.now arguments) result }
+    ensures { FormAnswers (statement_of name.now arguments) result }
 {
     if same_text(name, b".word") {
         word(alloc, arguments.as_slice())
@@ -40,9 +40,9 @@ pub fn statement(
 }
 
 /// A statement that makes instructions.
-#[tactic(auto, unfolding(crate::specs::Lines::mnemonic_of))]
+#[tactic(auto, unfolding(crate::specs::Lines::mnemonic_statement))]
 fn mnemonic(alloc: Global, name: &[u8], arguments: List<Argument>) -> Result<Content, LineFault>
-    ensures { Answers (mnemonic_of name.now arguments) result }
+    ensures { FormAnswers (mnemonic_statement name.now arguments) result }
 {
     if same_text(name, b"li") {
         load_number(arguments.as_slice()).ok_or(LineFault::Bad)
@@ -64,9 +64,9 @@ fn mnemonic(alloc: Global, name: &[u8], arguments: List<Argument>) -> Result<Con
 }
 
 /// `.word v, v`
-#[tactic(auto, unfolding(crate::specs::Lines::word_of))]
+#[tactic(auto, unfolding(crate::specs::Lines::word_statement))]
 fn word(alloc: Global, arguments: &[Argument]) -> Result<Content, LineFault>
-    ensures { Answers (word_of arguments.now) result }
+    ensures { FormAnswers (word_statement arguments.now) result }
 {
     if arguments.is_empty() {
         return Err(LineFault::Bad);
@@ -76,7 +76,7 @@ fn word(alloc: Global, arguments: &[Argument]) -> Result<Content, LineFault>
 
 #[tactic(auto, using(crate::proofs::FormLaws::map_some_more, crate::proofs::FormLaws::map_some_stops))]
 fn values(alloc: Global, arguments: &[Argument]) -> Result<List<Value>, LineFault>
-    ensures { Answers (map_some value_in arguments.now) result }
+    ensures { FormAnswers (map_some value_of_argument arguments.now) result }
 {
     let mut values = List::new(alloc);
     for argument in arguments {
@@ -87,9 +87,9 @@ fn values(alloc: Global, arguments: &[Argument]) -> Result<List<Value>, LineFaul
 }
 
 /// `.byte n, n`
-#[tactic(auto, unfolding(crate::specs::Lines::byte_of))]
+#[tactic(auto, unfolding(crate::specs::Lines::byte_statement))]
 fn byte(alloc: Global, arguments: &[Argument]) -> Result<Content, LineFault>
-    ensures { Answers (byte_of arguments.now) result }
+    ensures { FormAnswers (byte_statement arguments.now) result }
 {
     if arguments.is_empty() {
         return Err(LineFault::Bad);
@@ -99,7 +99,7 @@ fn byte(alloc: Global, arguments: &[Argument]) -> Result<Content, LineFault>
 
 #[tactic(auto, using(crate::proofs::FormLaws::map_some_more, crate::proofs::FormLaws::map_some_stops))]
 fn numbers(alloc: Global, arguments: &[Argument]) -> Result<List<Integer>, LineFault>
-    ensures { Answers (map_some number_in arguments.now) result }
+    ensures { FormAnswers (map_some number_of_argument arguments.now) result }
 {
     let mut numbers = List::new(alloc);
     for argument in arguments {
@@ -110,9 +110,9 @@ fn numbers(alloc: Global, arguments: &[Argument]) -> Result<List<Integer>, LineF
 }
 
 /// `.ascii "text"`
-#[tactic(auto, unfolding(crate::specs::Lines::ascii_of))]
+#[tactic(auto, unfolding(crate::specs::Lines::ascii_statement))]
 fn ascii(alloc: Global, arguments: &[Argument]) -> Result<Content, LineFault>
-    ensures { Answers (ascii_of arguments.now) result }
+    ensures { FormAnswers (ascii_statement arguments.now) result }
 {
     match arguments {
         [Argument::Text(bytes)] => Ok(Content::Ascii(copy_bytes(alloc, bytes.as_slice())?)),
@@ -121,9 +121,9 @@ fn ascii(alloc: Global, arguments: &[Argument]) -> Result<Content, LineFault>
 }
 
 /// `.space n`
-#[tactic(auto, unfolding(crate::specs::Lines::space_of))]
+#[tactic(auto, unfolding(crate::specs::Lines::space_statement))]
 fn space(arguments: &[Argument]) -> Option<Content>
-    ensures { result ≡ space_of arguments.now }
+    ensures { result ≡ space_statement arguments.now }
 {
     match arguments {
         [size] => Some(Content::Space(size_in(size)?)),
@@ -132,9 +132,9 @@ fn space(arguments: &[Argument]) -> Option<Content>
 }
 
 /// `.align n`
-#[tactic(auto, unfolding(crate::specs::Lines::align_of))]
+#[tactic(auto, unfolding(crate::specs::Lines::align_statement))]
 fn align(arguments: &[Argument]) -> Option<Content>
-    ensures { result ≡ align_of arguments.now }
+    ensures { result ≡ align_statement arguments.now }
 {
     match arguments {
         [power] => Some(Content::Align(size_in(power)?)),
@@ -143,9 +143,9 @@ fn align(arguments: &[Argument]) -> Option<Content>
 }
 
 /// `.org n`
-#[tactic(auto, unfolding(crate::specs::Lines::org_of))]
+#[tactic(auto, unfolding(crate::specs::Lines::org_statement))]
 fn org(arguments: &[Argument]) -> Option<Content>
-    ensures { result ≡ org_of arguments.now }
+    ensures { result ≡ org_statement arguments.now }
 {
     match arguments {
         [place] => Some(Content::Org(size_in(place)?)),
@@ -154,9 +154,9 @@ fn org(arguments: &[Argument]) -> Option<Content>
 }
 
 /// `.entry v`
-#[tactic(auto, unfolding(crate::specs::Lines::entry_of))]
+#[tactic(auto, unfolding(crate::specs::Lines::entry_statement))]
 fn entry(alloc: Global, arguments: &[Argument]) -> Result<Content, LineFault>
-    ensures { Answers (entry_of arguments.now) result }
+    ensures { FormAnswers (entry_statement arguments.now) result }
 {
     match arguments {
         [value] => Ok(Content::Entry(value_in(alloc, value)?)),
@@ -165,9 +165,9 @@ fn entry(alloc: Global, arguments: &[Argument]) -> Result<Content, LineFault>
 }
 
 /// `li r, n`
-#[tactic(auto, unfolding(crate::specs::Lines::li_of))]
+#[tactic(auto, unfolding(crate::specs::Lines::li_statement))]
 fn load_number(arguments: &[Argument]) -> Option<Content>
-    ensures { result ≡ li_of arguments.now }
+    ensures { result ≡ li_statement arguments.now }
 {
     match arguments {
         [register, number] => {
@@ -179,9 +179,9 @@ fn load_number(arguments: &[Argument]) -> Option<Content>
 }
 
 /// `la r, label`
-#[tactic(auto, unfolding(crate::specs::Lines::la_of))]
+#[tactic(auto, unfolding(crate::specs::Lines::la_statement))]
 fn load_address(alloc: Global, arguments: &[Argument]) -> Result<Content, LineFault>
-    ensures { Answers (la_of arguments.now) result }
+    ensures { FormAnswers (la_statement arguments.now) result }
 {
     match arguments {
         [register, label] => {
@@ -193,9 +193,9 @@ fn load_address(alloc: Global, arguments: &[Argument]) -> Result<Content, LineFa
 }
 
 /// `move rd, rs`
-#[tactic(auto, unfolding(crate::specs::Lines::move_of))]
+#[tactic(auto, unfolding(crate::specs::Lines::move_statement))]
 fn move_register(alloc: Global, arguments: &[Argument]) -> Result<Content, LineFault>
-    ensures { Answers (move_of arguments.now) result }
+    ensures { FormAnswers (move_statement arguments.now) result }
 {
     match arguments {
         [rd, rs] => {
@@ -215,9 +215,9 @@ fn move_register(alloc: Global, arguments: &[Argument]) -> Result<Content, LineF
 }
 
 /// `nop`
-#[tactic(auto, unfolding(crate::specs::Lines::nop_of))]
+#[tactic(auto, unfolding(crate::specs::Lines::nop_statement))]
 fn nop(alloc: Global, arguments: &[Argument]) -> Result<Content, LineFault>
-    ensures { Answers (nop_of arguments.now) result }
+    ensures { FormAnswers (nop_statement arguments.now) result }
 {
     if !arguments.is_empty() {
         return Err(LineFault::Bad);
@@ -233,9 +233,9 @@ fn nop(alloc: Global, arguments: &[Argument]) -> Result<Content, LineFault>
 }
 
 /// `b target`
-#[tactic(auto, unfolding(crate::specs::Lines::b_of))]
+#[tactic(auto, unfolding(crate::specs::Lines::b_statement))]
 fn branch(alloc: Global, arguments: &[Argument]) -> Result<Content, LineFault>
-    ensures { Answers (b_of arguments.now) result }
+    ensures { FormAnswers (b_statement arguments.now) result }
 {
     match arguments {
         [target] => {
@@ -253,9 +253,9 @@ fn branch(alloc: Global, arguments: &[Argument]) -> Result<Content, LineFault>
 }
 
 /// `jalr rd, rs` or `jalr rs`
-#[tactic(auto, unfolding(crate::specs::Lines::jalr_of))]
+#[tactic(auto, unfolding(crate::specs::Lines::jalr_statement))]
 fn link(alloc: Global, arguments: List<Argument>) -> Result<Content, LineFault>
-    ensures { Answers (jalr_of arguments) result }
+    ensures { FormAnswers (jalr_statement arguments) result }
 {
     match arguments.as_slice() {
         [Argument::Register(rs)] => {
@@ -269,9 +269,9 @@ fn link(alloc: Global, arguments: List<Argument>) -> Result<Content, LineFault>
 }
 
 /// `syscall` and `break`, with a code or without
-#[tactic(auto, unfolding(crate::specs::Lines::coded_of))]
+#[tactic(auto, unfolding(crate::specs::Lines::coded_statement))]
 fn coded(alloc: Global, name: &[u8], arguments: List<Argument>) -> Result<Content, LineFault>
-    ensures { Answers (coded_of name.now arguments) result }
+    ensures { FormAnswers (coded_statement name.now arguments) result }
 {
     if arguments.as_slice().is_empty() {
         let mut full = List::new(alloc);
@@ -282,9 +282,9 @@ fn coded(alloc: Global, name: &[u8], arguments: List<Argument>) -> Result<Conten
 }
 
 /// An instruction with all its operands.
-#[tactic(auto, unfolding(crate::specs::Lines::instruction_of))]
+#[tactic(auto, unfolding(crate::specs::Lines::instruction_statement))]
 fn instruction(alloc: Global, name: &[u8], arguments: List<Argument>) -> Result<Content, LineFault>
-    ensures { Answers (instruction_of name.now arguments) result }
+    ensures { FormAnswers (instruction_statement name.now arguments) result }
 {
     let shape = kinds(name).ok_or(LineFault::Bad)?;
     if !may_be_all(shape, arguments.as_slice()) {
@@ -340,7 +340,7 @@ fn three(
 }
 
 fn register_in(argument: &Argument) -> Option<u8>
-    ensures { result ≡ register_in argument.now }
+    ensures { result ≡ register_of_argument argument.now }
 {
     match argument {
         Argument::Register(register) => Some(*register),
@@ -350,7 +350,7 @@ fn register_in(argument: &Argument) -> Option<u8>
 
 /// A number or a label.
 fn value_in(alloc: Global, argument: &Argument) -> Result<Value, LineFault>
-    ensures { Answers (value_in argument.now) result }
+    ensures { FormAnswers (value_of_argument argument.now) result }
 {
     match argument {
         Argument::Value(value) => Ok(copy_value(alloc, value)?),
@@ -359,7 +359,7 @@ fn value_in(alloc: Global, argument: &Argument) -> Result<Value, LineFault>
 }
 
 fn number_in(argument: &Argument) -> Option<Integer>
-    ensures { result ≡ number_in argument.now }
+    ensures { result ≡ number_of_argument argument.now }
 {
     match argument {
         Argument::Value(Value::Number(number)) => Some(*number),
@@ -368,7 +368,7 @@ fn number_in(argument: &Argument) -> Option<Integer>
 }
 
 fn label_in(alloc: Global, argument: &Argument) -> Result<ByteList, LineFault>
-    ensures { Answers (label_in argument.now) result }
+    ensures { FormAnswers (label_of_argument argument.now) result }
 {
     match argument {
         Argument::Value(Value::Label(name)) => Ok(copy_bytes(alloc, name.as_slice())?),

@@ -5,10 +5,10 @@ use Rattle.std.proofs.lemmas.Bool.{cases_Bool, eqb-true, true≢false}
 use Rattle.std.proofs.lemmas.Option.{none-some}
 use Rattle.xom_base.proofs.CutLaws.{option_map_some}
 use Rattle.xom_base.proofs.NumberLaws.{number_of-exact}
-use Rattle.xom_base.specs.Numbers.{IsNumber, number_of}
+use Rattle.xom_base.specs.Numbers.{IsNumber, number_of_word}
 use Rattle.asm_tokens.proofs.Heads.{first_same, rest_same}
 use Rattle.asm_tokens.specs.declared.integers.Integer.{Integer}
-use Rattle.asm_tokens.specs.Integers.{IsInteger, integer_of, signed}
+use Rattle.asm_tokens.specs.Integers.{IsInteger, integer_of, signed_integer}
 
 -- no number begins with `-`, and the empty text is none
 no_minus : (rest : List ℕ) (n : ℕ) → IsNumber (45 ∷ rest) n → ⊥
@@ -25,11 +25,11 @@ no_number n h = elim h [
 
 -- a whole number of this sign
 signed_exact : (negative : Bool) (word : List ℕ) (i : Integer)
-    → (option_map (signed negative) (number_of word) ≡ Some i) ↔ ((i.negative ≡ negative)
+    → (option_map (signed_integer negative) (number_of_word word) ≡ Some i) ↔ ((i.negative ≡ negative)
     × IsNumber word i.magnitude)
 signed_exact negative word i = (
   λ h.
-      let m = option_map_some (signed negative) (number_of word) i h in
+      let m = option_map_some (signed_integer negative) (number_of_word word) i h in
       let n : m.0 ≡ i.magnitude = cc (m.2) in
       (cc (m.2), (number_of-exact word i.magnitude).0 (m.1 ∙ ap Some n)),
   λ h. let s = (number_of-exact word i.magnitude).1 h.1 in rw (s, ← h.0) refl,

@@ -9,7 +9,7 @@ use Rattle.xom_base.specs.Words.{begins_comment, is_blank}
 use Rattle.asm_tokens.specs.declared.token.TokenKind.{TokenKind}
 use Rattle.asm_tokens.specs.declared.token.TokenKind.TheVariants.{Name, Number, Register, Text, Comma, Colon, Left, Right}
 use Rattle.asm_tokens.specs.Lexemes.{begins_name, is_name_byte}
-use Rattle.asm_tokens.specs.Tokens.{NoNameByte, kind_of}
+use Rattle.asm_tokens.specs.Tokens.{NoNameByte, kind_of_token}
 
 -- ---- first bytes
 
@@ -30,8 +30,8 @@ case : {A : Type 0} (P : A → Type 0) (b : Bool) (x : A) (rest : Option A) (y :
 case P true x rest y h here there = subst P (cc h) (here refl)
 case P false x rest y h here there = there h
 
-pub kind_of-begins : (byte : ℕ) (kind : TokenKind) → kind_of byte ≡ Some kind → Begins kind byte
-unfolding kind_of
+pub kind_of-begins : (byte : ℕ) (kind : TokenKind) → kind_of_token byte ≡ Some kind → Begins kind byte
+unfolding kind_of_token
 kind_of-begins byte kind h =
     let P : TokenKind → Type 0 = λ k. Begins k byte in
     case P (begins_name byte) Name _ kind h (λ b. b) (λ h.
@@ -48,8 +48,8 @@ kind_of-begins byte kind h =
 no_name : (byte : ℕ) → (is_ascii_digit byte || eqb byte 45) ≡ true → begins_name byte ≡ false
 no_name byte h = grind (arith, nat_tests)
 
-pub begins-kind_of : (kind : TokenKind) (byte : ℕ) → Begins kind byte → kind_of byte ≡ Some kind
-unfolding kind_of
+pub begins-kind_of : (kind : TokenKind) (byte : ℕ) → Begins kind byte → kind_of_token byte ≡ Some kind
+unfolding kind_of_token
 begins-kind_of Name byte h = rw h refl
 begins-kind_of Number byte h = rw (no_name byte h, h) refl
 begins-kind_of Register byte h = rw h refl
@@ -79,7 +79,7 @@ no_blank Colon byte h = rw h (refl, refl)
 no_blank Left byte h = rw h (refl, refl)
 no_blank Right byte h = rw h (refl, refl)
 
-pub kind_of-no_blank : (byte : ℕ) (kind : TokenKind) → kind_of byte ≡ Some kind
+pub kind_of-no_blank : (byte : ℕ) (kind : TokenKind) → kind_of_token byte ≡ Some kind
     → (is_blank byte ≡ false) × (begins_comment byte ≡ false)
 kind_of-no_blank byte kind h = no_blank kind byte (kind_of-begins byte kind h)
 

@@ -16,7 +16,7 @@ use Rattle.asm_tokens.specs.declared.token.Token.{Token}
 use Rattle.asm_tokens.specs.declared.token.TokenFault.{TokenFault}
 use Rattle.asm_tokens.specs.declared.token.TokenFault.TheVariants as fault
 use Rattle.asm_tokens.specs.declared.token.TokenKind.{TokenKind}
-use Rattle.asm_tokens.specs.Tokens.{Answers, AreTokens, BlankBetween, IsBadAt, IsTokenOf, StandBetween, go_on, is_over, token_at, token_of, tokens_from, tokens_of, with_tokens}
+use Rattle.asm_tokens.specs.Tokens.{AreTokens, BlankBetween, IsBadAt, IsTokenOf, StandBetween, TokensAnswers, nothing_follows, token_at, token_of, tokens_from, tokens_go_on, tokens_of, with_tokens}
 
 -- ---- places of a line
 
@@ -84,7 +84,7 @@ token_at_start line token is =
 
 -- where a token begins, no blank stands and the line isn't over
 token_front : (bytes : List ℕ) (kind : TokenKind) (size : ℕ) → token_of bytes ≡ Some (kind, size)
-    → NoBlank bytes × (is_over bytes ≡ false)
+    → NoBlank bytes × (nothing_follows bytes ≡ false)
 unfolding token_of
 token_front [] kind size h = absurd (none-some (kind, size) h)
 token_front (first ∷ rest) kind size h =
@@ -150,7 +150,7 @@ pub record BadHere (line : List ℕ) (bad : ℕ) : Type 0 where
 -- what an answer tells of a line from a place on
 abbrev pub Told : List ℕ → ℕ → Result (List Token) ℕ → Type 0
 Told line from (Ok tokens) =
-    (place : ℕ) × StandBetween line from tokens place × IsTrue (is_over (drop place line))
+    (place : ℕ) × StandBetween line from tokens place × IsTrue (nothing_follows (drop place line))
 Told line from (Err bad) =
     (before : List Token) × StandBetween line from before bad × BadHere line bad
 
@@ -177,7 +177,7 @@ told_go_on : (line : List ℕ) (at byte : ℕ) (bytes : List ℕ) → drop at li
     → ((left : ℕ) → left ≤ length bytes → Told line ((at + 1) + left)
     (tokens_from (at + 1) left bytes))
     → (found : Option (TokenKind × ℕ)) → token_of (byte ∷ bytes) ≡ found
-    → Told line at (go_on at found (λ left. tokens_from (at + 1) left bytes))
+    → Told line at (tokens_go_on at found (λ left. tokens_from (at + 1) left bytes))
 told_go_on line at byte bytes here no_blank no_comment more None h =
     let within = some_place line at byte bytes here in (
       [],
@@ -266,7 +266,7 @@ told_only line from (token ∷ tokens) to s =
     ∙ with_tokens-cons token tokens (tokens_from to 0 (drop to line))
 
 -- where a line is over, no blank stands
-over_no_blank : (bytes : List ℕ) → is_over bytes ≡ true → NoBlank bytes
+over_no_blank : (bytes : List ℕ) → nothing_follows bytes ≡ true → NoBlank bytes
 over_no_blank [] over = tt
 over_no_blank (byte ∷ bytes) over = let is : byte ≡ 35 = eqb-true byte 35 over in rw is refl
 
@@ -340,12 +340,12 @@ ok_err : {A E : Type 0} (x : A) (e : E) → Ok x ≡ Err e → ⊥
 ok_err x e h = absurd (cc h)
 
 pub answers_found : (line : List ℕ) (result : Result (List Token) TokenFault)
-    → Answers (tokens_of line) result → IfOk result (AreTokens line)
+    → TokensAnswers (tokens_of line) result → IfOk result (AreTokens line)
 answers_found line (Ok tokens) h = tokens_found line tokens h
 answers_found line (Err fault) h = tt
 
 pub answers_only : (line : List ℕ) (result : Result (List Token) TokenFault)
-    → Answers (tokens_of line) result
+    → TokensAnswers (tokens_of line) result
     → (tokens : List Token) → AreTokens line tokens → OrOut fault.NoMemory (Ok tokens) result
 answers_only line (Ok found) h tokens are =
     let same : found ≡ tokens = cc (sym h ∙ tokens_only line tokens are) in inl (ap Ok same)
@@ -354,7 +354,7 @@ answers_only line (Err (fault.Token bad)) h tokens are =
 answers_only line (Err fault.NoMemory) h tokens are = inr refl
 
 pub answers_bad : (line : List ℕ) (result : Result (List Token) TokenFault)
-    → Answers (tokens_of line) result
+    → TokensAnswers (tokens_of line) result
     → (bad : ℕ) → result ≡ Err (fault.Token bad) → IsBadAt line bad
 answers_bad line (Ok found) h bad is = absurd (ok_err found (fault.Token bad) is)
 answers_bad line (Err (fault.Token other)) h bad is =
@@ -362,7 +362,7 @@ answers_bad line (Err (fault.Token other)) h bad is =
 answers_bad line (Err fault.NoMemory) h bad is = absurd (cc is)
 
 pub answers_only_bad : (line : List ℕ) (result : Result (List Token) TokenFault)
-    → Answers (tokens_of line) result
+    → TokensAnswers (tokens_of line) result
     → (bad : ℕ) → IsBadAt line bad → OrOut fault.NoMemory (Err (fault.Token bad)) result
 answers_only_bad line (Ok found) h bad is = absurd (ok_err found bad (sym h ∙ bad_only line bad is))
 answers_only_bad line (Err (fault.Token other)) h bad is =
@@ -371,7 +371,7 @@ answers_only_bad line (Err (fault.Token other)) h bad is =
 answers_only_bad line (Err fault.NoMemory) h bad is = inr refl
 
 pub answers_slices : (line : List ℕ) (result : Result (List Token) TokenFault)
-    → Answers (tokens_of line) result → IfOk result (λ tokens. All (IsTokenOf line) tokens)
+    → TokensAnswers (tokens_of line) result → IfOk result (λ tokens. All (IsTokenOf line) tokens)
 answers_slices line (Ok tokens) h =
     let are = tokens_found line tokens h in stand_all line 0 tokens are.place are.stand
 answers_slices line (Err fault) h = tt

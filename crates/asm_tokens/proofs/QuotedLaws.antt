@@ -7,7 +7,7 @@ use Rattle.std.proofs.lemmas.Slice.Eq.{bytes_eq-Decides}
 use Rattle.std.specs.Str.{bytes_eq}
 use Rattle.xom_base.proofs.CutLaws.{option_map_none, option_map_some}
 use Rattle.asm_tokens.proofs.Heads.{first_same, rest_same}
-use Rattle.asm_tokens.specs.Lexemes.{IsEscape, WritesBytes, Quotes, after_quote, escape_of, escaped_first, if_whole, in_front, quoted_of, read_quoted, written_first}
+use Rattle.asm_tokens.specs.Lexemes.{IsEscape, Quotes, QuotesBytes, after_quote, escape_of, escaped_first, if_whole, in_front, quoted_of, read_quoted, written_first}
 
 -- ---- escapes
 
@@ -63,7 +63,7 @@ shown false body = body
 
 -- a byte that is written as itself
 wrote_itself : (byte : ℕ) (own bytes : List ℕ) → eqb byte 34 ≡ false → eqb byte 92 ≡ false
-    → WritesBytes own bytes → WritesBytes (byte ∷ own) (byte ∷ bytes)
+    → QuotesBytes own bytes → QuotesBytes (byte ∷ own) (byte ∷ bytes)
 wrote_itself byte own bytes plain itself w = (
   byte ∷ [],
   own,
@@ -79,7 +79,7 @@ wrote_itself byte own bytes plain itself w = (
 -- what is read is written so
 pub read_quoted-found : (escaped : Bool) (body bytes behind : List ℕ)
     → read_quoted escaped body ≡ Some (bytes, behind)
-    → (own : List ℕ) × (shown escaped body ≡ own ++ behind) × WritesBytes own bytes
+    → (own : List ℕ) × (shown escaped body ≡ own ++ behind) × QuotesBytes own bytes
 unfolding read_quoted
 read_quoted-found escaped [] bytes behind h = absurd (none-some (bytes, behind) h)
 read_quoted-found true (letter ∷ more) bytes behind h =
@@ -89,7 +89,7 @@ read_quoted-found true (letter ∷ more) bytes behind h =
     let w = read_quoted-found false more r.0 behind r.1 in (
       92 ∷ letter ∷ w.0,
       ap (λ m. 92 ∷ letter ∷ m) w.1,
-      subst (WritesBytes (92 ∷ letter ∷ w.0))
+      subst (QuotesBytes (92 ∷ letter ∷ w.0))
           (sym r.2) (
             92 ∷ letter ∷ [],
             w.0,
@@ -117,14 +117,14 @@ read_quoted-found false (byte ∷ more) bytes behind h =
             let w = read_quoted-found false more r.0 behind r.1 in (
               byte ∷ w.0,
               ap (λ m. byte ∷ m) w.1,
-              subst (WritesBytes (byte ∷ w.0)) (sym r.2)
+              subst (QuotesBytes (byte ∷ w.0)) (sym r.2)
                   (wrote_itself byte w.0 r.0 plain itself w.2),
             )
       ]
     ]
 
 -- what is written so is read
-pub read_quoted-only : (bytes own behind : List ℕ) → WritesBytes own bytes
+pub read_quoted-only : (bytes own behind : List ℕ) → QuotesBytes own bytes
     → read_quoted false (own ++ behind) ≡ Some (bytes, behind)
 unfolding read_quoted
 read_quoted-only [] own behind w = rw w refl
@@ -161,7 +161,7 @@ quoted_of-exact (first ∷ body) bytes = (
             (is ∙ ap Some (if_whole_some read bytes whole)) in (
               body,
               ap (λ b. b ∷ body) (eqb-true first 34 quote),
-              subst (λ (own : List ℕ). WritesBytes own bytes) (sym (append-nil found.0)
+              subst (λ (own : List ℕ). QuotesBytes own bytes) (sym (append-nil found.0)
                   ∙ sym found.1) found.2,
             ))
         | inr away ↦ absurd (none-some bytes (rw away at h))

@@ -20,9 +20,9 @@ use Rattle.asm_tokens.specs.declared.integers.Integer.{Integer}
 use Rattle.asm_tokens.specs.declared.token.TokenKind.{TokenKind}
 use Rattle.asm_tokens.specs.declared.token.TokenKind.TheVariants.{Name, Number, Register, Text, Comma, Colon, Left, Right}
 use Rattle.asm_tokens.specs.Integers.{IsInteger, integer_of}
-use Rattle.asm_tokens.specs.Lexemes.{IsName, WritesBytes, is_name_byte, read_quoted}
+use Rattle.asm_tokens.specs.Lexemes.{IsName, QuotesBytes, is_name_byte, read_quoted}
 use Rattle.asm_tokens.specs.Registers.{IsRegister, register_names, register_numbers, register_of}
-use Rattle.asm_tokens.specs.Tokens.{EndsBefore, IsTextOf, NoNameByte, kind_of, run_of, size_of, token_of}
+use Rattle.asm_tokens.specs.Tokens.{EndsBefore, IsTextOf, NoNameByte, kind_of_token, name_run_size, size_of_token, token_of}
 
 -- ---- from the function to the grammar
 
@@ -56,7 +56,7 @@ has_some None h = absurd (true≢false (sym h))
 has_some (Some x) h = (x, refl)
 
 -- a quoted text, up to its closing quote
-quoted_sized : (own behind bytes : List ℕ) → WritesBytes own bytes
+quoted_sized : (own behind bytes : List ℕ) → QuotesBytes own bytes
     → Sized Text (34 ∷ (own ++ behind)) (suc (length own))
 quoted_sized own behind bytes w = record {
   some = omega arith;
@@ -67,7 +67,7 @@ quoted_sized own behind bytes w = record {
 
 -- the same where the first byte and the rest are told by equations
 quoted_text : (first : ℕ) (rest : List ℕ) (size : ℕ) → first ≡ 34 → (own behind bytes : List ℕ)
-    → rest ≡ own ++ behind → WritesBytes own bytes
+    → rest ≡ own ++ behind → QuotesBytes own bytes
     → length (first ∷ rest) - length behind ≡ size → Sized Text (first ∷ rest) size
 quoted_text first rest size quote own behind bytes whole w e =
     let is : suc (length own) ≡ size = omega (arith, length-append own behind, ap length whole) in
@@ -81,8 +81,8 @@ sign kind first rest size byte is e text ends =
     rw (is, ← e) record { some = omega arith; within = omega arith; text = text; ends = ends rest }
 
 sized : (kind : TokenKind) (first : ℕ) (rest : List ℕ) (size : ℕ) → Begins kind first
-    → size_of kind (first ∷ rest) ≡ Some size → Sized kind (first ∷ rest) size
-unfolding size_of
+    → size_of_token kind (first ∷ rest) ≡ Some size → Sized kind (first ∷ rest) size
+unfolding size_of_token
 sized Name first rest size begins h =
     let e : 1 + prefix_len is_name_byte rest ≡ size = cc h in
     subst (Sized Name (first ∷ rest)) e (run_sized Name first rest (λ behind s. s)
@@ -117,21 +117,21 @@ pub token_found : (bytes : List ℕ) (kind : TokenKind) (size : ℕ)
 unfolding token_of
 token_found [] kind size h = absurd (none-some (kind, size) h)
 token_found (first ∷ rest) kind size h =
-    option_and_then_some (λ kind. option_map (λ size. (kind, size)) (size_of kind (first ∷ rest)))
-    (kind_of first) (kind, size) h (λ k is then.
-    let m = option_map_some (λ size. (k, size)) (size_of k (first ∷ rest)) (kind, size) then in
+    option_and_then_some (λ kind. option_map (λ size. (kind, size)) (size_of_token kind (first ∷ rest)))
+    (kind_of_token first) (kind, size) h (λ k is then.
+    let m = option_map_some (λ size. (k, size)) (size_of_token k (first ∷ rest)) (kind, size) then in
     let e = some_pair_parts k kind m.0 size m.2 in
     sized kind first rest size (kind_of-begins first kind (is ∙ ap Some e.0))
-    (ap (λ k. size_of k (first ∷ rest)) (sym e.0) ∙ m.1 ∙ ap Some e.1))
+    (ap (λ k. size_of_token k (first ∷ rest)) (sym e.0) ∙ m.1 ∙ ap Some e.1))
 
 -- the kind of a token is that of its first byte
 pub token_kind : (first : ℕ) (rest : List ℕ) (kind : TokenKind) (size : ℕ)
-    → token_of (first ∷ rest) ≡ Some (kind, size) → kind_of first ≡ Some kind
+    → token_of (first ∷ rest) ≡ Some (kind, size) → kind_of_token first ≡ Some kind
 unfolding token_of
 token_kind first rest kind size h =
-    option_and_then_some (λ kind. option_map (λ size. (kind, size)) (size_of kind (first ∷ rest)))
-    (kind_of first) (kind, size) h (λ k is then.
-    let m = option_map_some (λ size. (k, size)) (size_of k (first ∷ rest)) (kind, size) then in
+    option_and_then_some (λ kind. option_map (λ size. (kind, size)) (size_of_token kind (first ∷ rest)))
+    (kind_of_token first) (kind, size) h (λ k is then.
+    let m = option_map_some (λ size. (k, size)) (size_of_token k (first ∷ rest)) (kind, size) then in
     is ∙ ap Some (some_pair_parts k kind m.0 size m.2).0)
 
 -- ---- from the grammar to the function
@@ -261,34 +261,34 @@ register_shaped text r h =
 
 -- the token that the functions find
 token_by : (kind : TokenKind) (first : ℕ) (rest : List ℕ) (size : ℕ) → Begins kind first
-    → size_of kind (first ∷ rest) ≡ Some size → token_of (first ∷ rest) ≡ Some (kind, size)
+    → size_of_token kind (first ∷ rest) ≡ Some size → token_of (first ∷ rest) ≡ Some (kind, size)
 unfolding token_of
 token_by kind first rest size begins h = rw (begins-kind_of kind first begins, h) refl
 
 -- a text of that shape is as long as the name bytes go
 run_is : (first : ℕ) (rest behind : List ℕ) → list_all is_name_byte rest ≡ true → NoNameByte behind
-    → run_of (first ∷ (rest ++ behind)) ≡ suc (length rest)
+    → name_run_size (first ∷ (rest ++ behind)) ≡ suc (length rest)
 run_is first rest behind names ends =
     let n : prefix_len is_name_byte (rest ++ behind)
     ≡ length rest = run_whole rest behind names ends in rw n (omega arith)
 
 run_text : (first : ℕ) (rest behind : List ℕ) → list_all is_name_byte rest ≡ true
     → NoNameByte behind
-    → take (run_of (first ∷ (rest ++ behind))) (first ∷ (rest ++ behind)) ≡ first ∷ rest
+    → take (name_run_size (first ∷ (rest ++ behind))) (first ∷ (rest ++ behind)) ≡ first ∷ rest
 run_text first rest behind names ends =
     let n = run_is first rest behind names ends in
     rw n (ap (λ (m : List ℕ). first ∷ m) (take-append_seam rest behind))
 
 name_only : (text behind : List ℕ) → Shaped Name text → NoNameByte behind
     → token_of (text ++ behind) ≡ Some (Name, length text)
-unfolding size_of
+unfolding size_of_token
 name_only text behind s ends =
     rw (s.whole) (token_by Name s.first (s.rest ++ behind) (suc (length s.rest)) s.begins
     (ap Some (run_is s.first s.rest behind s.names ends)))
 
 number_only : (text behind : List ℕ) (i : Integer) → Shaped Number text → NoNameByte behind
     → integer_of text ≡ Some i → token_of (text ++ behind) ≡ Some (Number, length text)
-unfolding size_of
+unfolding size_of_token
 number_only text behind i s ends is =
     let here : integer_of (s.first ∷ s.rest) ≡ Some i = ap integer_of (sym s.whole) ∙ is in
     rw (s.whole) (token_by Number s.first (s.rest ++ behind) (suc (length s.rest)) s.begins
@@ -297,16 +297,16 @@ number_only text behind i s ends is =
 
 register_only : (text behind : List ℕ) (r : ℕ) → Shaped Register text → NoNameByte behind
     → register_of text ≡ Some r → token_of (text ++ behind) ≡ Some (Register, length text)
-unfolding size_of
+unfolding size_of_token
 register_only text behind r s ends is =
     let here : register_of (s.first ∷ s.rest) ≡ Some r = ap register_of (sym s.whole) ∙ is in
     rw (s.whole) (token_by Register s.first (s.rest ++ behind) (suc (length s.rest)) s.begins
     (rw (run_text s.first s.rest behind s.names ends, here)
     (ap Some (run_is s.first s.rest behind s.names ends))))
 
-text_only : (body behind bytes : List ℕ) → WritesBytes body bytes
+text_only : (body behind bytes : List ℕ) → QuotesBytes body bytes
     → token_of (34 ∷ (body ++ behind)) ≡ Some (Text, suc (length body))
-unfolding size_of
+unfolding size_of_token
 text_only body behind bytes w =
     let size : length (34 ∷ (body ++ behind)) - length behind ≡ suc (length body) =
     omega (arith, length-append body behind) in
@@ -315,14 +315,14 @@ text_only body behind bytes w =
 
 -- a sign
 sign_only : (kind : TokenKind) (byte : ℕ) (text behind : List ℕ) → Begins kind byte
-    → text ≡ byte ∷ [] → ((bytes : List ℕ) → size_of kind bytes ≡ Some 1)
+    → text ≡ byte ∷ [] → ((bytes : List ℕ) → size_of_token kind bytes ≡ Some 1)
     → token_of (text ++ behind) ≡ Some (kind, length text)
 sign_only kind byte text behind begins whole size =
     rw whole (token_by kind byte behind 1 begins (size (byte ∷ behind)))
 
 pub token_only : (kind : TokenKind) (text behind : List ℕ) → IsTextOf kind text
     → EndsBefore kind behind → token_of (text ++ behind) ≡ Some (kind, length text)
-unfolding size_of
+unfolding size_of_token
 token_only Name text behind h ends = name_only text behind (name_shaped text h) ends
 token_only Number text behind h ends =
     number_only text behind h.0 (integer_shaped text h.0 h.1) ends

@@ -7,7 +7,7 @@ use Rattle.xom_base.specs.Words.{is_blank}
 use Rattle.asm_tokens.proofs.Heads.{FirstFails-behind}
 use Rattle.asm_tokens.specs.declared.token.Token.{Token}
 use Rattle.asm_tokens.specs.declared.token.TokenKind.{TokenKind}
-use Rattle.asm_tokens.specs.Tokens.{FirstFails, is_over, token_at, token_of, tokens_from, with_tokens}
+use Rattle.asm_tokens.specs.Tokens.{FirstFails, nothing_follows, token_at, token_of, tokens_from, with_tokens}
 
 -- ---- what is passed over
 
@@ -61,20 +61,20 @@ start_no_blank line at count h =
 
 -- ---- what stands there
 
-pub tokens_from-over : (at : ℕ) (bytes : List ℕ) → NoBlank bytes → is_over bytes ≡ true
+pub tokens_from-over : (at : ℕ) (bytes : List ℕ) → NoBlank bytes → nothing_follows bytes ≡ true
     → tokens_from at 0 bytes ≡ Ok []
 unfolding tokens_from
 tokens_from-over at [] front over = refl
 tokens_from-over at (byte ∷ bytes) front over = rw (front, over) refl
 
-pub tokens_from-bad : (at : ℕ) (bytes : List ℕ) → NoBlank bytes → is_over bytes ≡ false
+pub tokens_from-bad : (at : ℕ) (bytes : List ℕ) → NoBlank bytes → nothing_follows bytes ≡ false
     → token_of bytes ≡ None → tokens_from at 0 bytes ≡ Err at
 unfolding tokens_from
 tokens_from-bad at [] front there none = absurd (true≢false there)
 tokens_from-bad at (byte ∷ bytes) front there none = rw (front, there, none) refl
 
 pub tokens_from-token : (at : ℕ) (bytes : List ℕ) (kind : TokenKind) (size : ℕ) → NoBlank bytes
-    → is_over bytes ≡ false → token_of bytes ≡ Some (kind, size) → 0 < size
+    → nothing_follows bytes ≡ false → token_of bytes ≡ Some (kind, size) → 0 < size
     → tokens_from at 0 bytes ≡ with_tokens (token_at at (kind, size) ∷ [])
     (tokens_from (at + size) 0 (drop size bytes))
 unfolding tokens_from
@@ -87,7 +87,7 @@ tokens_from-token at (byte ∷ bytes) kind (suc size) front there is some =
     (rw (less, same) (tokens_from-left (at + 1) size bytes)))
 
 pub from_token : (line : List ℕ) (at : ℕ) (kind : TokenKind) (size : ℕ) → NoBlank (drop at line)
-    → is_over (drop at line) ≡ false → token_of (drop at line) ≡ Some (kind, size) → 0 < size
+    → nothing_follows (drop at line) ≡ false → token_of (drop at line) ≡ Some (kind, size) → 0 < size
     → tokens_from at 0 (drop at line) ≡ with_tokens (token_at at (kind, size) ∷ [])
     (tokens_from (at + size) 0 (drop (at + size) line))
 from_token line at kind size front there is some =

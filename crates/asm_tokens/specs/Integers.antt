@@ -1,6 +1,6 @@
 -- Whole numbers in source lines: a number of the general grammar, that may have a `-` in front.
 use Rattle.std.specs.Prelude.{◌≡◌, ℕ, Bool, true, false, ◌==◌, if◌then◌else◌, ◌⊎◌, List, [], ◌∷◌, Option, None, option_map, ℤ, pos, ◌-ℤ◌}
-use Rattle.xom_base.specs.Numbers.{IsNumber, number_of}
+use Rattle.xom_base.specs.Numbers.{IsNumber, number_of_word}
 use Rattle.asm_tokens.specs.declared.integers.Integer.{Integer}
 
 -- the text is this whole number: its magnitude as it is, or behind `-`
@@ -16,12 +16,12 @@ whole integer = if integer.negative then pos 0 -ℤ pos integer.magnitude else p
 
 -- ---- the same as a function
 
-abbrev pub signed : Bool → ℕ → Integer
-signed negative magnitude = record { negative = negative; magnitude = magnitude }
+abbrev pub signed_integer : Bool → ℕ → Integer
+signed_integer negative magnitude = record { negative = negative; magnitude = magnitude }
 
 -- the whole number of a text, or none
 unfoldable pub integer_of : List ℕ → Option Integer
 integer_of [] = None
 integer_of (first ∷ rest) =
-    if first == 45 then option_map (signed true) (number_of rest) else option_map (signed false)
-    (number_of (first ∷ rest))
+    if first == 45 then option_map (signed_integer true) (number_of_word rest) else option_map (signed_integer false)
+    (number_of_word (first ∷ rest))

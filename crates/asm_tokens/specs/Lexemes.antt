@@ -34,15 +34,15 @@ WritesByte written byte =
 
 -- what stands behind the opening quote writes these bytes one after another, and ends with the
 -- closing quote
-abbrev pub WritesBytes : List ℕ → List ℕ → Type 0
-WritesBytes body [] = body ≡ 34 ∷ []
-WritesBytes body (byte ∷ bytes) =
-    (written more : List ℕ) × (body ≡ written ++ more) × WritesByte written byte × WritesBytes more
+abbrev pub QuotesBytes : List ℕ → List ℕ → Type 0
+QuotesBytes body [] = body ≡ 34 ∷ []
+QuotesBytes body (byte ∷ bytes) =
+    (written more : List ℕ) × (body ≡ written ++ more) × WritesByte written byte × QuotesBytes more
     bytes
 
 -- the quoted text stands for these bytes
 abbrev pub Quotes : List ℕ → List ℕ → Type 0
-Quotes text bytes = (body : List ℕ) × (text ≡ 34 ∷ body) × WritesBytes body bytes
+Quotes text bytes = (body : List ℕ) × (text ≡ 34 ∷ body) × QuotesBytes body bytes
 
 -- ---- the same as functions
 

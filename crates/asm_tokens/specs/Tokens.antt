@@ -72,15 +72,15 @@ StandBetween line from (token ∷ tokens) to =
     to
 
 -- nothing stands there any more, or a comment begins
-abbrev pub is_over : List ℕ → Bool
-is_over [] = true
-is_over (byte ∷ behind) = begins_comment byte
+abbrev pub nothing_follows : List ℕ → Bool
+nothing_follows [] = true
+nothing_follows (byte ∷ behind) = begins_comment byte
 
 -- the line has these tokens: they stand there up to its end or to its comment
 pub record AreTokens (line : List ℕ) (tokens : List Token) : Type 0 where
   pub place : ℕ
   pub stand : StandBetween line 0 tokens place
-  pub over : IsTrue (is_over (drop place line))
+  pub over : IsTrue (nothing_follows (drop place line))
 
 -- The first byte that begins no token stands at this place: before it are tokens and blanks, it is
 -- no blank and begins no comment, and no token of the line begins there.
@@ -96,8 +96,8 @@ pub record IsBadAt (line : List ℕ) (bad : ℕ) : Type 0 where
 -- ---- the same as functions
 
 -- the kind of token that a byte begins, or none
-unfoldable pub kind_of : ℕ → Option TokenKind
-kind_of byte =
+unfoldable pub kind_of_token : ℕ → Option TokenKind
+kind_of_token byte =
     if begins_name byte then Some Name
     else if is_ascii_digit byte || (byte == 45) then Some Number
     else if byte == 36 then Some Register
@@ -109,8 +109,8 @@ kind_of byte =
     else None
 
 -- the first byte, and how many letters, digits, `_` and `.` follow it
-abbrev pub run_of : List ℕ → ℕ
-run_of bytes = 1 + prefix_len is_name_byte (drop 1 bytes)
+abbrev pub name_run_size : List ℕ → ℕ
+name_run_size bytes = 1 + prefix_len is_name_byte (drop 1 bytes)
 
 -- so many bytes, where the test passes
 abbrev pub so_many : Bool → ℕ → Option ℕ
@@ -119,23 +119,23 @@ so_many passes count = if passes then Some count else None
 -- how many bytes a token of this kind takes that begins with the first of these bytes, or none
 -- where
 -- there is no such token
-unfoldable pub size_of : TokenKind → List ℕ → Option ℕ
-size_of Name bytes = Some (run_of bytes)
-size_of Number bytes = so_many (is_some (integer_of (take (run_of bytes) bytes))) (run_of bytes)
-size_of Register bytes = so_many (is_some (register_of (take (run_of bytes) bytes))) (run_of bytes)
-size_of Text bytes =
+unfoldable pub size_of_token : TokenKind → List ℕ → Option ℕ
+size_of_token Name bytes = Some (name_run_size bytes)
+size_of_token Number bytes = so_many (is_some (integer_of (take (name_run_size bytes) bytes))) (name_run_size bytes)
+size_of_token Register bytes = so_many (is_some (register_of (take (name_run_size bytes) bytes))) (name_run_size bytes)
+size_of_token Text bytes =
     option_map (λ read. length bytes - length read.1) (read_quoted false (drop 1 bytes))
-size_of Comma bytes = Some 1
-size_of Colon bytes = Some 1
-size_of Left bytes = Some 1
-size_of Right bytes = Some 1
+size_of_token Comma bytes = Some 1
+size_of_token Colon bytes = Some 1
+size_of_token Left bytes = Some 1
+size_of_token Right bytes = Some 1
 
 -- the kind and the size of the token that begins with the first of these bytes, or none
 unfoldable pub token_of : List ℕ → Option (TokenKind × ℕ)
 token_of [] = None
 token_of (first ∷ rest) =
-    option_and_then (λ kind. option_map (λ size. (kind, size)) (size_of kind (first ∷ rest)))
-    (kind_of first)
+    option_and_then (λ kind. option_map (λ size. (kind, size)) (size_of_token kind (first ∷ rest)))
+    (kind_of_token first)
 
 -- tokens in front of those that follow
 abbrev pub with_tokens : List Token → Result (List Token) ℕ → Result (List Token) ℕ
@@ -148,9 +148,9 @@ token_at at found = record { kind = found.0; start = at; end = at + found.1 }
 
 -- what follows of the token that begins at a place, if there is one; the tokens behind it depend on
 -- its size
-abbrev pub go_on : ℕ → Option (TokenKind × ℕ) → (ℕ → Result (List Token) ℕ) → Result (List Token) ℕ
-go_on at None more = Err at
-go_on at (Some found) more = with_tokens (token_at at found ∷ []) (more (found.1 - 1))
+abbrev pub tokens_go_on : ℕ → Option (TokenKind × ℕ) → (ℕ → Result (List Token) ℕ) → Result (List Token) ℕ
+tokens_go_on at None more = Err at
+tokens_go_on at (Some found) more = with_tokens (token_at at found ∷ []) (more (found.1 - 1))
 
 -- The tokens of what stands from a place on, or the place of the first byte that begins none. So
 -- many
@@ -161,17 +161,17 @@ tokens_from at (suc left) (byte ∷ bytes) = tokens_from (at + 1) left bytes
 tokens_from at zero (byte ∷ bytes) =
     if is_blank byte then tokens_from (at + 1) 0 bytes
     else if begins_comment byte then Ok []
-    else go_on at (token_of (byte ∷ bytes)) (λ left. tokens_from (at + 1) left bytes)
+    else tokens_go_on at (token_of (byte ∷ bytes)) (λ left. tokens_from (at + 1) left bytes)
 
 -- the tokens of a line, or the place of the first byte that begins none
 unfoldable pub tokens_of : List ℕ → Result (List Token) ℕ
 tokens_of line = tokens_from 0 0 line
 
 -- what was answered of a line; want of memory comes freely
-abbrev pub Faults : Result (List Token) ℕ → TokenFault → Type 0
-Faults read (fault.Token bad) = read ≡ Err bad
-Faults read fault.NoMemory = Unit {0}
+abbrev pub TokenFaults : Result (List Token) ℕ → TokenFault → Type 0
+TokenFaults read (fault.Token bad) = read ≡ Err bad
+TokenFaults read fault.NoMemory = Unit {0}
 
-abbrev pub Answers : Result (List Token) ℕ → Result (List Token) TokenFault → Type 0
-Answers read (Ok tokens) = read ≡ Ok tokens
-Answers read (Err fault) = Faults read fault
+abbrev pub TokensAnswers : Result (List Token) ℕ → Result (List Token) TokenFault → Type 0
+TokensAnswers read (Ok tokens) = read ≡ Ok tokens
+TokensAnswers read (Err fault) = TokenFaults read fault

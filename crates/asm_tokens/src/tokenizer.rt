@@ -4,7 +4,7 @@ ghost use Rattle.xom_base.specs.Memory.{OrOut};
 ghost use Rattle.xom_base.specs.Words.{is_blank};
 ghost use Rattle.asm_tokens.specs.declared.token.Token.{Token};
 ghost use Rattle.asm_tokens.specs.Lexemes.{is_name_byte};
-ghost use Rattle.asm_tokens.specs.Tokens.{Answers, AreTokens, IsBadAt, IsTokenOf, is_over, kind_of, run_of, size_of, token_of, tokens_from, tokens_of, with_tokens};
+ghost use Rattle.asm_tokens.specs.Tokens.{AreTokens, IsBadAt, IsTokenOf, TokensAnswers, kind_of_token, name_run_size, nothing_follows, size_of_token, token_of, tokens_from, tokens_of, with_tokens};
 
 use crate::quoted::behind_quote;
 use crate::{Token, TokenFault, TokenKind, TokenList, integer, register};
@@ -22,13 +22,13 @@ pub fn tokens(alloc: Global, line: &[u8]) -> Result<TokenList, TokenFault>
     ensures only_bad { (at : ℕ) → IsBadAt line.now at → OrOut TokenFault.NoMemory (Err (TokenFault.Token at)) result }
     // Each token's text is its slice of the line.
     ensures slices { IfOk result (λ tokens. All (IsTokenOf line.now) tokens) }
-    ensures value { Answers (tokens_of line.now) result }
+    ensures value { TokensAnswers (tokens_of line.now) result }
 {
     tokens_in(alloc, line)
 }
 
 fn tokens_in(alloc: Global, line: &[u8]) -> Result<TokenList, TokenFault>
-    ensures { Answers (tokens_of line.now) result }
+    ensures { TokensAnswers (tokens_of line.now) result }
 {
     let mut tokens = room(alloc)?;
     let mut at = 0;
@@ -71,7 +71,7 @@ fn next_token(line: &[u8], at: usize) -> Result<Option<Token>, u64>
 
 /// Whether nothing stands there any more, or a comment.
 fn is_over(bytes: &[u8]) -> bool
-    ensures { result ≡ is_over bytes.now }
+    ensures { result ≡ nothing_follows bytes.now }
 {
     matches!(bytes, [] | [b'#', ..])
 }
@@ -88,9 +88,9 @@ fn token_of(bytes: &[u8]) -> Option<(TokenKind, usize)>
 }
 
 /// The kind of token that a byte begins.
-#[tactic(auto, unfolding(crate::specs::Tokens::kind_of))]
+#[tactic(auto, unfolding(crate::specs::Tokens::kind_of_token))]
 fn kind_of(byte: u8) -> Option<TokenKind>
-    ensures { result ≡ kind_of byte }
+    ensures { result ≡ kind_of_token byte }
 {
     match byte {
         b'A'..=b'Z' | b'a'..=b'z' | b'_' | b'.' => Some(TokenKind::Name),
@@ -106,10 +106,10 @@ fn kind_of(byte: u8) -> Option<TokenKind>
 }
 
 /// How many bytes the token of this kind takes that begins with the first of these bytes.
-#[tactic(auto, unfolding(crate::specs::Tokens::size_of))]
+#[tactic(auto, unfolding(crate::specs::Tokens::size_of_token))]
 fn size_of(kind: TokenKind, bytes: &[u8]) -> Option<usize>
     requires { 0 < length bytes.now }
-    ensures value { result ≡ size_of kind bytes.now }
+    ensures value { result ≡ size_of_token kind bytes.now }
     ensures within { IfSome result (λ size. (0 < size) × (size ≤ length bytes.now)) }
 {
     let run = run_of(bytes);
@@ -125,7 +125,7 @@ fn size_of(kind: TokenKind, bytes: &[u8]) -> Option<usize>
 /// The first byte, and how many letters, digits, `_` and `.` follow it.
 fn run_of(bytes: &[u8]) -> usize
     requires { 0 < length bytes.now }
-    ensures value { result ≡ run_of bytes.now }
+    ensures value { result ≡ name_run_size bytes.now }
     ensures within { result ≤ length bytes.now }
 {
     1 + name_bytes(&bytes[1..])

@@ -20,8 +20,8 @@ abbrev pub Held : Type 0
 Held = List ℕ → Option (List ℕ)
 
 -- the same, but for one name that isn't held
-abbrev pub without : List ℕ → Held → Held
-without name held other = if bytes_eq other name then None else held other
+abbrev pub held_without : List ℕ → Held → Held
+held_without name held other = if bytes_eq other name then None else held other
 
 -- ---- A file of a format
 
@@ -31,8 +31,8 @@ fetched_bytes name limit None = Err (Unread name)
 fetched_bytes name limit (Some bytes) =
     if nat_le (length bytes) limit then Ok bytes else Err (Bad name TooLong)
 
-unfoldable pub fetched : Held → List ℕ → ℕ → Result (List ℕ) Refusal
-fetched held name limit = fetched_bytes name limit (held name)
+unfoldable pub file_or_refusal : Held → List ℕ → ℕ → Result (List ℕ) Refusal
+file_or_refusal held name limit = fetched_bytes name limit (held name)
 
 -- what was read, or what is said of the file of this name
 abbrev pub in_file : {A : Type 0} → List ℕ → Result A InputFault → Result A Refusal
@@ -43,17 +43,17 @@ in_file name (Err fault) = Err (Bad name fault)
 abbrev pub input_of : {A : Type 0} → ℕ → (List ℕ → Result A InputFault) → Held → List ℕ
     → Result A Refusal
 input_of limit format held name = do
-  bytes ← fetched held name limit
+  bytes ← file_or_refusal held name limit
   in_file name (format bytes)
 
 -- what the reader of a format answers: its value or its fault, unless memory ran out
-abbrev pub Faults : {A : Type 0} → Result A InputFault → InputStop → Type 0
-Faults wanted (input_stop.Fault fault) = wanted ≡ Err fault
-Faults wanted input_stop.NoMemory = Unit {0}
+abbrev pub InputFaults : {A : Type 0} → Result A InputFault → InputStop → Type 0
+InputFaults wanted (input_stop.Fault fault) = wanted ≡ Err fault
+InputFaults wanted input_stop.NoMemory = Unit {0}
 
-abbrev pub Answers : {A : Type 0} → Result A InputFault → Result A InputStop → Type 0
-Answers wanted (Ok value) = wanted ≡ Ok value
-Answers wanted (Err why) = Faults wanted why
+abbrev pub InputAnswers : {A : Type 0} → Result A InputFault → Result A InputStop → Type 0
+InputAnswers wanted (Ok value) = wanted ≡ Ok value
+InputAnswers wanted (Err why) = InputFaults wanted why
 
 -- ---- The formats
 

@@ -22,18 +22,18 @@ source_word source_fault.UnknownName = codes "UnknownName"
 source_word source_fault.Range = codes "Range"
 
 -- what is said of a file behind its name: offsets count from 0, lines from 1
-abbrev pub fault_text : InputFault → List ℕ
-fault_text TooLong = codes ": too long\n"
-fault_text NotBuilt = codes ": not built\n"
-fault_text (BadByte offset) = codes " byte " ++ (decimal offset ++ codes ": bad\n")
-fault_text (BadLine line) = codes " line " ++ (decimal line ++ codes ": bad\n")
-fault_text (BadSource line fault) =
+abbrev pub input_fault_text : InputFault → List ℕ
+input_fault_text TooLong = codes ": too long\n"
+input_fault_text NotBuilt = codes ": not built\n"
+input_fault_text (BadByte offset) = codes " byte " ++ (decimal offset ++ codes ": bad\n")
+input_fault_text (BadLine line) = codes " line " ++ (decimal line ++ codes ": bad\n")
+input_fault_text (BadSource line fault) =
     codes " line " ++ (decimal line ++ (codes ": " ++ (source_word fault ++ codes "\n")))
 
 -- the line of a refusal
-abbrev pub line_of : Refusal → List ℕ
-line_of (Unread name) = codes "xom: cannot read " ++ (name ++ codes "\n")
-line_of (Bad name fault) = codes "xom: " ++ (name ++ fault_text fault)
+abbrev pub refusal_text : Refusal → List ℕ
+refusal_text (Unread name) = codes "xom: cannot read " ++ (name ++ codes "\n")
+refusal_text (Bad name fault) = codes "xom: " ++ (name ++ input_fault_text fault)
 
 -- the status of a refusal: a file that can't be read, or bad input
 abbrev pub refusal_status : Refusal → ℕ

@@ -1,7 +1,7 @@
 ghost use Rattle.std.specs.Prelude.{◌≡◌, string_bytes};
 ghost use Rattle.cli_base.specs.declared.refusal.Refusal.TheVariants.{Unread, Bad};
-ghost use Rattle.cli_base.specs.Inputs.{Answers, fetched, image_at, image_of};
-ghost use Rattle.cli_base.specs.Readings.{Gives, IsLined, IsNamed, IsRefusal};
+ghost use Rattle.cli_base.specs.Inputs.{InputAnswers, file_or_refusal, image_at, image_of};
+ghost use Rattle.cli_base.specs.Readings.{FilesGive, IsLined, IsNamed, MakesRefusal};
 
 use crate::refusal::{InputFault, InputStop, Refusal, Stop};
 use std::alloc::Global;
@@ -16,7 +16,7 @@ const IMAGE_LIMIT: u64 = 1_048_592;
 /// 1,048,592 bytes, or is no plain image file; the first bad byte is told.
 #[tactic(auto, unfolding(crate::specs::Inputs::image_of))]
 pub fn image<F: Files>(alloc: Global, files: &mut F, name: &String) -> Result<PlainImage, Stop>
-    ensures gives { Gives (F.held files.old) (λ held. image_of held (string_bytes name.now))
+    ensures gives { FilesGive (F.held files.old) (λ held. image_of held (string_bytes name.now))
         (F.reads files.old) (F.reads files.new) result }
     ensures names { F.held files.new ≡ F.held files.old }
     ensures writes { F.writes files.new ≡ F.writes files.old }
@@ -26,9 +26,9 @@ pub fn image<F: Files>(alloc: Global, files: &mut F, name: &String) -> Result<Pl
 }
 
 /// The bytes of a file. Refused where it can't be read or has more than so many bytes.
-#[tactic(auto, unfolding(crate::specs::Inputs::fetched))]
+#[tactic(auto, unfolding(crate::specs::Inputs::file_or_refusal))]
 pub fn fetch<F: Files>(files: &mut F, name: &String, limit: u64) -> Result<ByteList, Stop>
-    ensures gives { Gives (F.held files.old) (λ held. fetched held (string_bytes name.now) limit)
+    ensures gives { FilesGive (F.held files.old) (λ held. file_or_refusal held (string_bytes name.now) limit)
         (F.reads files.old) (F.reads files.new) result }
     ensures names { F.held files.new ≡ F.held files.old }
     ensures writes { F.writes files.new ≡ F.writes files.old }
@@ -55,7 +55,7 @@ pub fn lined<A: Drop>(read: Result<A, TextFault>) -> Result<A, InputStop>
 /// The image of the bytes of a plain image file.
 #[tactic(auto, unfolding(crate::specs::Inputs::image_at))]
 fn image_in(alloc: Global, bytes: &ByteList) -> Result<PlainImage, InputStop>
-    ensures { Answers (image_at bytes.now) result }
+    ensures { InputAnswers (image_at bytes.now) result }
 {
     match read_plain(alloc, bytes) {
         Ok(image) => Ok(image),
@@ -77,7 +77,7 @@ pub fn of_file<A: Drop>(name: &String, read: Result<A, InputStop>) -> Result<A, 
 }
 
 fn unread(name: &String) -> Stop
-    ensures { IsRefusal result (Unread (string_bytes name.now)) }
+    ensures { MakesRefusal result (Unread (string_bytes name.now)) }
 {
     match name.clone() {
         Ok(name) => Stop::Refused(Refusal::Unread(Name::new(name))),
@@ -87,7 +87,7 @@ fn unread(name: &String) -> Stop
 
 /// The refusal of a file that has this fault, or want of memory for its name.
 pub fn bad(name: &String, fault: InputFault) -> Stop
-    ensures { IsRefusal result (Bad (string_bytes name.now) fault) }
+    ensures { MakesRefusal result (Bad (string_bytes name.now) fault) }
 {
     match name.clone() {
         Ok(name) => Stop::Refused(Refusal::Bad(Name::new(name), fault)),

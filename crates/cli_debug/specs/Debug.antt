@@ -11,7 +11,7 @@ use Rattle.cli_runs.specs.declared.kernel_file.KernelFile.TheVariants as kernel
 use Rattle.cli_runs.specs.declared.parts.Parts.{Parts}
 use Rattle.cli_trace.specs.Trace.{first_of}
 use Rattle.kernels.specs.Turns.{image_told, script_told}
-use Rattle.power_on.specs.Shipped.{shipped}
+use Rattle.power_on.specs.Shipped.{shipped_versions}
 use Rattle.xom_debug.specs.Commands.{commands_at}
 use Rattle.xom_debug.specs.DebugTexts.{debug_text}
 use Rattle.xom_debug.specs.Moments.{Moment, moments_from}
@@ -37,7 +37,7 @@ commands_of = input_of commands_limit (λ text. in_lines (commands_at text))
 abbrev pub moments_under : {K : Type 0} → (K → View → Option (Turn × (List ℕ × K))) → K → RunFile
     → Record → List Moment
 moments_under told k file first =
-    unwrap_or (moments_from shipped told file.schedule file.budget 0 first k) []
+    unwrap_or (moments_from shipped_versions told file.schedule file.budget 0 first k) []
 
 abbrev pub moments_by : RunFile → List GuestImage → KernelFile → List Moment
 moments_by file guests (kernel.Script script) =
@@ -51,12 +51,12 @@ text_by file guests k commands =
     debug_text commands (view_of (first_of file guests k)) (moments_by file guests k)
 
 -- that text, with status 0
-unfoldable pub debugged : Parts → List Command → Answer
-debugged parts commands = prints (text_by parts.file parts.guests parts.kernel commands)
+unfoldable pub debug_answer : Parts → List Command → Answer
+debug_answer parts commands = prints (text_by parts.file parts.guests parts.kernel commands)
 
 -- The answer of the command: the run file and what it names are read, then the commands.
 unfoldable pub debug_of : Held → List ℕ → List ℕ → Result Answer Refusal
 debug_of held run commands = do
   parts ← parts_of held run
   list ← commands_of held commands
-  Ok (debugged parts list)
+  Ok (debug_answer parts list)

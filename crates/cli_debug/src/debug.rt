@@ -1,16 +1,16 @@
 ghost use Rattle.std.specs.Prelude.{◌≡◌, All, IfOk, IfSome, string_bytes};
-ghost use Rattle.cli_base.specs.Readings.{Gives};
+ghost use Rattle.cli_base.specs.Readings.{FilesGive};
 ghost use Rattle.cli_runs.specs.KernelFiles.{FitsKernel};
 ghost use Rattle.cli_runs.specs.Parts.{CanRun};
 ghost use Rattle.cli_runs.specs.Places.{FitsAll, first_frame};
 ghost use Rattle.cli_runs.specs.RunFiles.{IsRunnable};
 ghost use Rattle.cli_runs.specs.declared.kernel_file.KernelFile.TheVariants as kernel_file;
-ghost use Rattle.power_on.specs.Shipped.{shipped};
+ghost use Rattle.power_on.specs.Shipped.{shipped_versions};
 ghost use Rattle.xom_model.specs.Seen.{view_of};
-ghost use Rattle.xom_debug.specs.Commands.{KeepsRules};
+ghost use Rattle.xom_debug.specs.Commands.{CommandKeepsRules};
 ghost use Rattle.xom_debug.specs.DebugTexts.{debug_text};
 ghost use Rattle.xom_debug.specs.Moments.{moments_from};
-ghost use Rattle.cli_debug.specs.Debug.{commands_of, debug_of, debugged as debugged_of, text_by as text_by_of};
+ghost use Rattle.cli_debug.specs.Debug.{commands_of, debug_answer as debugged_of, debug_of, text_by as text_by_of};
 
 use cli_base::{Answer, Stop, fetch, lined, of_file};
 use cli_runs::{GuestImageList, KernelFile, Parts, read_parts};
@@ -36,7 +36,7 @@ pub fn debug<F: Files>(
     run: &String,
     commands: &String,
 ) -> Result<Answer, Stop>
-    ensures gives { Gives (F.held files.old) (λ held. debug_of held (string_bytes run.now) (string_bytes commands.now))
+    ensures gives { FilesGive (F.held files.old) (λ held. debug_of held (string_bytes run.now) (string_bytes commands.now))
         (F.reads files.old) (F.reads files.new) result }
     ensures done { IfOk result (λ answer. answer.status ≡ 0) }
     ensures names { F.held files.new ≡ F.held files.old }
@@ -54,9 +54,9 @@ fn commands_named<F: Files>(
     files: &mut F,
     name: &String,
 ) -> Result<CommandList, Stop>
-    ensures gives { Gives (F.held files.old) (λ held. commands_of held (string_bytes name.now))
+    ensures gives { FilesGive (F.held files.old) (λ held. commands_of held (string_bytes name.now))
         (F.reads files.old) (F.reads files.new) result }
-    ensures rules { IfOk result (λ commands. All KeepsRules commands) }
+    ensures rules { IfOk result (λ commands. All CommandKeepsRules commands) }
     ensures names { F.held files.new ≡ F.held files.old }
     ensures writes { F.writes files.new ≡ F.writes files.old }
 {
@@ -65,10 +65,10 @@ fn commands_named<F: Files>(
 }
 
 /// Makes the run under the commands, and prints what they print.
-#[tactic(auto, unfolding(crate::specs::Debug::debugged))]
+#[tactic(auto, unfolding(crate::specs::Debug::debug_answer))]
 fn debugged(alloc: Global, parts: Parts, commands: &CommandList) -> Result<Answer, NoMemory>
     requires parts { CanRun parts }
-    requires rules { All KeepsRules commands.now }
+    requires rules { All CommandKeepsRules commands.now }
     ensures value { IfOk result (λ answer. answer ≡ debugged_of parts commands.now) }
     ensures done { IfOk result (λ answer. answer.status ≡ 0) }
 {
@@ -97,7 +97,7 @@ fn text_by(
     requires file { IsRunnable file.now }
     requires guests { FitsAll file.now.frames first_frame guests.now }
     requires kernel { FitsKernel file.now.frames kernel }
-    requires rules { All KeepsRules commands.now }
+    requires rules { All CommandKeepsRules commands.now }
     ensures { IfOk result (λ text. text ≡ text_by_of file.now guests.now kernel commands.now) }
 {
     match kernel {
@@ -116,7 +116,7 @@ fn script_text(
 ) -> Result<ByteList, NoMemory>
     requires file { IsRunnable file.now }
     requires guests { FitsAll file.now.frames first_frame guests.now }
-    requires rules { All KeepsRules commands.now }
+    requires rules { All CommandKeepsRules commands.now }
     ensures { IfOk result (λ text. text ≡ text_by_of file.now guests.now (kernel_file.Script script) commands.now) }
 {
     let machine = power_on(alloc, &file.machine, file.boot, file.frames, None, guests)?;
@@ -135,7 +135,7 @@ fn image_text(
     requires file { IsRunnable file.now }
     requires guests { FitsAll file.now.frames first_frame guests.now }
     requires kernel { FitsKernel file.now.frames (kernel_file.Image image.now) }
-    requires rules { All KeepsRules commands.now }
+    requires rules { All CommandKeepsRules commands.now }
     ensures { IfOk result (λ text. text ≡ text_by_of file.now guests.now (kernel_file.Image image.now) commands.now) }
 {
     let machine = power_on(
@@ -161,8 +161,8 @@ fn text_under<K: Kernel + Drop>(
 ) -> Result<ByteList, NoMemory>
     requires first { machine.state.events ≡ 0 }
     requires file { IsRunnable file.now }
-    requires rules { All KeepsRules commands.now }
-    ensures { IfOk result (λ text. IfSome (moments_from shipped K.told file.now.schedule file.now.budget 0 machine.state kernel) (λ run. text ≡ debug_text commands.now (view_of machine.state) run)) }
+    requires rules { All CommandKeepsRules commands.now }
+    ensures { IfOk result (λ text. IfSome (moments_from shipped_versions K.told file.now.schedule file.now.budget 0 machine.state kernel) (λ run. text ≡ debug_text commands.now (view_of machine.state) run)) }
 {
     let mut machine = machine;
     let mut kernel = kernel;

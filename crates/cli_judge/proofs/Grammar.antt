@@ -5,20 +5,20 @@ use Rattle.xom_base.specs.declared.entry.Entry.{Entry}
 use Rattle.xom_base.specs.declared.lines.TextFault.TheVariants as text_fault
 use Rattle.xom_base.proofs.TextLaws.{AnswersText-lines}
 use Rattle.journal_text.specs.JournalLines.{JournalLine, journal_step}
-use Rattle.journal_text.specs.Readings.{IsBadLine, IsJournal, entries_alone}
+use Rattle.journal_text.specs.Readings.{IsBadJournalLine, IsJournal, entries_alone}
 use Rattle.journal_text.proofs.RowLaws.{tells}
 use Rattle.cli_judge.specs.Judge.{entries_at}
 use Rattle.cli_judge.specs.Laws.{TextsAreRead}
 
 -- a reader that gives these entries
 given : (text : List ℕ) (entries : List Entry) → entries_at text ≡ Ok entries
-    → AnswersText (IsJournal text) (IsBadLine (lines_of text)) (Ok entries)
+    → AnswersText (IsJournal text) (IsBadJournalLine (lines_of text)) (Ok entries)
 given text entries is =
     AnswersText-lines journal_step JournalLine tells entries_alone 0 text (Ok entries) is
 
 -- and one that answers this line
 refused : (text : List ℕ) (n : ℕ) → entries_at text ≡ Err n
-    → AnswersText (IsJournal text) (IsBadLine (lines_of text)) (Err (text_fault.Line n))
+    → AnswersText (IsJournal text) (IsBadJournalLine (lines_of text)) (Err (text_fault.Line n))
 refused text n is =
     AnswersText-lines journal_step JournalLine tells entries_alone 0 text (Err (text_fault.Line n))
     is

@@ -21,7 +21,7 @@ use Rattle.cli_base.specs.declared.answer.Answer.{Answer}
 use Rattle.cli_base.specs.declared.refusal.InputFault.{InputFault}
 use Rattle.cli_base.specs.declared.refusal.InputFault.TheVariants.{BadLine as BadLineOf}
 use Rattle.cli_judge.specs.Hearings.{HasHeard, IsHeardTo, judged_at}
-use Rattle.cli_judge.specs.Judge.{judged}
+use Rattle.cli_judge.specs.Judge.{judge_answer}
 use Rattle.cli_judge.specs.declared.hearing.Hearing.{Hearing}
 use Rattle.cli_judge.proofs.Numbered.{rows_may_stand}
 
@@ -34,7 +34,7 @@ module _ (machine : Key256) (owners : List Owner) (text : List ℕ) where
   -- the answer by what the lines of the text gave
   abbrev ending : Result (List Entry × ℕ) ℕ → Result Answer InputFault
   ending read =
-      in_lines (made_of entries_alone read) >>= (λ entries. Ok (judged machine owners entries))
+      in_lines (made_of entries_alone read) >>= (λ entries. Ok (judge_answer machine owners entries))
 
   -- nothing was read as yet
   pub heard_nothing : (h : Hearing) (reading : Reading) → reading ≡ record {
@@ -123,14 +123,14 @@ module _ (machine : Key256) (owners : List Owner) (text : List ℕ) where
   -- the end of the text
   pub heard_all : (h : Hearing) (reading : Reading) (upto : IsHeardTo machine owners text h reading
       [])
-      → judged_at machine owners text ≡ Ok (judged machine owners upto.entries)
+      → judged_at machine owners text ≡ Ok (judge_answer machine owners upto.entries)
   heard_all h reading upto =
       ap ending
       (sym upto.read ∙ read_from-none journal_step upto.entries reading.last (reading.lines + 1))
 
   pub answered : (h : Hearing) (reading : Reading) (rest : List ℕ) (answer : Answer)
       → IsHeardTo machine owners text h reading rest → rest ≡ []
-      → ((m : Key256) (os : List Owner) (es : List Entry) → HasHeard m os h es → answer ≡ judged m
+      → ((m : Key256) (os : List Owner) (es : List Entry) → HasHeard m os h es → answer ≡ judge_answer m
       os es)
       → judged_at machine owners text ≡ Ok answer
   answered h reading rest answer heard empty tells_all =

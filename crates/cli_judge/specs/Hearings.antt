@@ -14,7 +14,7 @@ use Rattle.trace_judge.specs.Suspicion.{is_stop}
 use Rattle.cli_base.specs.declared.answer.Answer.{Answer}
 use Rattle.cli_base.specs.declared.refusal.InputFault.{InputFault}
 use Rattle.cli_base.specs.Inputs.{in_lines}
-use Rattle.cli_judge.specs.Judge.{entries_at, judged}
+use Rattle.cli_judge.specs.Judge.{entries_at, judge_answer}
 use Rattle.cli_judge.specs.declared.hearing.Hearing.{Hearing}
 
 -- the judge was fed these entries, and it is known whether one of them is a Stop
@@ -40,4 +40,4 @@ pub record IsHeardTo (machine : Key256) (owners : List Owner) (text : List ℕ) 
 abbrev pub judged_at : Key256 → List Owner → List ℕ → Result Answer InputFault
 judged_at machine owners text = do
   entries ← in_lines (entries_at text)
-  Ok (judged machine owners entries)
+  Ok (judge_answer machine owners entries)

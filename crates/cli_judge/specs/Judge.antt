@@ -38,8 +38,8 @@ judge_status report entries =
     if is_suspect report then 9 else (if list_any is_stop entries then 8 else 0)
 
 -- the report on these entries, with that status
-abbrev pub answer_of : Report → List Entry → Answer
-answer_of report entries = record {
+abbrev pub report_answer : Report → List Entry → Answer
+report_answer report entries = record {
   text = report_text report;
   file = None;
   status =
@@ -47,8 +47,8 @@ answer_of report entries = record {
 }
 
 -- by the machine key and the owners
-abbrev pub judged : Key256 → List Owner → List Entry → Answer
-judged machine owners entries = answer_of (judgement machine owners entries) entries
+abbrev pub judge_answer : Key256 → List Owner → List Entry → Answer
+judge_answer machine owners entries = report_answer (judgement machine owners entries) entries
 
 -- The answer of the command: the run file, the images of its owners, and the journal are read in
 -- this order. No other file that
@@ -58,4 +58,4 @@ judge_of held run journal = do
   file ← run_file_of held run
   owners ← owners_of held file.owners
   entries ← journal_of held journal
-  Ok (judged file.machine owners entries)
+  Ok (judge_answer file.machine owners entries)

@@ -3,7 +3,7 @@ use Rattle.std.specs.Prelude.{◌≡◌, ◌+◌, ℕ, true, List, Ok, Err}
 use Rattle.xom_base.specs.declared.entry.Entry.{Entry}
 use Rattle.xom_base.specs.Lines.{lines_of}
 use Rattle.journal_text.specs.JournalLines.{IsRow}
-use Rattle.journal_text.specs.Readings.{IsBadLine, IsJournal}
+use Rattle.journal_text.specs.Readings.{IsBadJournalLine, IsJournal}
 use Rattle.trace_judge.specs.Numbers.{installs_in, may_stand}
 use Rattle.cli_judge.specs.Judge.{entries_at}
 
@@ -18,4 +18,4 @@ RowsMayStand =
 abbrev pub TextsAreRead : Type 0
 TextsAreRead = (text : List ℕ)
     → ((entries : List Entry) → entries_at text ≡ Ok entries → IsJournal text entries)
-    × ((n : ℕ) → entries_at text ≡ Err n → IsBadLine (lines_of text) n)
+    × ((n : ℕ) → entries_at text ≡ Err n → IsBadJournalLine (lines_of text) n)

@@ -20,7 +20,7 @@ pub struct Hearing<'a> {
 
 impl<'a> Hearing<'a> {
     ghost use Rattle.cli_judge.specs.Hearings.{HasHeard};
-    ghost use Rattle.cli_judge.specs.Judge.{judged as judged_of};
+    ghost use Rattle.cli_judge.specs.Judge.{judge_answer as judged_of};
 
     /// Nothing was heard.
     pub fn new(

@@ -1,7 +1,7 @@
 ghost use Rattle.std.specs.Prelude.{◌≡◌, IfOk, string_bytes};
 ghost use Rattle.cli_base.specs.Commands.{IsDone};
-ghost use Rattle.cli_base.specs.Inputs.{Answers, input_of};
-ghost use Rattle.cli_base.specs.Readings.{Gives};
+ghost use Rattle.cli_base.specs.Inputs.{InputAnswers, input_of};
+ghost use Rattle.cli_base.specs.Readings.{FilesGive};
 ghost use Rattle.cli_judge.specs.Hearings.{judged_at};
 ghost use Rattle.cli_judge.specs.Judge.{journal_limit, judge_of};
 
@@ -27,7 +27,7 @@ pub fn judge<F: Files>(
     run: &String,
     journal: &String,
 ) -> Result<Answer, Stop>
-    ensures gives { Gives (F.held files.old) (λ held. judge_of held (string_bytes run.now) (string_bytes journal.now))
+    ensures gives { FilesGive (F.held files.old) (λ held. judge_of held (string_bytes run.now) (string_bytes journal.now))
         (F.reads files.old) (F.reads files.new) result }
     ensures done { IfOk result (λ answer. IsDone answer.status) }
     ensures names { F.held files.new ≡ F.held files.old }
@@ -46,7 +46,7 @@ fn journal_judged<F: Files>(
     owners: &OwnerList,
     name: &String,
 ) -> Result<Answer, Stop>
-    ensures gives { Gives (F.held files.old) (λ held. input_of journal_limit (judged_at machine.now owners.now) held (string_bytes name.now))
+    ensures gives { FilesGive (F.held files.old) (λ held. input_of journal_limit (judged_at machine.now owners.now) held (string_bytes name.now))
         (F.reads files.old) (F.reads files.new) result }
     ensures done { IfOk result (λ answer. IsDone answer.status) }
     ensures names { F.held files.new ≡ F.held files.old }
@@ -63,7 +63,7 @@ fn text_judged(
     owners: &OwnerList,
     text: &[u8],
 ) -> Result<Answer, InputStop>
-    ensures value { Answers (judged_at machine.now owners.now text.now) result }
+    ensures value { InputAnswers (judged_at machine.now owners.now text.now) result }
     ensures done { IfOk result (λ answer. IsDone answer.status) }
 {
     let mut hearing = Hearing::new(alloc, machine, owners)?;

@@ -1,6 +1,6 @@
 -- What is answered of the text of a source is what its name comes to.
 use Rattle.std.proofs.Common.{◌≡◌, ℕ, inl, inr, List, Some, Result, Ok, Err, sym, subst, arith}
-use Rattle.xom_io.specs.Answers.{Told}
+use Rattle.xom_io.specs.Answers.{FilesTold}
 use Rattle.mips_asm.specs.declared.fault.AsmFault.{AsmFault}
 use Rattle.mips_asm.specs.declared.fault.AsmFault.TheVariants as asm_fault
 use Rattle.mips_asm.specs.Sources.{IsFaultOf, OrNoMemory}
@@ -10,7 +10,7 @@ use Rattle.cli_base.specs.declared.refusal.Refusal.TheVariants.{Unread, Bad}
 use Rattle.cli_base.specs.declared.refusal.Stop.{Stop}
 use Rattle.cli_base.specs.declared.refusal.Stop.TheVariants as stop
 use Rattle.cli_programs.specs.Assembly.{Assembles, AssemblesRead, IsAssembled, Says, said_of}
-use Rattle.cli_base.specs.Inputs.{Held, fetched}
+use Rattle.cli_base.specs.Inputs.{Held, file_or_refusal}
 use Rattle.cli_programs.specs.Programs.{source_limit}
 use Rattle.cli_base.specs.Readings.{IsWanted, Meets}
 
@@ -42,8 +42,8 @@ assembled_stops source text target fault (stop.Refused refusal) (inl none) says 
 assembled_stops source text target fault (stop.Refused refusal) (inr is) says = (fault, is, says)
 assembled_stops source text target fault stop.NoMemory is says = tt
 
-module _ (told : Told) (source target text : List ℕ) (before after : ℕ) (stays : after ≡ before)
-    (read : (held : Held) → told ≡ Some held → fetched held source source_limit ≡ Ok text) where
+module _ (told : FilesTold) (source target text : List ℕ) (before after : ℕ) (stays : after ≡ before)
+    (read : (held : Held) → told ≡ Some held → file_or_refusal held source source_limit ≡ Ok text) where
   -- what the text comes to, the name does
   of_name : (outcome : Result Answer Refusal) → AssemblesRead source target (Ok text) outcome
       → IsWanted told (Assembles source target) outcome

@@ -15,7 +15,7 @@ use Rattle.cli_base.specs.declared.refusal.SourceFault.TheVariants as source_fau
 use Rattle.cli_base.specs.declared.refusal.Stop.{Stop}
 use Rattle.cli_base.specs.declared.refusal.Stop.TheVariants as stop
 use Rattle.cli_base.specs.Commands.{writes}
-use Rattle.cli_base.specs.Inputs.{Held, fetched}
+use Rattle.cli_base.specs.Inputs.{Held, file_or_refusal}
 use Rattle.cli_programs.specs.Programs.{source_limit}
 
 -- how many bytes an image has, and its entry
@@ -61,7 +61,7 @@ AssemblesRead source target (Err refusal) result = result ≡ Err refusal
 -- what `asm` of a source and an image of these names comes to
 abbrev pub Assembles : List ℕ → List ℕ → Held → Result Answer Refusal → Type 0
 Assembles source target held result =
-    AssemblesRead source target (fetched held source source_limit) result
+    AssemblesRead source target (file_or_refusal held source source_limit) result
 
 -- what was answered of the text of a source; want of memory comes freely
 abbrev pub IsAssembled : List ℕ → List ℕ → List ℕ → Result Answer Stop → Type 0

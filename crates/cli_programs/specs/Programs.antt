@@ -23,8 +23,8 @@ abbrev pub received_limit : ℕ
 received_limit = 1048576
 
 -- the values of a received file
-unfoldable pub received_of : Held → List ℕ → Result (List ℕ) Refusal
-received_of = input_of received_limit (λ text. in_lines (received_at text))
+unfoldable pub received_values : Held → List ℕ → Result (List ℕ) Refusal
+received_values = input_of received_limit (λ text. in_lines (received_at text))
 
 -- `disasm IMAGE`: the listing of the image's words
 unfoldable pub disasm_of : Held → List ℕ → Result Answer Refusal
@@ -35,7 +35,7 @@ disasm_of held name = do
 -- the values of a received file, or none where no file is named
 abbrev pub values_of : Held → Option (List ℕ) → Result (List ℕ) Refusal
 values_of held None = Ok []
-values_of held (Some name) = received_of held name
+values_of held (Some name) = received_values held name
 
 -- `plain IMAGE STEPS`, `plain IMAGE STEPS RECEIVED`: the steps of the image's program run alone
 unfoldable pub plain_of : Held → List ℕ → ℕ → Option (List ℕ) → Result Answer Refusal
@@ -64,7 +64,7 @@ abbrev pub owner_with : PlainImage → Key256 → ImageId → Owner
 owner_with image key id = record { plain = image; key = key; id = id }
 
 -- `seal IMAGE KEY ID MACHINE SEALED`: the image's file, sealed by its owner for a machine
-unfoldable pub seal_of : Held → List ℕ → Key256 → ImageId → Key256 → List ℕ → Result Answer Refusal
-seal_of held name key id machine target = do
+unfoldable pub seal_answer : Held → List ℕ → Key256 → ImageId → Key256 → List ℕ → Result Answer Refusal
+seal_answer held name key id machine target = do
   image ← image_of held name
   Ok (sealing_answer machine (owner_with image key id) target)

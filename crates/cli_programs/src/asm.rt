@@ -1,7 +1,7 @@
 ghost use Rattle.std.specs.Prelude.{◌≡◌, IfOk, string_bytes};
 ghost use Rattle.cli_programs.specs.Assembly.{Assembles, IsAssembled, Says, image_answer as image_answer_of, image_text as image_text_of};
 ghost use Rattle.cli_base.specs.Commands.{IsDone};
-ghost use Rattle.cli_base.specs.Readings.{IsRefusal, Meets};
+ghost use Rattle.cli_base.specs.Readings.{MakesRefusal, Meets};
 ghost use Rattle.cli_base.specs.declared.refusal.InputFault.TheVariants.{BadSource};
 ghost use Rattle.cli_base.specs.declared.refusal.Refusal.TheVariants.{Bad};
 
@@ -59,7 +59,7 @@ fn stop_for(source: &String, fault: AsmFault) -> Stop
 }
 
 fn bad_source(source: &String, line: u64, fault: SourceFault) -> Stop
-    ensures { IsRefusal result (Bad (string_bytes source.now) (BadSource line fault)) }
+    ensures { MakesRefusal result (Bad (string_bytes source.now) (BadSource line fault)) }
 {
     bad(source, InputFault::BadSource(line, fault))
 }

@@ -1,7 +1,7 @@
 ghost use Rattle.std.specs.Prelude.{◌≡◌, IfOk, string_bytes};
 ghost use Rattle.cli_programs.specs.Programs.{disasm_of};
 ghost use Rattle.cli_base.specs.Commands.{IsDone};
-ghost use Rattle.cli_base.specs.Readings.{Gives};
+ghost use Rattle.cli_base.specs.Readings.{FilesGive};
 
 use cli_base::{Answer, Stop, image as read_image};
 use mips_text::listing;
@@ -11,7 +11,7 @@ use xom_io::Files;
 /// `disasm IMAGE`: each word of a plain image as its address, itself and its instruction.
 #[tactic(auto, unfolding(crate::specs::Programs::disasm_of))]
 pub fn disasm<F: Files>(alloc: Global, files: &mut F, image: &String) -> Result<Answer, Stop>
-    ensures gives { Gives (F.held files.old) (λ held. disasm_of held (string_bytes image.now))
+    ensures gives { FilesGive (F.held files.old) (λ held. disasm_of held (string_bytes image.now))
         (F.reads files.old) (F.reads files.new) result }
     ensures done { IfOk result (λ answer. IsDone answer.status) }
     ensures names { F.held files.new ≡ F.held files.old }

@@ -1,7 +1,7 @@
 ghost use Rattle.std.specs.Prelude.{◌≡◌, IfOk, option_map, string_bytes};
 ghost use Rattle.cli_programs.specs.Programs.{plain_of, values_of};
 ghost use Rattle.cli_base.specs.Commands.{IsDone};
-ghost use Rattle.cli_base.specs.Readings.{Gives};
+ghost use Rattle.cli_base.specs.Readings.{FilesGive};
 
 use crate::reading::received as read_values;
 use cli_base::{Answer, Stop, image as read_image};
@@ -19,7 +19,7 @@ pub fn plain<F: Files>(
     steps: u64,
     received: Option<&String>,
 ) -> Result<Answer, Stop>
-    ensures gives { Gives (F.held files.old) (λ held. plain_of held (string_bytes image.now) steps (option_map (λ name. string_bytes name.now) received.entry))
+    ensures gives { FilesGive (F.held files.old) (λ held. plain_of held (string_bytes image.now) steps (option_map (λ name. string_bytes name.now) received.entry))
         (F.reads files.old) (F.reads files.new) result }
     ensures done { IfOk result (λ answer. IsDone answer.status) }
     ensures names { F.held files.new ≡ F.held files.old }
@@ -36,7 +36,7 @@ fn values<F: Files>(
     files: &mut F,
     received: Option<&String>,
 ) -> Result<ReceivedList, Stop>
-    ensures gives { Gives (F.held files.old) (λ held. values_of held (option_map (λ name. string_bytes name.now) received.entry))
+    ensures gives { FilesGive (F.held files.old) (λ held. values_of held (option_map (λ name. string_bytes name.now) received.entry))
         (F.reads files.old) (F.reads files.new) result }
     ensures names { F.held files.new ≡ F.held files.old }
     ensures writes { F.writes files.new ≡ F.writes files.old }

@@ -1,7 +1,7 @@
 ghost use Rattle.std.specs.Prelude.{◌≡◌, IfOk, string_bytes};
 ghost use Rattle.cli_base.specs.Commands.{IsDone};
-ghost use Rattle.cli_programs.specs.Programs.{seal_of, sealed_text as sealed_text_of, sealing_answer};
-ghost use Rattle.cli_base.specs.Readings.{Gives};
+ghost use Rattle.cli_programs.specs.Programs.{seal_answer, sealed_text as sealed_text_of, sealing_answer};
+ghost use Rattle.cli_base.specs.Readings.{FilesGive};
 
 use cli_base::{Answer, Stop, image as read_image};
 use std::alloc::Global;
@@ -12,7 +12,7 @@ use xom_owners::Owner;
 
 /// `seal IMAGE KEY ID MACHINE SEALED`: a plain image, sealed under its owner's key and id for a
 /// machine, as the file SEALED.
-#[tactic(auto, unfolding(crate::specs::Programs::seal_of))]
+#[tactic(auto, unfolding(crate::specs::Programs::seal_answer))]
 pub fn seal<F: Files>(
     alloc: Global,
     files: &mut F,
@@ -22,7 +22,7 @@ pub fn seal<F: Files>(
     machine: &Key256,
     sealed: &String,
 ) -> Result<Answer, Stop>
-    ensures gives { Gives (F.held files.old) (λ held. seal_of held (string_bytes image.now) key id machine.now (string_bytes sealed.now))
+    ensures gives { FilesGive (F.held files.old) (λ held. seal_answer held (string_bytes image.now) key id machine.now (string_bytes sealed.now))
         (F.reads files.old) (F.reads files.new) result }
     ensures done { IfOk result (λ answer. IsDone answer.status) }
     ensures names { F.held files.new ≡ F.held files.old }

@@ -2,13 +2,13 @@
 -- before it.
 use Rattle.std.proofs.Common.{◌≡◌, inl, inr, ℕ, List, [], ◌∷◌, ◌++◌, Some, None, Result, Ok, Err, refl, sym, ap, subst, ◌∙◌, append_assoc, append-nil, arith}
 use Rattle.std.specs.Prelude.{IsSomeAnd}
-use Rattle.xom_io.specs.Answers.{Rises, Told}
+use Rattle.xom_io.specs.Answers.{FilesTold, Rises}
 use Rattle.cli_base.specs.declared.refusal.Refusal.{Refusal}
 use Rattle.cli_base.specs.declared.refusal.Refusal.TheVariants.{Unread, Bad}
 use Rattle.cli_base.specs.declared.refusal.Stop.{Stop}
 use Rattle.cli_base.specs.declared.refusal.Stop.TheVariants as stop
-use Rattle.cli_base.specs.Inputs.{◌>>=◌, Held, without}
-use Rattle.cli_base.specs.Readings.{Gives}
+use Rattle.cli_base.specs.Inputs.{Held, held_without, ◌>>=◌}
+use Rattle.cli_base.specs.Readings.{FilesGive}
 use Rattle.cli_base.proofs.Without.{SameOrUnread}
 use Rattle.cli_runs.proofs.Steps.{bind-without}
 
@@ -37,39 +37,39 @@ pub record IsEach {S X Y : Type 0} (all : Held → S → List X → Result (List
   pub more : (held : Held) (s : S) (x : X) (xs : List X)
       → all held s (x ∷ xs) ≡ (one held s x >>= first_then all next held s xs)
   pub less : (held : Held) (name : List ℕ) (s : S) (x : X)
-      → SameOrUnread name (one held s x) (one (without name held) s x)
+      → SameOrUnread name (one held s x) (one (held_without name held) s x)
 
 -- The items so far, and those of the lines that are left, are those of all lines.
 pub record Carries {S X Y : Type 0} (all : Held → S → List X → Result (List Y) Refusal)
-    (told : Told) (start : S) (lines : List X) (s : S) (rest : List X) (now : List Y) : Type 0 where
+    (told : FilesTold) (start : S) (lines : List X) (s : S) (rest : List X) (now : List Y) : Type 0 where
   pub here : (held : Held) → told ≡ Some held → all held start lines ≡ onto now (all held s rest)
   pub less : (held : Held) → told ≡ Some held → (name : List ℕ)
-      → SameOrUnread name (onto now (all (without name held) s rest))
-      (all (without name held) start lines)
+      → SameOrUnread name (onto now (all (held_without name held) s rest))
+      (all (held_without name held) start lines)
 
 pub carries_start : {S X Y : Type 0} (all : Held → S → List X → Result (List Y) Refusal)
-    (told : Told) (start : S) (lines : List X)
+    (told : FilesTold) (start : S) (lines : List X)
     → Carries all told start lines start lines []
 carries_start all told start lines = record {
   here = λ held said. sym (onto-nil (all held start lines));
-  less = λ held said name. inl (sym (onto-nil (all (without name held) start lines)));
+  less = λ held said name. inl (sym (onto-nil (all (held_without name held) start lines)));
 }
 
 module _ {S X Y : Type 0} (all : Held → S → List X → Result (List Y) Refusal) (one : Held → S → X
     → Result Y Refusal) (next : S → Y → S) (each : IsEach all one next) where
   -- one name isn't held any more
   pub each-without : (held : Held) (name : List ℕ) (s : S) (lines : List X)
-      → SameOrUnread name (all held s lines) (all (without name held) s lines)
-  each-without held name s [] = inl (each.none (without name held) s ∙ sym (each.none held s))
+      → SameOrUnread name (all held s lines) (all (held_without name held) s lines)
+  each-without held name s [] = inl (each.none (held_without name held) s ∙ sym (each.none held s))
   each-without held name s (x ∷ xs) =
-      subst (λ r. SameOrUnread name r (all (without name held) s (x ∷ xs)))
+      subst (λ r. SameOrUnread name r (all (held_without name held) s (x ∷ xs)))
       (sym (each.more held s x xs))
       (subst (SameOrUnread name (one held s x >>= first_then all next held s xs))
-      (sym (each.more (without name held) s x xs))
-      (bind-without name (one held s x) (one (without name held) s x)
-      (first_then all next held s xs) (first_then all next (without name held) s xs)
+      (sym (each.more (held_without name held) s x xs))
+      (bind-without name (one held s x) (one (held_without name held) s x)
+      (first_then all next held s xs) (first_then all next (held_without name held) s xs)
       (each.less held name s x)
-      (λ y. bind-without name (all held (next s y) xs) (all (without name held) (next s y) xs)
+      (λ y. bind-without name (all held (next s y) xs) (all (held_without name held) (next s y) xs)
       _ _ (each-without held name (next s y) xs) (λ ys. inl refl))))
 
   one-read : (held : Held) (s : S) (x : X) (xs : List X) (y : Y) → one held s x ≡ Ok y
@@ -82,7 +82,7 @@ module _ {S X Y : Type 0} (all : Held → S → List X → Result (List Y) Refus
   one-stop held s x xs e is =
       each.more held s x xs ∙ ap (λ r. r >>= first_then all next held s xs) is
 
-  module _ (told : Told) (start : S) (lines : List X) (s : S) (x : X) (rest : List X) (now : List Y)
+  module _ (told : FilesTold) (start : S) (lines : List X) (s : S) (x : X) (rest : List X) (now : List Y)
       (carries : Carries all told start lines s (x ∷ rest) now) where
     -- a line was read
     further : (held : Held) (y : Y) → one held s x ≡ Ok y
@@ -91,17 +91,17 @@ module _ {S X Y : Type 0} (all : Held → S → List X → Result (List Y) Refus
         ap (onto now) (one-read held s x rest y is) ∙ onto-next now y (all held (next s y) rest)
 
     pub carries_next : (before after : ℕ) (y : Y)
-        → Gives told (λ held. one held s x) before after (Ok y)
+        → FilesGive told (λ held. one held s x) before after (Ok y)
         → Carries all told start lines (next s y) rest (now ++ y ∷ [])
     carries_next before after y gave = record {
       here = λ held said. carries.here held said ∙ further held y (gave.1 held said);
       less = λ held said name. elim (each.less held name s x) [
         | inl same ↦ elim (carries.less held said name) [
-          | inl is ↦ inl (is ∙ further (without name held) y (same ∙ gave.1 held said))
+          | inl is ↦ inl (is ∙ further (held_without name held) y (same ∙ gave.1 held said))
           | inr gone ↦ inr gone
         ]
         | inr gone ↦ elim (carries.less held said name) [
-          | inl is ↦ inr (is ∙ ap (onto now) (one-stop (without name held) s x rest (Unread name)
+          | inl is ↦ inr (is ∙ ap (onto now) (one-stop (held_without name held) s x rest (Unread name)
               gone))
           | inr whole ↦ inr whole
         ]
@@ -114,22 +114,22 @@ module _ {S X Y : Type 0} (all : Held → S → List X → Result (List Y) Refus
     here_stops held e said is = carries.here held said ∙ ap (onto now) (one-stop held s x rest e is)
 
     less_stops : (held : Held) (name : List ℕ) → told ≡ Some held
-        → one (without name held) s x ≡ Err (Unread name)
-        → all (without name held) start lines ≡ Err (Unread name)
+        → one (held_without name held) s x ≡ Err (Unread name)
+        → all (held_without name held) start lines ≡ Err (Unread name)
     less_stops held name said is = elim (carries.less held said name) [
-      | inl same ↦ same ∙ ap (onto now) (one-stop (without name held) s x rest (Unread name) is)
+      | inl same ↦ same ∙ ap (onto now) (one-stop (held_without name held) s x rest (Unread name) is)
       | inr gone ↦ gone
     ]
 
-    lacking : (name : List ℕ) (o : Told) → told ≡ o
+    lacking : (name : List ℕ) (o : FilesTold) → told ≡ o
         → IsSomeAnd o (λ held. one held s x ≡ Err (Unread name))
         → IsSomeAnd o (λ held. all held start lines ≡ Err (Unread name))
     lacking name None said is = is
     lacking name (Some held) said is = here_stops held (Unread name) said is
 
     pub carries_stop : (before between after : ℕ) (why : Stop) → between ≡ before
-        → Gives told (λ held. one held s x) between after (Err why)
-        → Gives told (λ held. all held start lines) before after (Err why)
+        → FilesGive told (λ held. one held s x) between after (Err why)
+        → FilesGive told (λ held. all held start lines) before after (Err why)
     carries_stop before between after (stop.Refused (Unread name)) stays is = (
       omega (arith, stays, is.0),
       elim is.1 [
@@ -142,10 +142,10 @@ module _ {S X Y : Type 0} (all : Held → S → List X → Result (List Y) Refus
         (is.0 ∙ stays, λ held said. here_stops held (Bad name fault) said (is.1 held said))
     carries_stop before between after stop.NoMemory stays is = omega (arith, stays, is)
 
-  pub carries_end : (told : Told) (start : S) (lines : List X) (s : S) (now : List Y)
+  pub carries_end : (told : FilesTold) (start : S) (lines : List X) (s : S) (now : List Y)
       (before after : ℕ)
       → after ≡ before → Carries all told start lines s [] now
-      → Gives told (λ held. all held start lines) before after (Ok now)
+      → FilesGive told (λ held. all held start lines) before after (Ok now)
   carries_end told start lines s now before after stays carries = (
     stays,
     λ held said. carries.here held said ∙ ap (onto now) (each.none held s)

@@ -10,12 +10,12 @@ use Rattle.cli_base.specs.declared.refusal.InputFault.{InputFault}
 use Rattle.cli_base.specs.declared.refusal.InputFault.TheVariants.{TooLong}
 use Rattle.cli_base.specs.declared.refusal.Refusal.{Refusal}
 use Rattle.cli_base.specs.declared.refusal.Refusal.TheVariants.{Unread, Bad}
-use Rattle.cli_base.specs.Inputs.{◌>>=◌, Held, fetched, fetched_bytes, image_of, in_file, input_of}
-use Rattle.cli_runs.specs.GuestFiles.{guest_image_of, guest_of, guests_of, input_limit, placed_at, placed_guest_of, read_input}
-use Rattle.cli_runs.specs.KernelFiles.{kernel_image_at, kernel_image_of, kernel_of, script_of}
+use Rattle.cli_base.specs.Inputs.{Held, fetched_bytes, file_or_refusal, image_of, in_file, input_of, ◌>>=◌}
+use Rattle.cli_runs.specs.GuestFiles.{guest_and_input, guest_image_of, guests_and_inputs, input_limit, placed_at, placed_guest_of, read_input}
+use Rattle.cli_runs.specs.KernelFiles.{kernel_image_at, kernel_image_of, kernel_of_line, script_of}
 use Rattle.cli_runs.specs.OwnerImages.{owners_of}
 use Rattle.cli_runs.specs.Parts.{parts_named, parts_of}
-use Rattle.cli_runs.specs.Places.{first_frame, frames_of}
+use Rattle.cli_runs.specs.Places.{first_frame, frames_of_guest}
 use Rattle.cli_runs.specs.RunFiles.{built_at, built_run_of, run_file_of}
 
 -- ---- Steps
@@ -38,8 +38,8 @@ bytes-unread n name limit (Some bytes) is =
     ] is)
 
 pub fetched-unread : (held : Held) (n name : List ℕ) (limit : ℕ)
-    → fetched held n limit ≡ Err (Unread name) → held name ≡ None
-unfolding fetched
+    → file_or_refusal held n limit ≡ Err (Unread name) → held name ≡ None
+unfolding file_or_refusal
 fetched-unread held n name limit is =
     let both = bytes-unread n name limit (held n) is in subst (λ m. held m ≡ None) both.0 both.1
 
@@ -52,7 +52,7 @@ pub input-unread : {A : Type 0} (limit : ℕ) (format : List ℕ → Result A In
     (n name : List ℕ)
     → input_of limit format held n ≡ Err (Unread name) → held name ≡ None
 input-unread limit format held n name is =
-    elim (bind-err (fetched held n limit) (λ bytes. in_file n (format bytes)) (Unread name) is) [
+    elim (bind-err (file_or_refusal held n limit) (λ bytes. in_file n (format bytes)) (Unread name) is) [
       | inl here ↦ fetched-unread held n name limit here
       | inr later ↦ absurd (in_file-unread n name (format later.0) later.2)
     ]
@@ -99,7 +99,7 @@ read_input-unread : (held : Held) (input : Option (List ℕ)) (name : List ℕ)
     → read_input held input ≡ Err (Unread name) → held name ≡ None
 read_input-unread held None name is = absurd (cc)
 read_input-unread held (Some n) name is =
-    elim (bind-err (fetched held n input_limit) _ (Unread name) is) [
+    elim (bind-err (file_or_refusal held n input_limit) _ (Unread name) is) [
       | inl here ↦ fetched-unread held n name input_limit here
       | inr bytes ↦ absurd (let last = bytes.2 in cc)
     ]
@@ -116,8 +116,8 @@ placed_guest-unread held run frames frame line name is =
     ]
 
 guest-unread : (held : Held) (run : List ℕ) (frames frame : ℕ) (line : GuestFile) (name : List ℕ)
-    → guest_of held run frames frame line ≡ Err (Unread name) → held name ≡ None
-unfolding guest_of
+    → guest_and_input held run frames frame line ≡ Err (Unread name) → held name ≡ None
+unfolding guest_and_input
 guest-unread held run frames frame line name is =
     elim (bind-err (placed_guest_of held run frames frame line) _ (Unread name) is) [
       | inl here ↦ placed_guest-unread held run frames frame line name here
@@ -129,14 +129,14 @@ guest-unread held run frames frame line name is =
 
 guests-unread : (held : Held) (run : List ℕ) (frames frame : ℕ) (lines : List GuestFile)
     (name : List ℕ)
-    → guests_of held run frames frame lines ≡ Err (Unread name) → held name ≡ None
+    → guests_and_inputs held run frames frame lines ≡ Err (Unread name) → held name ≡ None
 guests-unread held run frames frame [] name is = absurd (cc)
 guests-unread held run frames frame (line ∷ lines) name is =
-    elim (bind-err (guest_of held run frames frame line) _ (Unread name) is) [
+    elim (bind-err (guest_and_input held run frames frame line) _ (Unread name) is) [
       | inl here ↦ guest-unread held run frames frame line name here
-      | inr image ↦ elim (bind-err (guests_of held run frames (frame + frames_of image.0) lines)
+      | inr image ↦ elim (bind-err (guests_and_inputs held run frames (frame + frames_of_guest image.0) lines)
           _ (Unread name) image.2) [
-            | inl here ↦ guests-unread held run frames (frame + frames_of image.0) lines name here
+            | inl here ↦ guests-unread held run frames (frame + frames_of_guest image.0) lines name here
             | inr images ↦ absurd (let last = images.2 in cc)
           ]
     ]
@@ -158,8 +158,8 @@ kernel_image-unread held run frames number n name is =
 
 kernel-unread : (held : Held) (run : List ℕ) (frames number : ℕ) (kernel : KernelLine)
     (name : List ℕ)
-    → kernel_of held run frames number kernel ≡ Err (Unread name) → held name ≡ None
-unfolding kernel_of
+    → kernel_of_line held run frames number kernel ≡ Err (Unread name) → held name ≡ None
+unfolding kernel_of_line
 kernel-unread held run frames number (line.Script n) name is =
     elim (bind-err (script_of held n) _ (Unread name) is) [
       | inl here ↦ script-unread held n name here
@@ -180,10 +180,10 @@ unfolding parts_named
 named-unread held run file name is = elim (bind-err (owners_of held file.owners) _ (Unread name)
     is) [
       | inl here ↦ owners-unread held file.owners name here
-      | inr owners ↦ elim (bind-err (guests_of held run file.frames first_frame file.guests)
+      | inr owners ↦ elim (bind-err (guests_and_inputs held run file.frames first_frame file.guests)
           _ (Unread name) owners.2) [
             | inl here ↦ guests-unread held run file.frames first_frame file.guests name here
-            | inr guests ↦ elim (bind-err (kernel_of held run file.frames file.kernel_line file.kernel)
+            | inr guests ↦ elim (bind-err (kernel_of_line held run file.frames file.kernel_line file.kernel)
                 _ (Unread name) guests.2) [
                   | inl here ↦ kernel-unread held run file.frames file.kernel_line file.kernel name here
                   | inr kernel ↦ absurd (let last = kernel.2 in cc)

@@ -6,8 +6,8 @@ use Rattle.xom_script.specs.declared.run_file.GuestFile.{GuestFile}
 use Rattle.cli_base.specs.declared.refusal.InputFault.{InputFault}
 use Rattle.cli_base.specs.declared.refusal.InputFault.TheVariants.{BadByte, BadLine}
 use Rattle.cli_base.specs.declared.refusal.Refusal.{Refusal}
-use Rattle.cli_base.specs.Inputs.{◌>>=◌, Held, fetched, in_file, input_of}
-use Rattle.cli_runs.specs.Places.{fits_from, frames_of}
+use Rattle.cli_base.specs.Inputs.{Held, file_or_refusal, in_file, input_of, ◌>>=◌}
+use Rattle.cli_runs.specs.Places.{fits_from, frames_of_guest}
 use Rattle.cli_runs.specs.declared.guest_image.GuestImage.{GuestImage}
 
 -- ---- Sealed images
@@ -44,7 +44,7 @@ input_limit = 1048576
 abbrev pub read_input : Held → Option (List ℕ) → Result (Unit {0}) Refusal
 read_input held None = Ok tt
 read_input held (Some name) = do
-  bytes ← fetched held name input_limit
+  bytes ← file_or_refusal held name input_limit
   Ok tt
 
 -- the image of a guest, whose place is looked at right behind its grammar
@@ -54,8 +54,8 @@ placed_guest_of held run frames frame line = do
   in_file run (placed_at frames frame line.line image)
 
 -- and then its input
-unfoldable pub guest_of : Held → List ℕ → ℕ → ℕ → GuestFile → Result GuestImage Refusal
-guest_of held run frames frame line = do
+unfoldable pub guest_and_input : Held → List ℕ → ℕ → ℕ → GuestFile → Result GuestImage Refusal
+guest_and_input held run frames frame line = do
   image ← placed_guest_of held run frames frame line
   input ← read_input held line.input
   Ok image
@@ -63,9 +63,9 @@ guest_of held run frames frame line = do
 -- The images of the guests of these lines, one after the other, in a RAM of so many frames. The
 -- first stands from this frame on, and
 -- each other one right behind the guest before it.
-abbrev pub guests_of : Held → List ℕ → ℕ → ℕ → List GuestFile → Result (List GuestImage) Refusal
-guests_of held run frames frame [] = Ok []
-guests_of held run frames frame (line ∷ lines) = do
-  image ← guest_of held run frames frame line
-  images ← guests_of held run frames (frame + frames_of image) lines
+abbrev pub guests_and_inputs : Held → List ℕ → ℕ → ℕ → List GuestFile → Result (List GuestImage) Refusal
+guests_and_inputs held run frames frame [] = Ok []
+guests_and_inputs held run frames frame (line ∷ lines) = do
+  image ← guest_and_input held run frames frame line
+  images ← guests_and_inputs held run frames (frame + frames_of_guest image) lines
   Ok (image ∷ images)

@@ -39,14 +39,14 @@ kernel_image_of held run frames number name = do
 
 -- The kernel that the line of this number of the run file names, in a RAM of so many frames. The
 -- built-in one is refused before.
-unfoldable pub kernel_of : Held → List ℕ → ℕ → ℕ → KernelLine → Result KernelFile Refusal
-kernel_of held run frames number (line.Script name) = do
+unfoldable pub kernel_of_line : Held → List ℕ → ℕ → ℕ → KernelLine → Result KernelFile Refusal
+kernel_of_line held run frames number (line.Script name) = do
   script ← script_of held name
   Ok (kernel.Script script)
-kernel_of held run frames number (line.Image name) = do
+kernel_of_line held run frames number (line.Image name) = do
   image ← kernel_image_of held run frames number name
   Ok (kernel.Image image)
-kernel_of held run frames number (line.Xomos pages) = Err (Bad run NotBuilt)
+kernel_of_line held run frames number (line.Xomos pages) = Err (Bad run NotBuilt)
 
 -- what the machine wants of a kernel: its image lies in a RAM of so many frames
 abbrev pub FitsKernel : ℕ → KernelFile → Type 0

@@ -8,8 +8,8 @@ use Rattle.cli_base.specs.declared.refusal.Refusal.{Refusal}
 use Rattle.cli_base.specs.Inputs.{◌>>=◌, Held, image_of}
 
 -- the owner of a line, with the image that the named file holds
-abbrev pub owner_with : OwnerFile → PlainImage → Owner
-owner_with line image = record { plain = image; key = line.key; id = line.id }
+abbrev pub owner_with_image : OwnerFile → PlainImage → Owner
+owner_with_image line image = record { plain = image; key = line.key; id = line.id }
 
 -- the owners of these lines in their order, whose images are read one after the other
 abbrev pub owners_of : Held → List OwnerFile → Result (List Owner) Refusal
@@ -17,7 +17,7 @@ owners_of held [] = Ok []
 owners_of held (line ∷ lines) = do
   image ← image_of held line.plain
   owners ← owners_of held lines
-  Ok (owner_with line image ∷ owners)
+  Ok (owner_with_image line image ∷ owners)
 
 -- the owners have the keys and the ids of these lines, one after the other
 abbrev pub AreOwnersOf : List OwnerFile → List Owner → Type 0

@@ -3,8 +3,8 @@ use Rattle.std.specs.Prelude.{ℕ, List, Result, Ok}
 use Rattle.xom_script.specs.declared.run_file.RunFile.{RunFile}
 use Rattle.cli_base.specs.declared.refusal.Refusal.{Refusal}
 use Rattle.cli_base.specs.Inputs.{◌>>=◌, Held}
-use Rattle.cli_runs.specs.GuestFiles.{guests_of}
-use Rattle.cli_runs.specs.KernelFiles.{FitsKernel, kernel_of}
+use Rattle.cli_runs.specs.GuestFiles.{guests_and_inputs}
+use Rattle.cli_runs.specs.KernelFiles.{FitsKernel, kernel_of_line}
 use Rattle.cli_runs.specs.OwnerImages.{AreWhole, owners_of}
 use Rattle.cli_runs.specs.Places.{FitsAll, first_frame}
 use Rattle.cli_runs.specs.RunFiles.{IsRunnable, built_run_of}
@@ -14,8 +14,8 @@ use Rattle.cli_runs.specs.declared.parts.Parts.{Parts}
 unfoldable pub parts_named : Held → List ℕ → RunFile → Result Parts Refusal
 parts_named held run file = do
   owners ← owners_of held file.owners
-  guests ← guests_of held run file.frames first_frame file.guests
-  kernel ← kernel_of held run file.frames file.kernel_line file.kernel
+  guests ← guests_and_inputs held run file.frames first_frame file.guests
+  kernel ← kernel_of_line held run file.frames file.kernel_line file.kernel
   Ok (record { file = file; owners = owners; guests = guests; kernel = kernel })
 
 -- a run file, and then what it names

@@ -18,23 +18,23 @@ first_frame = 16
 
 -- one frame for the envelope, and one for each page of the image, of which the last may be begun
 -- alone
-abbrev pub frames_of : GuestImage → ℕ
-frames_of image = 1 + (length image.lines + 127) / page_lines
+abbrev pub frames_of_guest : GuestImage → ℕ
+frames_of_guest image = 1 + (length image.lines + 127) / page_lines
 
 -- the guest, whose envelope is to stand in this frame, lies in a RAM of so many
 abbrev pub fits_from : ℕ → ℕ → GuestImage → Bool
-fits_from frames frame image = nat_le (frame + frames_of image) frames
+fits_from frames frame image = nat_le (frame + frames_of_guest image) frames
 
 -- all guests, of which the first stands from this frame on, lie in a RAM of so many
 abbrev pub FitsAll : ℕ → ℕ → List GuestImage → Type 0
 FitsAll frames frame [] = Unit {0}
 FitsAll frames frame (image ∷ images) =
-    (frame + frames_of image ≤ frames) × FitsAll frames (frame + frames_of image) images
+    (frame + frames_of_guest image ≤ frames) × FitsAll frames (frame + frames_of_guest image) images
 
 -- the frame behind all guests, of which the first stands from this frame on
 abbrev pub frame_behind : ℕ → List GuestImage → ℕ
 frame_behind frame [] = frame
-frame_behind frame (image ∷ images) = frame_behind (frame + frames_of image) images
+frame_behind frame (image ∷ images) = frame_behind (frame + frames_of_guest image) images
 
 -- ---- The kernel
 

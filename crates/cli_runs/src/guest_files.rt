@@ -1,8 +1,8 @@
 ghost use Rattle.std.specs.Prelude.{◌≡◌, ◌+◌, ◌≤◌, IfOk, string_bytes};
-ghost use Rattle.cli_base.specs.Inputs.{Answers};
-ghost use Rattle.cli_base.specs.Readings.{Gives};
-ghost use Rattle.cli_runs.specs.Places.{FitsAll, first_frame, frames_of};
-ghost use Rattle.cli_runs.specs.GuestFiles.{guest_image_at, guest_image_of, guest_of, guests_of, placed_at, placed_guest_of, read_input};
+ghost use Rattle.cli_base.specs.Inputs.{InputAnswers};
+ghost use Rattle.cli_base.specs.Readings.{FilesGive};
+ghost use Rattle.cli_runs.specs.Places.{FitsAll, first_frame, frames_of_guest};
+ghost use Rattle.cli_runs.specs.GuestFiles.{guest_and_input, guest_image_at, guest_image_of, guests_and_inputs, placed_at, placed_guest_of, read_input};
 
 use crate::guest_image::{FIRST_FRAME, GuestImage, GuestImageList, fits_from, frames_of};
 use cli_base::{InputFault, InputStop, Stop, fetch, of_file};
@@ -27,7 +27,7 @@ pub fn guests<F: Files>(
     frames: u32,
     lines: &GuestFileList,
 ) -> Result<GuestImageList, Stop>
-    ensures gives { Gives (F.held files.old) (λ held. guests_of held (string_bytes run.now) frames first_frame lines.now)
+    ensures gives { FilesGive (F.held files.old) (λ held. guests_and_inputs held (string_bytes run.now) frames first_frame lines.now)
         (F.reads files.old) (F.reads files.new) result }
     ensures fit { IfOk result (FitsAll frames first_frame) }
     ensures names { F.held files.new ≡ F.held files.old }
@@ -44,7 +44,7 @@ pub fn guests<F: Files>(
 }
 
 /// The image of the guest of a line, which is to stand from this frame on. Its input is read behind it.
-#[tactic(auto, unfolding(crate::specs::GuestFiles::guest_of))]
+#[tactic(auto, unfolding(crate::specs::GuestFiles::guest_and_input))]
 fn guest<F: Files>(
     alloc: Global,
     files: &mut F,
@@ -53,9 +53,9 @@ fn guest<F: Files>(
     frame: u32,
     line: &GuestFile,
 ) -> Result<GuestImage, Stop>
-    ensures gives { Gives (F.held files.old) (λ held. guest_of held (string_bytes run.now) frames frame line.now)
+    ensures gives { FilesGive (F.held files.old) (λ held. guest_and_input held (string_bytes run.now) frames frame line.now)
         (F.reads files.old) (F.reads files.new) result }
-    ensures fits { IfOk result (λ image. frame + frames_of image ≤ frames) }
+    ensures fits { IfOk result (λ image. frame + frames_of_guest image ≤ frames) }
     ensures names { F.held files.new ≡ F.held files.old }
     ensures writes { F.writes files.new ≡ F.writes files.old }
 {
@@ -74,9 +74,9 @@ fn placed_guest<F: Files>(
     frame: u32,
     line: &GuestFile,
 ) -> Result<GuestImage, Stop>
-    ensures gives { Gives (F.held files.old) (λ held. placed_guest_of held (string_bytes run.now) frames frame line.now)
+    ensures gives { FilesGive (F.held files.old) (λ held. placed_guest_of held (string_bytes run.now) frames frame line.now)
         (F.reads files.old) (F.reads files.new) result }
-    ensures fits { IfOk result (λ image. frame + frames_of image ≤ frames) }
+    ensures fits { IfOk result (λ image. frame + frames_of_guest image ≤ frames) }
     ensures names { F.held files.new ≡ F.held files.old }
     ensures writes { F.writes files.new ≡ F.writes files.old }
 {
@@ -87,7 +87,7 @@ fn placed_guest<F: Files>(
 /// The image of the sealed image file of this name.
 #[tactic(auto, unfolding(crate::specs::GuestFiles::guest_image_of))]
 fn guest_image<F: Files>(alloc: Global, files: &mut F, name: &String) -> Result<GuestImage, Stop>
-    ensures gives { Gives (F.held files.old) (λ held. guest_image_of held (string_bytes name.now))
+    ensures gives { FilesGive (F.held files.old) (λ held. guest_image_of held (string_bytes name.now))
         (F.reads files.old) (F.reads files.new) result }
     ensures names { F.held files.new ≡ F.held files.old }
     ensures writes { F.writes files.new ≡ F.writes files.old }
@@ -99,7 +99,7 @@ fn guest_image<F: Files>(alloc: Global, files: &mut F, name: &String) -> Result<
 /// The image of the bytes of a sealed image file.
 #[tactic(auto, unfolding(crate::specs::GuestFiles::guest_image_at))]
 fn guest_image_in(alloc: Global, bytes: &ByteList) -> Result<GuestImage, InputStop>
-    ensures { Answers (guest_image_at bytes.now) result }
+    ensures { InputAnswers (guest_image_at bytes.now) result }
 {
     match read_sealed(alloc, bytes) {
         Ok(image) => {
@@ -116,8 +116,8 @@ fn guest_image_in(alloc: Global, bytes: &ByteList) -> Result<GuestImage, InputSt
 
 /// The guest of this line, where it lies in RAM.
 fn placed(frames: u32, frame: u32, line: u64, image: GuestImage) -> Result<GuestImage, InputStop>
-    ensures value { Answers (placed_at frames frame line image) result }
-    ensures fits { IfOk result (λ placed. frame + frames_of placed ≤ frames) }
+    ensures value { InputAnswers (placed_at frames frame line image) result }
+    ensures fits { IfOk result (λ placed. frame + frames_of_guest placed ≤ frames) }
 {
     if fits_from(frames, frame, &image) {
         Ok(image)
@@ -128,7 +128,7 @@ fn placed(frames: u32, frame: u32, line: u64, image: GuestImage) -> Result<Guest
 
 /// Reads the input of a guest, where it names one. It isn't kept.
 fn input<F: Files>(files: &mut F, name: &Option<Name>) -> Result<(), Stop>
-    ensures gives { Gives (F.held files.old) (λ held. read_input held name.now)
+    ensures gives { FilesGive (F.held files.old) (λ held. read_input held name.now)
         (F.reads files.old) (F.reads files.new) result }
     ensures names { F.held files.new ≡ F.held files.old }
     ensures writes { F.writes files.new ≡ F.writes files.old }

@@ -1,5 +1,5 @@
 ghost use Rattle.std.specs.Prelude.{◌≡◌, ◌≤◌, ◌^◌, true};
-ghost use Rattle.cli_runs.specs.Places.{fits_from, frames_of};
+ghost use Rattle.cli_runs.specs.Places.{fits_from, frames_of_guest};
 
 use xom_base::List;
 use xom_image::SealedLineList;
@@ -25,7 +25,7 @@ pub type GuestImageList = List<GuestImage>;
 /// How many frames of RAM a guest takes at power-on: one for its envelope, and one for each page of its
 /// image, of which the last may be begun alone.
 pub fn frames_of(image: &GuestImage) -> u64
-    ensures value { result ≡ frames_of image.now }
+    ensures value { result ≡ frames_of_guest image.now }
     ensures few { result ≤ 2 ^ 60 }
 {
     1 + (image.lines.as_slice().len() as u64 + 127) / PAGE_LINES

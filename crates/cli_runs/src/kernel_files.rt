@@ -1,7 +1,7 @@
 ghost use Rattle.std.specs.Prelude.{◌≡◌, IfOk, string_bytes};
-ghost use Rattle.cli_base.specs.Inputs.{Answers};
-ghost use Rattle.cli_base.specs.Readings.{Gives};
-ghost use Rattle.cli_runs.specs.KernelFiles.{FitsKernel, kernel_image_at, kernel_image_of, kernel_of, script_of};
+ghost use Rattle.cli_base.specs.Inputs.{InputAnswers};
+ghost use Rattle.cli_base.specs.Readings.{FilesGive};
+ghost use Rattle.cli_runs.specs.KernelFiles.{FitsKernel, kernel_image_at, kernel_image_of, kernel_of_line, script_of};
 ghost use Rattle.cli_runs.specs.Places.{kernel_fits};
 ghost use Rattle.cli_runs.specs.declared.kernel_file.KernelFile.TheVariants as file;
 
@@ -22,7 +22,7 @@ const KERNEL_LIMIT: u64 = 131_072;
 const FRAME_SIZE: u64 = 8_192;
 
 /// The kernel that the line of this number of the run file names, in a RAM of so many frames.
-#[tactic(auto, unfolding(crate::specs::KernelFiles::kernel_of))]
+#[tactic(auto, unfolding(crate::specs::KernelFiles::kernel_of_line))]
 pub fn kernel<F: Files>(
     alloc: Global,
     files: &mut F,
@@ -31,7 +31,7 @@ pub fn kernel<F: Files>(
     number: u64,
     line: &KernelLine,
 ) -> Result<KernelFile, Stop>
-    ensures gives { Gives (F.held files.old) (λ held. kernel_of held (string_bytes run.now) frames number line.now)
+    ensures gives { FilesGive (F.held files.old) (λ held. kernel_of_line held (string_bytes run.now) frames number line.now)
         (F.reads files.old) (F.reads files.new) result }
     ensures fits { IfOk result (FitsKernel frames) }
     ensures names { F.held files.new ≡ F.held files.old }
@@ -54,7 +54,7 @@ pub fn kernel<F: Files>(
 /// The script of this name.
 #[tactic(auto, unfolding(crate::specs::KernelFiles::script_of))]
 fn script<F: Files>(alloc: Global, files: &mut F, name: &String) -> Result<Script, Stop>
-    ensures gives { Gives (F.held files.old) (λ held. script_of held (string_bytes name.now))
+    ensures gives { FilesGive (F.held files.old) (λ held. script_of held (string_bytes name.now))
         (F.reads files.old) (F.reads files.new) result }
     ensures names { F.held files.new ≡ F.held files.old }
     ensures writes { F.writes files.new ≡ F.writes files.old }
@@ -73,7 +73,7 @@ fn kernel_image<F: Files>(
     number: u64,
     name: &String,
 ) -> Result<PlainImage, Stop>
-    ensures gives { Gives (F.held files.old) (λ held. kernel_image_of held (string_bytes run.now) frames number (string_bytes name.now))
+    ensures gives { FilesGive (F.held files.old) (λ held. kernel_image_of held (string_bytes run.now) frames number (string_bytes name.now))
         (F.reads files.old) (F.reads files.new) result }
     ensures fits { IfOk result (λ image. FitsKernel frames (file.Image image)) }
     ensures names { F.held files.new ≡ F.held files.old }
@@ -85,7 +85,7 @@ fn kernel_image<F: Files>(
 
 /// The image of a kernel, where RAM has room for it.
 fn fitting(frames: u32, number: u64, image: PlainImage) -> Result<PlainImage, InputStop>
-    ensures value { Answers (kernel_image_at frames number image) result }
+    ensures value { InputAnswers (kernel_image_at frames number image) result }
     ensures fits { IfOk result (λ image. FitsKernel frames (file.Image image)) }
 {
     if kernel_fits(frames, &image) {

@@ -1,5 +1,5 @@
 ghost use Rattle.std.specs.Prelude.{◌≡◌, IfOk};
-ghost use Rattle.cli_base.specs.Readings.{Gives};
+ghost use Rattle.cli_base.specs.Readings.{FilesGive};
 ghost use Rattle.cli_runs.specs.OwnerImages.{AreOwnersOf, owners_of};
 
 use cli_base::{Stop, image};
@@ -14,7 +14,7 @@ pub fn owners<F: Files>(
     files: &mut F,
     lines: &OwnerFileList,
 ) -> Result<OwnerList, Stop>
-    ensures gives { Gives (F.held files.old) (λ held. owners_of held lines.now)
+    ensures gives { FilesGive (F.held files.old) (λ held. owners_of held lines.now)
         (F.reads files.old) (F.reads files.new) result }
     ensures named { IfOk result (AreOwnersOf lines.now) }
     ensures names { F.held files.new ≡ F.held files.old }

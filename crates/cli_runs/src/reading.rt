@@ -1,5 +1,5 @@
 ghost use Rattle.std.specs.Prelude.{◌≡◌, IfOk, string_bytes};
-ghost use Rattle.cli_base.specs.Readings.{Gives};
+ghost use Rattle.cli_base.specs.Readings.{FilesGive};
 ghost use Rattle.cli_runs.specs.Parts.{CanRun, parts_named, parts_of};
 ghost use Rattle.cli_runs.specs.RunFiles.{IsRunnable};
 
@@ -17,7 +17,7 @@ use xom_script::RunFile;
 /// lines. The first that can't be read, is off its grammar or doesn't fit RAM is refused.
 #[tactic(auto, unfolding(crate::specs::Parts::parts_of))]
 pub fn read_parts<F: Files>(alloc: Global, files: &mut F, run: &String) -> Result<Parts, Stop>
-    ensures gives { Gives (F.held files.old) (λ held. parts_of held (string_bytes run.now))
+    ensures gives { FilesGive (F.held files.old) (λ held. parts_of held (string_bytes run.now))
         (F.reads files.old) (F.reads files.new) result }
     ensures runnable { IfOk result CanRun }
     ensures names { F.held files.new ≡ F.held files.old }
@@ -36,7 +36,7 @@ fn parts_named<F: Files>(
     file: RunFile,
 ) -> Result<Parts, Stop>
     requires { IsRunnable file }
-    ensures gives { Gives (F.held files.old) (λ held. parts_named held (string_bytes run.now) file)
+    ensures gives { FilesGive (F.held files.old) (λ held. parts_named held (string_bytes run.now) file)
         (F.reads files.old) (F.reads files.new) result }
     ensures runnable { IfOk result CanRun }
     ensures names { F.held files.new ≡ F.held files.old }

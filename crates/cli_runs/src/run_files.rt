@@ -1,7 +1,7 @@
 ghost use Rattle.std.specs.Prelude.{◌≡◌, IfOk, string_bytes};
 ghost use Rattle.xom_script.specs.RunFiles.{run_file_at};
-ghost use Rattle.cli_base.specs.Inputs.{Answers, in_lines};
-ghost use Rattle.cli_base.specs.Readings.{Gives};
+ghost use Rattle.cli_base.specs.Inputs.{InputAnswers, in_lines};
+ghost use Rattle.cli_base.specs.Readings.{FilesGive};
 ghost use Rattle.cli_runs.specs.RunFiles.{IsRunnable, built_at, built_run_of, is_built, run_file_of};
 
 use cli_base::{InputFault, InputStop, Stop, fetch, lined, of_file};
@@ -15,7 +15,7 @@ const RUN_LIMIT: u64 = 65_536;
 /// The run file of this name, whatever kernel it asks for.
 #[tactic(auto, unfolding(crate::specs::RunFiles::run_file_of))]
 pub fn run_file<F: Files>(alloc: Global, files: &mut F, name: &String) -> Result<RunFile, Stop>
-    ensures gives { Gives (F.held files.old) (λ held. run_file_of held (string_bytes name.now))
+    ensures gives { FilesGive (F.held files.old) (λ held. run_file_of held (string_bytes name.now))
         (F.reads files.old) (F.reads files.new) result }
     ensures runnable { IfOk result IsRunnable }
     ensures names { F.held files.new ≡ F.held files.old }
@@ -27,7 +27,7 @@ pub fn run_file<F: Files>(alloc: Global, files: &mut F, name: &String) -> Result
 
 /// The run file of a text.
 fn run_in(alloc: Global, text: &[u8]) -> Result<RunFile, InputStop>
-    ensures value { Answers (in_lines (run_file_at text.now)) result }
+    ensures value { InputAnswers (in_lines (run_file_at text.now)) result }
     ensures runnable { IfOk result IsRunnable }
 {
     lined(read_run(alloc, text))
@@ -36,7 +36,7 @@ fn run_in(alloc: Global, text: &[u8]) -> Result<RunFile, InputStop>
 /// The run file of this name. Refused where its kernel isn't built.
 #[tactic(auto, unfolding(crate::specs::RunFiles::built_run_of))]
 pub fn built_run<F: Files>(alloc: Global, files: &mut F, name: &String) -> Result<RunFile, Stop>
-    ensures gives { Gives (F.held files.old) (λ held. built_run_of held (string_bytes name.now))
+    ensures gives { FilesGive (F.held files.old) (λ held. built_run_of held (string_bytes name.now))
         (F.reads files.old) (F.reads files.new) result }
     ensures runnable { IfOk result IsRunnable }
     ensures names { F.held files.new ≡ F.held files.old }
@@ -48,7 +48,7 @@ pub fn built_run<F: Files>(alloc: Global, files: &mut F, name: &String) -> Resul
 
 /// The run file, where its kernel is built.
 fn built(file: RunFile) -> Result<RunFile, InputStop>
-    ensures value { Answers (built_at file) result }
+    ensures value { InputAnswers (built_at file) result }
     ensures same { IfOk result (λ built. built ≡ file) }
 {
     if is_built(&file.kernel) {

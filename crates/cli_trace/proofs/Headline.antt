@@ -14,14 +14,14 @@ use Rattle.cli_runs.specs.declared.kernel_file.KernelFile.TheVariants as kernel
 use Rattle.cli_runs.specs.declared.parts.Parts.{Parts}
 use Rattle.cli_base.specs.Inputs.{Held}
 use Rattle.xom_base.proofs.LineLaws.{same_Ok}
-use Rattle.xom_io.specs.Answers.{Told}
+use Rattle.xom_io.specs.Answers.{FilesTold}
 use Rattle.cli_runs.specs.Parts.{CanRun, parts_of}
 use Rattle.cli_runs.specs.RunFiles.{IsRunnable}
 use Rattle.cli_runs.specs.declared.guest_image.GuestImage.{GuestImage}
 use Rattle.xom_base.specs.declared.image.PlainImage.{PlainImage}
 use Rattle.xom_script.specs.declared.run_file.RunFile.{RunFile}
 use Rattle.kernels.specs.Turns.{image_told, script_told}
-use Rattle.power_on.specs.Shipped.{ShippedStands, shipped}
+use Rattle.power_on.specs.Shipped.{ShippedStands, shipped_versions}
 use Rattle.power_on.specs.Start.{first_record, null_entry, ram_at_start}
 use Rattle.power_on.proofs.ShippedLaw.{shipped_law}
 use Rattle.cli_trace.specs.Trace.{GuestsFollow, RunFollows, last_by, last_record}
@@ -30,7 +30,7 @@ use Rattle.cli_trace.proofs.Runnable.{are_owners, is_schedule}
 module _ (file : RunFile) (runnable : IsRunnable file) (guests : List GuestImage)
     (code : Option PlainImage) where
   abbrev first : Record
-  first = first_record shipped file.machine file.boot file.frames code guests
+  first = first_record shipped_versions file.machine file.boot file.frames code guests
 
   low : file.boot < 2 ^ 64
   low = let booted : file.boot < 2 ^ 63 = runnable.boot in omega arith
@@ -38,9 +38,9 @@ module _ (file : RunFile) (runnable : IsRunnable file) (guests : List GuestImage
   -- the last record of a run comes from power-on by events that may come
   from_run : {K : Type 0} (told : K → View → Option (Turn × (List ℕ × K))) (k : K)
       (last : Option Record)
-      → run_from shipped told file.schedule file.budget 0 first k ≡ last
+      → run_from shipped_versions told file.schedule file.budget 0 first k ≡ last
       → IsBounded (unwrap_or last first).core.entries
-      → CameFromPowerOn shipped file.machine (unwrap_or last first)
+      → CameFromPowerOn shipped_versions file.machine (unwrap_or last first)
   from_run told k None is few = record {
     boot = file.boot;
     ram = ram_at_start file.frames code guests;
@@ -52,7 +52,7 @@ module _ (file : RunFile) (runnable : IsRunnable file) (guests : List GuestImage
     room = few;
   }
   from_run told k (Some last) is few =
-      let run = run-IsRunOf shipped told file.schedule (is_schedule file.frames file.schedule
+      let run = run-IsRunOf shipped_versions told file.schedule (is_schedule file.frames file.schedule
       runnable.schedule) file.budget 0 first k last is in
       record {
         boot = file.boot;
@@ -67,7 +67,7 @@ module _ (file : RunFile) (runnable : IsRunnable file) (guests : List GuestImage
 
 from_kernel : (file : RunFile) → IsRunnable file → (guests : List GuestImage) (k : KernelFile)
     → IsBounded (last_by file guests k).core.entries
-    → CameFromPowerOn shipped file.machine (last_by file guests k)
+    → CameFromPowerOn shipped_versions file.machine (last_by file guests k)
 from_kernel file runnable guests (kernel.Script script) few =
     from_run file runnable guests None script_told script.lines _ refl few
 from_kernel file runnable guests (kernel.Image image) few =
@@ -77,13 +77,13 @@ pub guests_follow : (parts : Parts) → CanRun parts → IsBounded (last_record 
     → GuestsFollow parts
 unfolding last_record
 guests_follow parts can few =
-    runs-judged shipped ShippedStands shipped_law parts.owners (are_owners parts.owners can.owners)
+    runs-judged shipped_versions ShippedStands shipped_law parts.owners (are_owners parts.owners can.owners)
     parts.file.machine
     (last_by parts.file parts.guests parts.kernel) (from_kernel parts.file can.file parts.guests
     parts.kernel few)
 
 -- what is so of the parts that were read is so of the run file
-pub run_follows : (told : Told) (run : List ℕ) (parts : Parts)
+pub run_follows : (told : FilesTold) (run : List ℕ) (parts : Parts)
     → ((held : Held) → told ≡ Some held → parts_of held run ≡ Ok parts) → GuestsFollow parts
     → RunFollows told run
 run_follows told run parts read follow held is other also =

@@ -12,7 +12,7 @@ use Rattle.headline_law.specs.Headline.{AllFollow, NamesNothing}
 use Rattle.cli_runs.specs.declared.parts.Parts.{Parts}
 use Rattle.cli_base.specs.Commands.{IsDone}
 use Rattle.cli_trace.specs.Run.{console_run}
-use Rattle.cli_trace.specs.Trace.{GuestsFollow, NamesFinding, ending_status, last_record, report_of, trace_status, traced}
+use Rattle.cli_trace.specs.Trace.{GuestsFollow, NamesFinding, ending_status, last_record, report_of, trace_answer, trace_status}
 
 ended : (halted : Bool) (fault : Option (ℕ × NullFault)) → IsDone (ending_status halted fault)
 ended true None = inl refl
@@ -29,8 +29,8 @@ trace_status-done report r =
     chosen (is_suspect report) (list_any is_stop r.core.entries) (ending_status r.halted r.fault)
     (ended r.halted r.fault)
 
-pub traced-done : (journal : Option (List ℕ)) (parts : Parts) → IsDone (traced journal parts).status
-unfolding traced
+pub traced-done : (journal : Option (List ℕ)) (parts : Parts) → IsDone (trace_answer journal parts).status
+unfolding trace_answer
 traced-done journal parts = trace_status-done (report_of parts) (last_record parts)
 
 pub console_run-done : (parts : Parts) → IsDone (console_run parts).status

@@ -19,7 +19,7 @@ console_run parts =
     }
 
 -- the answer of the command
-unfoldable pub run_of : Held → List ℕ → Result Answer Refusal
-run_of held run = do
+unfoldable pub run_answer : Held → List ℕ → Result Answer Refusal
+run_answer held run = do
   parts ← parts_of held run
   Ok (console_run parts)

@@ -16,7 +16,7 @@ use Rattle.xom_model.specs.declared.outcome.Turn.{Turn}
 use Rattle.xom_model.specs.Run.{run_from}
 use Rattle.xom_model.specs.Seen.{View}
 use Rattle.xom_model.specs.State.{Record}
-use Rattle.power_on.specs.Shipped.{shipped}
+use Rattle.power_on.specs.Shipped.{shipped_versions}
 use Rattle.power_on.specs.Start.{first_record}
 use Rattle.kernels.specs.Turns.{image_told, script_told}
 use Rattle.journal_text.specs.JournalTexts.{journal_text}
@@ -31,26 +31,26 @@ use Rattle.cli_runs.specs.declared.kernel_file.KernelFile.TheVariants as kernel
 use Rattle.cli_runs.specs.declared.parts.Parts.{Parts}
 use Rattle.cli_runs.specs.Parts.{parts_of}
 use Rattle.headline_law.specs.Headline.{IsJudgedWell}
-use Rattle.xom_io.specs.Answers.{Told}
+use Rattle.xom_io.specs.Answers.{FilesTold}
 use Rattle.cli_trace.specs.Console.{console_lines, console_of}
 
 -- ---- What is run and judged
 
 -- the image of a kernel that is code
-abbrev pub code_of : KernelFile → Option PlainImage
-code_of (kernel.Script script) = None
-code_of (kernel.Image image) = Some image
+abbrev pub kernel_code : KernelFile → Option PlainImage
+kernel_code (kernel.Script script) = None
+kernel_code (kernel.Image image) = Some image
 
 -- the machine before its first event, with the kernel and these guests in RAM
 abbrev pub first_of : RunFile → List GuestImage → KernelFile → Record
-first_of file guests k = first_record shipped file.machine file.boot file.frames (code_of k) guests
+first_of file guests k = first_record shipped_versions file.machine file.boot file.frames (kernel_code k) guests
 
 -- the machine after the run of a kernel that tells its turns, under the schedule and within the
 -- budget of a run file
 abbrev pub last_under : {K : Type 0} → (K → View → Option (Turn × (List ℕ × K))) → K → RunFile
     → Record → Record
 last_under told k file first =
-    unwrap_or (run_from shipped told file.schedule file.budget 0 first k) first
+    unwrap_or (run_from shipped_versions told file.schedule file.budget 0 first k) first
 
 abbrev pub last_by : RunFile → List GuestImage → KernelFile → Record
 last_by file guests (kernel.Script script) =
@@ -79,14 +79,14 @@ abbrev pub kind_text : NullFault → List ℕ
 kind_text why = codes " " ++ (fault_word why ++ codes "\n")
 
 -- the line's end for a fault of the null instruction at an address
-abbrev pub fault_text : ℕ → NullFault → List ℕ
-fault_text at why = codes " kernel fault at " ++ (hex8 at ++ kind_text why)
+abbrev pub kernel_fault_text : ℕ → NullFault → List ℕ
+kernel_fault_text at why = codes " kernel fault at " ++ (hex8 at ++ kind_text why)
 
 -- how a run ended: by Halt, by a fault of the null instruction at an address, or since the budget
 -- was reached
 abbrev pub stop_text : Option (ℕ × NullFault) → List ℕ
 stop_text None = codes " halted\n"
-stop_text (Some (at, why)) = fault_text at why
+stop_text (Some (at, why)) = kernel_fault_text at why
 
 abbrev pub ending_text : Bool → Option (ℕ × NullFault) → List ℕ
 ending_text true fault = stop_text fault
@@ -125,8 +125,8 @@ journal_file None entries = None
 journal_file (Some name) entries = Some (record { name = name; bytes = journal_text entries })
 
 -- that text, with the journal's file and the status
-abbrev pub answer_of : Option (List ℕ) → Report → Record → Answer
-answer_of journal report r =
+abbrev pub answer_of_run : Option (List ℕ) → Report → Record → Answer
+answer_of_run journal report r =
     record {
       text = trace_text report r;
       file = journal_file journal r.core.entries;
@@ -134,14 +134,14 @@ answer_of journal report r =
           trace_status report r;
     }
 
-unfoldable pub traced : Option (List ℕ) → Parts → Answer
-traced journal parts = answer_of journal (report_of parts) (last_record parts)
+unfoldable pub trace_answer : Option (List ℕ) → Parts → Answer
+trace_answer journal parts = answer_of_run journal (report_of parts) (last_record parts)
 
 -- the answer of the command
 unfoldable pub trace_of : Held → List ℕ → Option (List ℕ) → Result Answer Refusal
 trace_of held run journal = do
   parts ← parts_of held run
-  Ok (traced journal parts)
+  Ok (trace_answer journal parts)
 
 -- ---- The headline
 
@@ -155,7 +155,7 @@ abbrev pub GuestsFollow : Parts → Type 0
 GuestsFollow parts = IsJudgedWell parts.file.machine parts.owners (last_record parts).core.entries
 
 -- so it is of the run that this run file tells, where files tell what they hold
-abbrev pub RunFollows : Told → List ℕ → Type 0
+abbrev pub RunFollows : FilesTold → List ℕ → Type 0
 RunFollows told run =
     (held : Held) → told ≡ Some held → (parts : Parts) → parts_of held run ≡ Ok parts
     → GuestsFollow parts

@@ -8,7 +8,7 @@ ghost use Rattle.cli_runs.specs.declared.kernel_file.KernelFile.TheVariants as k
 ghost use Rattle.cli_trace.specs.Trace.{GuestsFollow, last_by, last_record, report_of, trace_status};
 ghost use Rattle.xom_model.specs.Honest.{IsBounded};
 ghost use Rattle.trace_judge.specs.Suspicion.{is_stop as is_stop_by};
-ghost use Rattle.power_on.specs.Shipped.{shipped};
+ghost use Rattle.power_on.specs.Shipped.{shipped_versions};
 ghost use Rattle.xom_model.specs.Run.{run_from};
 
 use cli_runs::{GuestImageList, KernelFile, Parts};
@@ -128,7 +128,7 @@ fn run_under<K: Kernel + Drop>(
 ) -> Result<ShippedMachine, NoMemory>
     requires first { machine.state.events ≡ 0 }
     requires file { IsRunnable file.now }
-    ensures { IfOk result (λ last. IfSome (run_from shipped K.told file.now.schedule file.now.budget 0 machine.state kernel) (λ r. last.state ≡ r)) }
+    ensures { IfOk result (λ last. IfSome (run_from shipped_versions K.told file.now.schedule file.now.budget 0 machine.state kernel) (λ r. last.state ≡ r)) }
 {
     let mut machine = machine;
     let mut kernel = kernel;

@@ -1,8 +1,8 @@
 ghost use Rattle.std.specs.Prelude.{◌≡◌, IfOk, string_bytes};
 ghost use Rattle.cli_base.specs.Commands.{IsDone};
-ghost use Rattle.cli_base.specs.Readings.{Gives};
+ghost use Rattle.cli_base.specs.Readings.{FilesGive};
 ghost use Rattle.cli_runs.specs.Parts.{CanRun};
-ghost use Rattle.cli_trace.specs.Run.{console_run, run_of};
+ghost use Rattle.cli_trace.specs.Run.{console_run, run_answer};
 ghost use Rattle.cli_trace.specs.Trace.{GuestsFollow, RunFollows};
 
 use crate::console::console;
@@ -15,9 +15,9 @@ use xom_io::Files;
 
 /// `run RUN`: makes the run that `trace` makes, and prints its console alone. The status is that of
 /// its trace, for which the journal is judged here too.
-#[tactic(auto, unfolding(crate::specs::Run::run_of))]
+#[tactic(auto, unfolding(crate::specs::Run::run_answer))]
 pub fn run<F: Files>(alloc: Global, files: &mut F, run: &String) -> Result<Answer, Stop>
-    ensures gives { Gives (F.held files.old) (λ held. run_of held (string_bytes run.now))
+    ensures gives { FilesGive (F.held files.old) (λ held. run_answer held (string_bytes run.now))
         (F.reads files.old) (F.reads files.new) result }
     ensures done { IfOk result (λ answer. IsDone answer.status) }
     ensures follow { IfOk result (λ _. RunFollows (F.held files.old) (string_bytes run.now)) }

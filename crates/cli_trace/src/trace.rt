@@ -1,8 +1,8 @@
 ghost use Rattle.std.specs.Prelude.{◌≡◌, ◌++◌, IfOk, OnOk, option_map, string_bytes};
 ghost use Rattle.cli_base.specs.Commands.{IsDone};
-ghost use Rattle.cli_base.specs.Readings.{Gives};
+ghost use Rattle.cli_base.specs.Readings.{FilesGive};
 ghost use Rattle.cli_runs.specs.Parts.{CanRun};
-ghost use Rattle.cli_trace.specs.Trace.{GuestsFollow, RunFollows, answer_of, events_line, fault_text, fault_word as fault_word_of, journal_file as journal_file_of, kind_text, trace_of, traced as traced_of};
+ghost use Rattle.cli_trace.specs.Trace.{GuestsFollow, RunFollows, answer_of_run, events_line, fault_word as fault_word_of, journal_file as journal_file_of, kernel_fault_text, kind_text, trace_answer as traced_of, trace_of};
 
 use crate::console::{console, end_line};
 use crate::made::{JudgedRun, judged, status};
@@ -27,7 +27,7 @@ pub fn trace<F: Files>(
     run: &String,
     journal: Option<&String>,
 ) -> Result<Answer, Stop>
-    ensures gives { Gives (F.held files.old)
+    ensures gives { FilesGive (F.held files.old)
         (λ held. trace_of held (string_bytes run.now) (option_map (λ name. string_bytes name.now) journal.entry))
         (F.reads files.old) (F.reads files.new) result }
     ensures done { IfOk result (λ answer. IsDone answer.status) }
@@ -40,7 +40,7 @@ pub fn trace<F: Files>(
 }
 
 /// Makes the run, and says what a trace has to say of it.
-#[tactic(auto, unfolding(crate::specs::Trace::traced))]
+#[tactic(auto, unfolding(crate::specs::Trace::trace_answer))]
 fn traced(alloc: Global, parts: Parts, journal: Option<&String>) -> Result<Answer, NoMemory>
     requires { CanRun parts }
     ensures value { IfOk result (λ answer. answer ≡ traced_of (option_map (λ name. string_bytes name.now) journal.entry) parts) }
@@ -53,7 +53,7 @@ fn traced(alloc: Global, parts: Parts, journal: Option<&String>) -> Result<Answe
 /// What the trace has to say: the console, the report, and the line of the events; and the file of the
 /// journal, where one is named.
 fn answer(alloc: Global, made: &JudgedRun, journal: Option<&String>) -> Result<Answer, NoMemory>
-    ensures { IfOk result (λ answer. answer ≡ answer_of (option_map (λ name. string_bytes name.now) journal.entry) made.now.report made.now.machine.state) }
+    ensures { IfOk result (λ answer. answer ≡ answer_of_run (option_map (λ name. string_bytes name.now) journal.entry) made.now.report made.now.machine.state) }
 {
     let mut text = console(alloc, made.machine.journal())?;
     end_line(&mut text)?;
@@ -101,7 +101,7 @@ fn push_events(text: &mut Vec<u8>, machine: &ShippedMachine) -> Result<(), NoMem
 
 /// Adds the address of the null instruction that faulted, and its fault.
 fn push_fault(text: &mut Vec<u8>, at: u32, why: NullFault) -> Result<(), NoMemory>
-    ensures { OnOk result (text.new.items ≡ text.old.items ++ fault_text at why) }
+    ensures { OnOk result (text.new.items ≡ text.old.items ++ kernel_fault_text at why) }
 {
     push_text(text, " kernel fault at ")?;
     push_hex8(text, at)?;

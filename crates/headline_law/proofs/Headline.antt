@@ -9,7 +9,7 @@ use Rattle.xom_base.specs.declared.key.Key256.{Key256}
 use Rattle.xom_base.specs.declared.schedule.Schedule.{Schedule}
 use Rattle.xom_owners.specs.declared.owner.Owner.{Owner}
 use Rattle.journal_findings.specs.Findings.{sealed_by}
-use Rattle.trace_judge.specs.Laws.{IsRun}
+use Rattle.trace_judge.specs.Laws.{IsOwnersRun}
 use Rattle.trace_judge.specs.Judgement.{judgement}
 use Rattle.trace_judge.proofs.Lines.{All-of_gets, Follows-lines}
 use Rattle.xom_versions.specs.Versions.{VersionLaw, Versions}
@@ -42,7 +42,7 @@ install-at (first ∷ entries) (suc i) n slot id place at lines is =
 -- each entry of a journal in which each installed guest is alone
 run-at : (owners : List Owner) (entries : List Entry)
     → ((n : ℕ) (id : ImageId) → IsInstalled entries n id → IsAlone owners entries n id)
-    → (e : Entry) (i : ℕ) → slice_get entries i ≡ Some e → IsRun owners entries e
+    → (e : Entry) (i : ℕ) → slice_get entries i ≡ Some e → IsOwnersRun owners entries e
 run-at owners entries alone (entry.Install n slot id place at lines) i is =
     let found = alone n id (install-at entries i n slot id place at lines is) in
     (found.0, found.1, found.2.whose, found.2.reaches)
@@ -60,7 +60,7 @@ pub holds-AllFollow : (Stands : StandsFor) (owners : List Owner) (core : CoreSta
     (machine : Key256)
     → Holds Stands owners core → AllFollow (judgement machine owners core.entries)
 holds-AllFollow Stands owners core machine holds =
-    let follows = Follows-lines owners core.entries (All-of_gets (IsRun owners core.entries)
+    let follows = Follows-lines owners core.entries (All-of_gets (IsOwnersRun owners core.entries)
     core.entries (λ i e is. run-at owners core.entries holds.slots.alone e i is)) in
     λ k d within. (length (steps_of _ core.entries), follows k d within)
 

@@ -2,7 +2,7 @@
 use Rattle.std.proofs.Common.{◌≡◌, inl, inr, ℕ, zero, suc, List, Some, ap, sym, ◌∙◌, arith}
 use Rattle.xom_base.specs.declared.key.Key256.{Key256}
 use Rattle.xom_seal.specs.Messages.{envelope_message}
-use Rattle.xom_seal.specs.Readers.{kind_of}
+use Rattle.xom_seal.specs.Readers.{kind_of_text}
 use Rattle.xom_seal.proofs.KindLaws.{message_kinds_are_told}
 use Rattle.xom_image.proofs.LineBytes.{get-made}
 use Rattle.xom_owners.specs.declared.owner.Owner.{Owner}
@@ -28,14 +28,14 @@ members_are_of_the_image machine owner (suc i) member is =
 
 -- the kind of the envelope's message, and of a line's
 kind-of_envelope : (machine : Key256) (owner : Owner) (member : List ℕ × List ℕ)
-    → IsOfEnvelope machine owner member → kind_of member.1 ≡ 4
+    → IsOfEnvelope machine owner member → kind_of_text member.1 ≡ 4
 kind-of_envelope machine owner member is =
-    ap kind_of is.1 ∙ message_kinds_are_told.envelope (envelope_of machine owner)
+    ap kind_of_text is.1 ∙ message_kinds_are_told.envelope (envelope_of machine owner)
 
 kind-of_line : (owner : Owner) (member : List ℕ × List ℕ) → IsOfLine owner member
-    → kind_of member.1 ≡ 1
+    → kind_of_text member.1 ≡ 1
 kind-of_line owner member is =
-    ap (λ (m : List ℕ × List ℕ). kind_of m.1) is.2 ∙ message_kinds_are_told.image_line owner.id is.0
+    ap (λ (m : List ℕ × List ℕ). kind_of_text m.1) is.2 ∙ message_kinds_are_told.image_line owner.id is.0
     ((sealed_line_of owner is.0).ct)
 
 pub members_are_no_runs_own : MembersAreNoRunsOwn

@@ -14,7 +14,7 @@ use Rattle.xom_base.specs.declared.key.ImageId.{ImageId}
 use Rattle.xom_base.specs.declared.key.Key256.{Key256}
 use Rattle.xom_seal.specs.declared.names.LineName.TheVariants.{Image}
 use Rattle.xom_seal.specs.Messages.{envelope_message, line_message}
-use Rattle.xom_seal.specs.Readers.{line_in}
+use Rattle.xom_seal.specs.Readers.{line_of_message}
 use Rattle.xom_seal.proofs.MessageLaws.{message_lengths}
 use Rattle.xom_owners.specs.declared.owner.Owner.{Owner}
 use Rattle.image_sealer.specs.Laws.{IsOwner}
@@ -49,7 +49,7 @@ any-told p f k (suc n) only =
 
 -- the message of a line names it
 line-in_message : (id : ImageId) (line : ℕ) (ct : List ℕ) → length id.0 ≡ 16 → line < 2 ^ 32
-    → line_in (line_message (Image id line) ct) ≡ line
+    → line_of_message (line_message (Image id line) ct) ≡ line
 unfolding line_message
 line-in_message id line ct size below =
     ap (λ rest. from_be_bytes w32 (take 4 rest)) (drop_at id.0 (to_be_bytes w32 line ++ ct) 16 size)
@@ -57,7 +57,7 @@ line-in_message id line ct size below =
 
 -- so does that of a line of the owner, and it has 53 bytes
 line-in_sealing : (owner : Owner) (line : ℕ) → IsOwner owner → line < line_count owner.plain.bytes
-    → line_in (line_sealing_of owner line).1 ≡ line
+    → line_of_message (line_sealing_of owner line).1 ≡ line
 line-in_sealing owner line is below =
     line-in_message owner.id line ((sealed_line_of owner line).ct) is.id
     (omega (arith, line_count-fits owner))
@@ -77,12 +77,12 @@ and-right false b both = absurd (cc)
 -- a message that is that of a line names it
 message-of_line : (owner : Owner) (key message : List ℕ) (i : ℕ) → IsOwner owner
     → i < line_count owner.plain.bytes → is_sealing key message (line_sealing_of owner i) ≡ true
-    → i ≡ line_in message
+    → i ≡ line_of_message message
 message-of_line owner key message i is below same =
     let equal : message ≡ (line_sealing_of owner i).1 =
     (bytes_eq-Decides message (line_sealing_of owner i).1).0 (and-right (bytes_eq key owner.key.0)
     (bytes_eq message (line_sealing_of owner i).1) same) in
-    sym (ap line_in equal ∙ line-in_sealing owner i is below)
+    sym (ap line_of_message equal ∙ line-in_sealing owner i is below)
 
 -- the size is that of each message of a line
 sized : (keyed below same long : Bool) → (same ≡ true → long ≡ true)
@@ -101,7 +101,7 @@ lines-told : (owner : Owner) (key message : List ℕ) → IsOwner owner
     → (bytes_eq key owner.key.0 && is_line_message owner message) ≡ is_sealed key message
     (map (line_sealing_of owner) (range_with_len 0 (line_count owner.plain.bytes)))
 lines-told owner key message is =
-    let line = line_in message in
+    let line = line_of_message message in
     sized (bytes_eq key owner.key.0) (nat_lt line (line_count owner.plain.bytes))
     (bytes_eq message (line_sealing_of owner line).1) (length message == 53)
     (message-size owner message line is)

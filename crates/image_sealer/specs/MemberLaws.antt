@@ -3,7 +3,7 @@
 use Rattle.std.specs.Prelude.{ℕ, ◌≡◌, ◌≢◌, ◌<◌, ◌⊎◌, List, Some, slice_get}
 use Rattle.xom_base.specs.declared.key.Key256.{Key256}
 use Rattle.xom_seal.specs.Messages.{envelope_message}
-use Rattle.xom_seal.specs.Readers.{kind_of, register_kind, run_line_kind}
+use Rattle.xom_seal.specs.Readers.{kind_of_text, register_kind, run_line_kind}
 use Rattle.xom_owners.specs.declared.owner.Owner.{Owner}
 use Rattle.image_sealer.specs.Sealing.{envelope_of, line_count, line_sealing_of, sealing_of}
 
@@ -29,4 +29,4 @@ abbrev pub MembersAreNoRunsOwn : Type 0
 MembersAreNoRunsOwn =
     (machine : Key256) (owner : Owner) (i : ℕ) (member : List ℕ × List ℕ)
     → slice_get (sealing_of machine owner) i ≡ Some member
-    → (kind_of member.1 ≢ run_line_kind) × (kind_of member.1 ≢ register_kind)
+    → (kind_of_text member.1 ≢ run_line_kind) × (kind_of_text member.1 ≢ register_kind)

@@ -5,7 +5,7 @@ use Rattle.std.specs.List.{list_any}
 use Rattle.std.specs.Str.{bytes_eq}
 use Rattle.xom_base.specs.declared.key.Key256.{Key256}
 use Rattle.xom_seal.specs.Messages.{envelope_message}
-use Rattle.xom_seal.specs.Readers.{line_in}
+use Rattle.xom_seal.specs.Readers.{line_of_message}
 use Rattle.xom_owners.specs.declared.owner.Owner.{Owner}
 use Rattle.image_sealer.specs.Laws.{IsOwner}
 use Rattle.image_sealer.specs.Sealing.{envelope_of, line_count, line_sealing_of, sealing_of}
@@ -30,8 +30,8 @@ line_message_size = 53
 abbrev pub is_line_message : Owner → List ℕ → Bool
 is_line_message owner message =
     (length message == line_message_size)
-    && (nat_lt (line_in message) (line_count owner.plain.bytes) && bytes_eq message
-    (line_sealing_of owner (line_in message)).1)
+    && (nat_lt (line_of_message message) (line_count owner.plain.bytes) && bytes_eq message
+    (line_sealing_of owner (line_of_message message)).1)
 
 -- the machine key with the message of the envelope, or the image key with the message of a line
 abbrev pub is_own_sealing : Key256 → Owner → List ℕ → List ℕ → Bool

@@ -2,12 +2,12 @@
 -- and an envelope that tells that machine the image's key. The form is this project's own.
 use Rattle.std.specs.Prelude.{ℕ, ◌≡◌, ◌+◌, ◌*◌, ◌/◌, List, ◌∷◌, drop, length, map, take}
 use Rattle.std.specs.List.{range_with_len}
-use Rattle.xom_base.specs.Padded.{filled}
+use Rattle.xom_base.specs.Padded.{padded_block}
 use Rattle.xom_base.specs.declared.key.Key256.{Key256}
 use Rattle.xom_seal.specs.declared.envelope.Unwrapped.{Unwrapped}
 use Rattle.xom_seal.specs.declared.line.SealedLine.{SealedLine}
 use Rattle.xom_seal.specs.declared.names.LineName.TheVariants.{Image}
-use Rattle.xom_seal.specs.Envelopes.{wrapped}
+use Rattle.xom_seal.specs.Envelopes.{wrapped_key_of}
 use Rattle.xom_seal.specs.Keys.{image_keys}
 use Rattle.xom_seal.specs.Messages.{envelope_message, line_message}
 use Rattle.xom_seal.specs.Sealing.{sealed_line}
@@ -21,18 +21,18 @@ abbrev pub line_count : List ℕ → ℕ
 line_count bytes = (length bytes + 31) / 32
 
 -- one of their lines, by its number from 0; the last is filled up with zeros
-abbrev pub line_of : List ℕ → ℕ → List ℕ
-line_of bytes line = filled 32 (take 32 (drop (32 * line) bytes))
+abbrev pub line_of_image : List ℕ → ℕ → List ℕ
+line_of_image bytes line = padded_block 32 (take 32 (drop (32 * line) bytes))
 
 -- all their lines
-abbrev pub lines_of : List ℕ → List (List ℕ)
-lines_of bytes = map (line_of bytes) (range_with_len 0 (line_count bytes))
+abbrev pub lines_of_image : List ℕ → List (List ℕ)
+lines_of_image bytes = map (line_of_image bytes) (range_with_len 0 (line_count bytes))
 
 -- ---- The sealed image
 
 -- what the envelope says of an owner's image
-abbrev pub contents_of : Owner → Unwrapped
-contents_of owner = record {
+abbrev pub contents_for_owner : Owner → Unwrapped
+contents_for_owner owner = record {
   id = owner.id;
   entry = owner.plain.entry;
   lines = line_count owner.plain.bytes;
@@ -41,13 +41,13 @@ contents_of owner = record {
 
 -- the envelope for this machine
 unfoldable pub envelope_of : Key256 → Owner → List ℕ
-envelope_of machine owner = wrapped machine (contents_of owner)
+envelope_of machine owner = wrapped_key_of machine (contents_for_owner owner)
 
 -- a line under its number in the image
 unfoldable pub sealed_line_of : Owner → ℕ → SealedLine
 sealed_line_of owner line =
     sealed_line (Image owner.id line) (image_keys owner.key owner.id)
-    (line_of owner.plain.bytes line)
+    (line_of_image owner.plain.bytes line)
 
 -- all lines of the image
 abbrev pub sealed_lines_of : Owner → List SealedLine

@@ -1,4 +1,4 @@
-ghost use Rattle.image_sealer.specs.Laws.{EnvelopesOpen, LinesOpen, TagsAreOfTheSealing};
+ghost use Rattle.image_sealer.specs.Laws.{OwnersEnvelopesOpen, OwnersLinesOpen, TagsAreOfTheSealing};
 ghost use Rattle.image_sealer.specs.MemberLaws.{MembersAreNoRunsOwn, MembersAreOfTheImage};
 ghost use Rattle.image_sealer.specs.Membership.{MembersAreToldByTheirNames};
 
@@ -6,8 +6,8 @@ ghost use Rattle.image_sealer.specs.Membership.{MembersAreToldByTheirNames};
 /// the tags in it are of the messages of the owner's sealing.
 #[tactic(auto, using(crate::proofs::Opening::envelopes_open, crate::proofs::Opening::lines_open, crate::proofs::Opening::tags_are_of_the_sealing))]
 pub fn sealed_images_open()
-    ensures envelopes { EnvelopesOpen }
-    ensures lines { LinesOpen }
+    ensures envelopes { OwnersEnvelopesOpen }
+    ensures lines { OwnersLinesOpen }
     ensures tags { TagsAreOfTheSealing }
 {}
 

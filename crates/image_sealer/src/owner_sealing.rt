@@ -1,6 +1,6 @@
 ghost use Rattle.std.specs.Prelude.{◌≡◌, ◌≤◌, ◌<◌, ◌==◌, ◌&&◌, length, nat_lt};
 ghost use Rattle.std.specs.Str.{bytes_eq};
-ghost use Rattle.xom_seal.specs.Readers.{line_in};
+ghost use Rattle.xom_seal.specs.Readers.{line_of_message};
 ghost use Rattle.image_sealer.specs.Laws.{IsOwner};
 ghost use Rattle.image_sealer.specs.Membership.{is_line_message, is_own_sealing, is_sealed};
 ghost use Rattle.image_sealer.specs.Sealing.{line_count as line_count_of, line_sealing_of, sealing_of};
@@ -100,7 +100,7 @@ impl<'a> OwnerSealing<'a> {
 /// The line that the message of an image line names.
 fn named_line(message: &[u8]) -> u32
     requires { LINE_MESSAGE ≤ length message.now }
-    ensures { result ≡ line_in message.now }
+    ensures { result ≡ line_of_message message.now }
 {
     u32::from_be_bytes([message[17], message[18], message[19], message[20]])
 }

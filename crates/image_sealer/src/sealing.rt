@@ -1,6 +1,6 @@
 ghost use Rattle.std.specs.Prelude.{◌≡◌, ◌≤◌, ◌<◌, ◌^◌, IfOk, length};
 ghost use Rattle.xom_seal.specs.Laws.{IsUnwrapped};
-ghost use Rattle.image_sealer.specs.Sealing.{IsSealedFor, contents_of as contents_for, line_count as line_count_of, line_of, sealed_lines_of};
+ghost use Rattle.image_sealer.specs.Sealing.{IsSealedFor, contents_for_owner as contents_for, line_count as line_count_of, line_of_image, sealed_lines_of};
 
 use std::alloc::Global;
 use xom_base::{ImageId, Key256, NoMemory};
@@ -73,7 +73,7 @@ pub fn line_count(bytes: &[u8]) -> u32
 /// A line of these bytes. The last is filled up with zeros.
 pub fn plain_line(bytes: &[u8], line: u32) -> [u8; LINE]
     requires { line < line_count_of bytes.now }
-    ensures { result ≡ line_of bytes.now line }
+    ensures { result ≡ line_of_image bytes.now line }
 {
     let rest = &bytes[LINE * line as usize..];
     let length = rest.len().min(LINE);

@@ -3,7 +3,7 @@ use Rattle.std.proofs.Common.{◌≡◌, ℕ, List, [], ◌∷◌, ◌++◌, Opt
 use Rattle.std.specs.Option.{option_or}
 use Rattle.std.proofs.lemmas.List.{append-nil}
 use Rattle.xom_base.specs.declared.entry.Entry.{Entry}
-use Rattle.journal_findings.specs.Findings.{first_found, forged, forgery_at, collision, collision_at}
+use Rattle.journal_findings.specs.Findings.{collision_at, first_collision, first_forgery, first_found, forgery_at}
 use Rattle.journal_findings.specs.Laws.{ForgeriesStay, CollisionsStay}
 
 -- of three answers the first one that there is
@@ -48,16 +48,16 @@ collisions_stay entries more pair = first_found-stays collision_at entries more 
 
 -- one more entry where nothing was forged
 pub forged-more : (sealed : List (List ℕ × List ℕ)) (entries : List Entry) (entry : Entry)
-    → forged sealed entries ≡ None
-    → forged sealed (entries ++ entry ∷ []) ≡ forgery_at sealed entries entry
+    → first_forgery sealed entries ≡ None
+    → first_forgery sealed (entries ++ entry ∷ []) ≡ forgery_at sealed entries entry
 forged-more sealed entries entry honest =
     first_found-append (forgery_at sealed) [] entries (entry ∷ [])
     ∙ ap (λ x. option_or x (first_found (forgery_at sealed) entries (entry ∷ []))) honest
     ∙ or_none (forgery_at sealed entries entry)
 
 -- one more entry where nothing collided
-pub collision-more : (entries : List Entry) (entry : Entry) → collision entries ≡ None
-    → collision (entries ++ entry ∷ []) ≡ collision_at entries entry
+pub collision-more : (entries : List Entry) (entry : Entry) → first_collision entries ≡ None
+    → first_collision (entries ++ entry ∷ []) ≡ collision_at entries entry
 collision-more entries entry honest =
     first_found-append collision_at [] entries (entry ∷ [])
     ∙ ap (λ x. option_or x (first_found collision_at entries (entry ∷ []))) honest

@@ -57,10 +57,10 @@ first_found find before (entry ∷ entries) =
     option_or (find before entry) (first_found find (before ++ entry ∷ []) entries)
 
 -- the number of the first forged Accept, where owners sealed these
-abbrev pub forged : List (List ℕ × List ℕ) → List Entry → Option ℕ
-forged sealed entries = first_found (forgery_at sealed) [] entries
+abbrev pub first_forgery : List (List ℕ × List ℕ) → List Entry → Option ℕ
+first_forgery sealed entries = first_found (forgery_at sealed) [] entries
 
 -- the numbers of the first Hash that collides with an earlier one and of the least such earlier
 -- one, that one first
-abbrev pub collision : List Entry → Option (ℕ × ℕ)
-collision entries = first_found collision_at [] entries
+abbrev pub first_collision : List Entry → Option (ℕ × ℕ)
+first_collision entries = first_found collision_at [] entries

@@ -9,7 +9,7 @@ use Rattle.sha2.specs.Sha256.{digest_bytes, final_hash, initial_hash_256, sha256
 use Rattle.aes_block.specs.Cipher.{aes128}
 use Rattle.aes_block.proofs.Bytes.{blocks_are_bytes}
 use Rattle.aes_block.proofs.Sizes.{length-aes128}
-use Rattle.keyed_mac.specs.Hmac.{block_key, hmac_sha256, ipad, masked, opad}
+use Rattle.keyed_mac.specs.Hmac.{block_key, block_with_pad, hmac_sha256, ipad, opad}
 use Rattle.keyed_mac.proofs.Lengths.{tags_have_their_length}
 use Rattle.xom_base.specs.declared.key.Key256.{Key256}
 use Rattle.xom_seal.specs.declared.keys.LineKeys.{LineKeys}
@@ -21,7 +21,7 @@ use Rattle.xom_seal.specs.Counters.{envelope_counter, line_counter, register_cou
 use Rattle.xom_seal.specs.Envelopes.{envelope_pad, key_masked}
 use Rattle.xom_seal.specs.Keys.{envelope_aes_key, image_aes_key, register_key_bytes, register_keys, run_aes_key, run_keys, run_tag_key}
 use Rattle.xom_seal.specs.Messages.{envelope_message, line_message, register_message}
-use Rattle.xom_seal.specs.Sealing.{line_masked, line_pad, line_tag, register_masked, register_pad, register_tag, xored}
+use Rattle.xom_seal.specs.Sealing.{line_masked, line_pad, line_tag, register_masked, register_pad, register_tag, xor_of_bytes}
 use Rattle.journal_round_trip.specs.KeepsRules.{Is32Bit, KeepsPayload}
 use Rattle.journal_round_trip.proofs.PieceLaws.{number-bytes}
 
@@ -101,9 +101,9 @@ bytes-sha256 text = bytes-digest (final_hash initial_hash_256 text) 8
 pub bytes-hmac : (key text : List ℕ) → IsBytes (hmac_sha256 key text)
 unfolding hmac_sha256
 bytes-hmac key text =
-    bytes-sha256 (masked opad (block_key key) ++ sha256 (masked ipad (block_key key) ++ text))
+    bytes-sha256 (block_with_pad opad (block_key key) ++ sha256 (block_with_pad ipad (block_key key) ++ text))
 
-bytes-xored : (xs ys : List ℕ) → IsBytes xs → IsBytes ys → IsBytes (xored xs ys)
+bytes-xored : (xs ys : List ℕ) → IsBytes xs → IsBytes ys → IsBytes (xor_of_bytes xs ys)
 bytes-xored [] ys bytes other i = lit< tt
 bytes-xored (x ∷ xs) [] bytes other i = lit< tt
 bytes-xored (x ∷ xs) (y ∷ ys) bytes other zero = xor_of_8 x y (bytes zero) (other zero)
@@ -111,17 +111,17 @@ bytes-xored (x ∷ xs) (y ∷ ys) bytes other (suc i) =
     bytes-xored xs ys (λ j. bytes (suc j)) (λ j. other (suc j)) i
 
 -- no longer than the mask
-xored-short : (xs ys : List ℕ) → length (xored xs ys) ≤ length ys
+xored-short : (xs ys : List ℕ) → length (xor_of_bytes xs ys) ≤ length ys
 xored-short [] ys = omega arith
 xored-short (x ∷ xs) [] = omega arith
 xored-short (x ∷ xs) (y ∷ ys) = let low = xored-short xs ys in omega arith
 
 -- and as long as the text where the mask is long enough
-xored-long : (xs ys : List ℕ) → length xs ≤ length ys → length (xored xs ys) ≡ length xs
+xored-long : (xs ys : List ℕ) → length xs ≤ length ys → length (xor_of_bytes xs ys) ≡ length xs
 xored-long [] ys within = refl
 xored-long (x ∷ xs) [] within = absurd (omega arith)
 xored-long (x ∷ xs) (y ∷ ys) within =
-    let same : length (xored xs ys) ≡ length xs = xored-long xs ys (omega arith) in omega arith
+    let same : length (xor_of_bytes xs ys) ≡ length xs = xored-long xs ys (omega arith) in omega arith
 
 -- a key of so many bytes that a journal may name it
 pub hmac-payload : (key text : List ℕ) → KeepsPayload 96 (hmac_sha256 key text)
@@ -303,7 +303,7 @@ key_masked-payload machine id key bytes size =
     (bytes-hmac machine.0 (0x13 ∷ id)) in
     let pad = aes128 aes (envelope_counter 0) ++ aes128 aes (envelope_counter 1) in
     let long : length pad ≡ 32 = simp (length-append, length-aes128) in
-    let whole : length (xored key pad) ≡ length key = xored-long key pad (omega arith) in (
+    let whole : length (xor_of_bytes key pad) ≡ length key = xored-long key pad (omega arith) in (
       bytes-xored key pad bytes (bytes-append (aes128 aes (envelope_counter 0))
           (aes128 aes (envelope_counter 1)) (blocks_are_bytes aes (envelope_counter 0) keyed)
           (blocks_are_bytes aes (envelope_counter 1) keyed)),

@@ -12,21 +12,21 @@ use Rattle.xom_seal.specs.Keys.{image_keys, run_keys}
 use Rattle.xom_seal.specs.Sealing.{line_masked, unsealed_line}
 use Rattle.mips_plain.proofs.Stores.{length-written_at}
 use Rattle.journal_round_trip.specs.KeepsRules.{Is32Bit, KeepsPayload, KeepsRule}
-use Rattle.line_ram.specs.Bytes.{HoldsRange, bytes_at, stored, tag_place}
+use Rattle.line_ram.specs.Bytes.{HoldsRange, bytes_at, ram_with_bytes, tag_place}
 use Rattle.line_cache.specs.declared.way.Way.{Way}
-use Rattle.line_cache.specs.Ways.{found, free_way, new_way, place_for, pointers_after, way_at}
+use Rattle.line_cache.specs.Ways.{free_way, new_way, place_for, place_of_line, pointers_after, way_at}
 use Rattle.page_map.specs.Pages.{frame_of}
 use Rattle.session_table.specs.declared.session.SlotState.{SlotState}
 use Rattle.session_table.specs.declared.session.SlotState.TheVariants as state
-use Rattle.session_table.specs.Sessions.{left}
+use Rattle.session_table.specs.Sessions.{session_after_leaving}
 use Rattle.xom_versions.specs.declared.store.Torn.{Torn}
 use Rattle.xom_versions.specs.Store.{HoldsArea, area_size, line_limit}
 use Rattle.xom_versions.specs.Versions.{VersionLaw, Versions}
 use Rattle.xom_model.specs.declared.reach.Reach.{Reach}
 use Rattle.xom_model.specs.declared.reach.Reach.TheVariants as reach
 use Rattle.xom_model.specs.Versions.{StandsFor}
-use Rattle.xom_model.specs.State.{CoreState, core_with_hashes, page_of, session_of, store_of, with_entry, with_way}
-use Rattle.xom_model.specs.Lines.{Who, accept_entry, ct_place, index_of, is_image_at, keys_of, name_of, run_name, seal_entry, sealed_as, sealed_at, who_of, with_sealed}
+use Rattle.xom_model.specs.State.{CoreState, core_with_hashes, core_with_way, page_of, session_of, store_of, with_entry}
+use Rattle.xom_model.specs.Lines.{Who, accept_entry, ct_place, index_in_frame, is_image_at, keys_of, line_name_of, run_name, seal_entry, sealed_as, sealed_at, who_of, with_sealed}
 use Rattle.xom_model.specs.Access.{access, after_eviction, after_flush, after_leaving, after_opening, after_raise, after_seal, after_stop, after_victim, and_then, brought, cleared_at, or_stopped, reach_after_placing, reach_after_victim, reach_by_cache, reach_in_frame, read_from, sealed_by_raise, taken_out, with_pointers, without_guest}
 use Rattle.xom_model.specs.Holds.{IsLive}
 use Rattle.xom_model.proofs.RamSize.{area_stays}
@@ -40,7 +40,7 @@ pub gone-holds : (core : CoreState) (slot : ℕ) (final : SlotState) → IsLive 
     → RulesHold core → RulesHold (after_leaving core slot final)
 gone-holds core slot final live holds =
     let sound = session-sound core holds slot in
-    out-holds core holds slot (left (session_of core slot) final) (record {
+    out-holds core holds slot (session_after_leaving (session_of core slot) final) (record {
       entry = sound.entry;
       pc = sound.pc;
       npc = sound.npc;
@@ -66,7 +66,7 @@ module _ (core : CoreState) (holds : RulesHold core) (slot line version : ℕ) w
   abbrev who : Who
   who = who_of core slot
 
-  name-plain : IsPlainName (name_of who line version)
+  name-plain : IsPlainName (line_name_of who line version)
   name-plain =
       let sound = session-sound core holds slot in
       cond_both (is_image_at who line version) (Image who.id line) (run_name who line version)
@@ -86,9 +86,9 @@ module _ (core : CoreState) (holds : RulesHold core) (slot line version : ℕ) w
       (λ _. image_aes-bytes who.key.0 who.id.0) (λ _. run_aes-bytes who.key who.boot who.install)
 
   masked-bytes : (bytes : List ℕ) → IsBytes bytes
-      → IsBytes (line_masked (name_of who line version) (keys_of who line version) bytes)
+      → IsBytes (line_masked (line_name_of who line version) (keys_of who line version) bytes)
   masked-bytes bytes each =
-      line_masked-bytes (name_of who line version) (keys_of who line version) bytes aes-bytes each
+      line_masked-bytes (line_name_of who line version) (keys_of who line version) bytes aes-bytes each
 
   -- a Seal and an Accept of the line
   seal-holds : (bytes : List ℕ) → IsBytes bytes
@@ -97,8 +97,8 @@ module _ (core : CoreState) (holds : RulesHold core) (slot line version : ℕ) w
       let ct = (sealed_as who line version bytes).ct in
       noted-holds core holds (seal_entry who line version bytes) (
         tag-payload,
-        line_message-payload (name_of who line version) ct name-plain
-            (masked-bytes bytes each) (line_masked-short (name_of who line version)
+        line_message-payload (line_name_of who line version) ct name-plain
+            (masked-bytes bytes each) (line_masked-short (line_name_of who line version)
             (keys_of who line version) bytes),
       ) refl
 
@@ -106,7 +106,7 @@ module _ (core : CoreState) (holds : RulesHold core) (slot line version : ℕ) w
       → RulesHold (with_entry core (accept_entry who line version ct place))
   accept-holds ct place each few short =
       noted-holds core holds (accept_entry who line version ct place)
-      (tag-payload, line_message-payload (name_of who line version) ct name-plain each few, short)
+      (tag-payload, line_message-payload (line_name_of who line version) ct name-plain each few, short)
       refl
 
 -- ---- RAM
@@ -116,7 +116,7 @@ with_sealed-bytes : (ram : List ℕ) (frame : Option ℕ) (line : ℕ) (sealed :
     → IsBytes sealed.ct → IsBytes sealed.tag → IsBytes (with_sealed ram frame line sealed)
 with_sealed-bytes ram None line sealed bytes ct tag = bytes
 with_sealed-bytes ram (Some frame) line sealed bytes ct tag =
-    bytes-written (stored ram (ct_place frame line) sealed.ct) (tag_place frame (index_of line))
+    bytes-written (ram_with_bytes ram (ct_place frame line) sealed.ct) (tag_place frame (index_in_frame line))
     sealed.tag (bytes-written ram (ct_place frame line) sealed.ct bytes ct) tag
 
 with_sealed-size : (ram : List ℕ) (frame : Option ℕ) (line : ℕ) (sealed : SealedLine)
@@ -126,10 +126,10 @@ with_sealed-size : (ram : List ℕ) (frame : Option ℕ) (line : ℕ) (sealed : 
 with_sealed-size ram None line sealed ct tag fit = refl
 with_sealed-size ram (Some frame) line sealed ct tag fit =
     let within : frame * 8192 + 8192 ≤ length ram = fit frame refl in
-    let once = stored ram (ct_place frame line) sealed.ct in
+    let once = ram_with_bytes ram (ct_place frame line) sealed.ct in
     let first : length once ≡ length ram = length-written_at ram (ct_place frame line) sealed.ct
     (omega arith) in
-    length-written_at once (tag_place frame (index_of line)) sealed.tag (omega arith) ∙ first
+    length-written_at once (tag_place frame (index_in_frame line)) sealed.tag (omega arith) ∙ first
 
 -- a part of RAM
 pub part-bytes : (ram : List ℕ) (address count : ℕ) → IsBytes ram
@@ -185,7 +185,7 @@ module _ (v : Versions) (Stands : StandsFor) (law : VersionLaw v Stands)
   unfolding after_seal
   sealing-holds core slot line bytes version each holds =
       let who = who_of core slot in
-      let name = name_of who line version in
+      let name = line_name_of who line version in
       let keys = keys_of who line version in
       let sealed = sealed_as who line version bytes in
       let frame = frame_of core.pages slot (page_of line) in
@@ -244,7 +244,7 @@ module _ (v : Versions) (Stands : StandsFor) (law : VersionLaw v Stands)
   )
   put-holds victim place slot line bytes (core, Some why) each low holds =
       cond_both (victim == slot) (core, reach.Stopped why)
-      (with_way core place (new_way slot line bytes), reach.Ready place) Answers
+      (core_with_way core place (new_way slot line bytes), reach.Ready place) Answers
       (λ _. (holds, tt)) (λ _. (
         with_way-holds core holds place (new_way slot line bytes)
             (λ _. new_way-sound core slot line bytes each low),
@@ -287,8 +287,8 @@ module _ (v : Versions) (Stands : StandsFor) (law : VersionLaw v Stands)
       is in
       let small : length core.ram ≤ 2 ^ 32 = holds.size in
       opened-holds core slot line version (ct_place frame line) sealed.ct
-      (unsealed_line (name_of who line version) (keys_of who line version) sealed)
-      (cond_both _ (Some (line_masked (name_of who line version) (keys_of who line version)
+      (unsealed_line (line_name_of who line version) (keys_of who line version) sealed)
+      (cond_both _ (Some (line_masked (line_name_of who line version) (keys_of who line version)
       sealed.ct)) None (λ o. IfSome o IsBytes) (λ _. masked-bytes core holds slot line version
       sealed.ct cts) (λ _. tt))
       cts (take-short 32 (drop (ct_place frame line) core.ram)) (omega arith) low live holds
@@ -325,7 +325,7 @@ module _ (v : Versions) (Stands : StandsFor) (law : VersionLaw v Stands)
   mapped-holds core slot line None is low live holds =
       (holds, let small : line < 32768 = low in omega arith)
   mapped-holds core slot line (Some frame) is low live holds =
-      looked-holds core slot line frame (found core.ways slot line) is low live holds
+      looked-holds core slot line frame (place_of_line core.ways slot line) is low live holds
 
   pub access-holds : (core : CoreState) (slot line : ℕ) → line < line_limit → IsLive core slot
       → RulesHold core → Answers (access v core slot line)
@@ -358,6 +358,6 @@ module _ (v : Versions) (Stands : StandsFor) (law : VersionLaw v Stands)
   unfolding after_flush
   flushed-holds slot zero line core holds = holds
   flushed-holds slot (suc count) line core holds =
-      and_then-holds (taken_out v core (found core.ways slot line))
-      (after_flush v slot count (line + 1)) (taken_out-holds core (found core.ways slot line)
+      and_then-holds (taken_out v core (place_of_line core.ways slot line))
+      (after_flush v slot count (line + 1)) (taken_out-holds core (place_of_line core.ways slot line)
       holds) (λ mid its. flushed-holds slot count (line + 1) mid its)

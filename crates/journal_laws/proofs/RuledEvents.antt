@@ -12,14 +12,14 @@ use Rattle.xom_base.specs.declared.key.Key256.{Key256}
 use Rattle.journal_round_trip.specs.KeepsRules.{Is32Bit, KeepsPayload}
 use Rattle.line_cache.specs.Ways.{free_way, no_ways, way_at}
 use Rattle.page_map.specs.Pages.{frame_of, no_pages, nothing_mapped}
-use Rattle.tag_regs.specs.TaggedCells.{all_empty, empty}
+use Rattle.tag_regs.specs.TaggedCells.{all_empty, empty_cell}
 use Rattle.session_table.specs.Sessions.{free, none_held}
 use Rattle.xom_versions.specs.Chip.{chip}
 use Rattle.xom_versions.specs.Store.{HoldsArea, Store}
 use Rattle.xom_versions.specs.Versions.{VersionLaw, Versions}
 use Rattle.xom_model.specs.declared.outcome.NullFault.{NullFault}
 use Rattle.xom_model.specs.Versions.{StandsFor}
-use Rattle.xom_model.specs.State.{CoreState, Record, core_at_start, holds, no_store, with_cells}
+use Rattle.xom_model.specs.State.{CoreState, Record, core_at_start, no_store, ram_holds_range, with_cells}
 use Rattle.xom_model.specs.Guest.{guest}
 use Rattle.xom_model.specs.Operation.{operation}
 use Rattle.xom_model.specs.Null.{Answer, null_step, ram_after_write}
@@ -93,7 +93,7 @@ core-at-start v hashes machine boot ram start = record {
   machine = start.key;
   sessions = All-replicate (IsSoundSession 0) 17 free (free-IsSoundSession 0);
   places = lit≤ tt;
-  cells = All-replicate IsShortCell 34 empty (lit< tt);
+  cells = All-replicate IsShortCell 34 empty_cell (lit< tt);
   ways = no_ways-sound;
   ram = start.bytes;
   size = start.size;
@@ -127,7 +127,7 @@ poked-bytes : (ram : List ℕ) (address : ℕ) (bytes : List ℕ) → IsBytes ra
     → IsBytes (ram_after_write ram address bytes)
 unfolding ram_after_write
 poked-bytes ram address bytes each more =
-    cond_both (holds ram address (length bytes)) _ ram IsBytes
+    cond_both (ram_holds_range ram address (length bytes)) _ ram IsBytes
     (λ _. bytes-written ram address bytes each more) (λ _. each)
 
 operated-keeps : (r : Record) (op : Op) (after : CoreState × ℕ) → DoesWell after
@@ -174,7 +174,7 @@ wrote-keeps r address bytes each rules =
     record {
       core = next.core;
       npc = next.npc;
-      status = cond_both (holds r.core.ram address (length bytes)) 0 4 Is32Bit (λ _. lit< tt)
+      status = cond_both (ram_holds_range r.core.ram address (length bytes)) 0 4 Is32Bit (λ _. lit< tt)
           (λ _. lit< tt);
       cause = next.cause;
       who = next.who;

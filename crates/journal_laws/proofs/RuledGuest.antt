@@ -23,13 +23,13 @@ use Rattle.xom_base.specs.declared.step.Stored.{Stored}
 use Rattle.xom_base.specs.declared.step.Stored.TheVariants as stored
 use Rattle.xom_base.specs.declared.step.Writes.{Writes}
 use Rattle.xom_base.specs.declared.step.Writes.TheVariants as writes
-use Rattle.mips_instruction.specs.Words.{read}
+use Rattle.mips_instruction.specs.Words.{instruction_of_word}
 use Rattle.mips_effect.specs.Effects.{IsInRange, Ranged}
 use Rattle.mips_effect.specs.declared.effects.Effect.{Effect}
 use Rattle.mips_effect.specs.declared.wish.Wish.{Wish}
 use Rattle.mips_effect.specs.declared.wish.Wish.TheVariants as wish
 use Rattle.mips_plain.specs.Instruction.{handler_after, instruction_or_fault, is_code, kept_after, step_made, step_of_wish}
-use Rattle.mips_plain.specs.Memory.{low_bytes, private_size, word_at}
+use Rattle.mips_plain.specs.Memory.{low_bytes, private_size, word_at_address}
 use Rattle.mips_plain.proofs.Sizes.{private_size_is}
 use Rattle.journal_round_trip.specs.KeepsRules.{Is32Bit, KeepsCause, KeepsReleased, KeepsStep, KeepsWrites}
 use Rattle.line_cache.specs.Ways.{free_way, way_at}
@@ -37,15 +37,15 @@ use Rattle.tag_regs.specs.declared.cell.Cell.{Cell}
 use Rattle.tag_regs.specs.TaggedCells.{cell_at}
 use Rattle.session_table.specs.declared.session.Session.{Session}
 use Rattle.session_table.specs.declared.session.SlotState.TheVariants as state
-use Rattle.session_table.specs.Sessions.{free, is_live, paused}
+use Rattle.session_table.specs.Sessions.{free, is_live, session_after_pause}
 use Rattle.xom_versions.specs.Store.{line_limit}
 use Rattle.xom_versions.specs.Versions.{VersionLaw, Versions}
 use Rattle.xom_model.specs.declared.reach.Reach.{Reach}
 use Rattle.xom_model.specs.declared.reach.Reach.TheVariants as reach
 use Rattle.xom_model.specs.Versions.{StandsFor}
-use Rattle.xom_model.specs.State.{CoreState, holds, session_of, with_cells, with_session}
+use Rattle.xom_model.specs.State.{CoreState, core_with_session, ram_holds_range, session_of, with_cells}
 use Rattle.xom_model.specs.Access.{access}
-use Rattle.xom_model.specs.Guest.{address_in, after_effect, after_retirement, after_step, after_trap, cells_after, code_reached, core_after_step, data_of, data_reached, given_out, guest, null_word, received_by, retirement, seen_by, session_after_step, stored_at, stored_way, with_release, with_writes, word_in, word_loaded, word_tried}
+use Rattle.xom_model.specs.Guest.{address_in, after_effect, after_retirement, after_step, after_trap, cells_after_step, code_reached, core_after_step, data_of, data_reached, given_out, guest, null_word, received_by, retirement, seen_by, session_after_step, stored_at, stored_way, with_release, with_writes, word_in, word_loaded, word_tried}
 use Rattle.xom_model.specs.Holds.{IsLive, IsRunning}
 use Rattle.xom_model.specs.Null.{cause_argument}
 use Rattle.xom_model.proofs.RamSize.{length-given_out}
@@ -78,7 +78,7 @@ untagged-short cells (released.Cell reg value) keeps short =
 untagged-short cells (released.Null address value) keeps short = short
 
 cells_after-short : (slot : ℕ) (cells : List Cell) (step : Step) → KeepsStep step
-    → All IsShortCell cells → All IsShortCell (cells_after slot cells step)
+    → All IsShortCell cells → All IsShortCell (cells_after_step slot cells step)
 cells_after-short slot cells step keeps short =
     untagged-short (with_writes slot cells step.writes) step.released keeps.5
     (tagged-short slot cells step.writes keeps.2 short)
@@ -89,13 +89,13 @@ given_out-bytes : (ram : List ℕ) (out : Released) → IsBytes ram → IsBytes 
 given_out-bytes ram released.Nothing bytes = bytes
 given_out-bytes ram (released.Cell reg value) bytes = bytes
 given_out-bytes ram (released.Null address value) bytes =
-    cond_both (holds ram address 4) _ ram IsBytes
+    cond_both (ram_holds_range ram address 4) _ ram IsBytes
     (λ _. bytes-written ram address (to_be_bytes w32 value) bytes (bytes-number value))
     (λ _. bytes)
 
 null_word-short : (ram : List ℕ) (address : ℕ) → IsBytes ram → Is32Bit (null_word ram address)
 null_word-short ram address bytes =
-    cond_both (holds ram address 4) (word_at ram address) 0 Is32Bit
+    cond_both (ram_holds_range ram address 4) (word_at_address ram address) 0 Is32Bit
     (λ _. word_at-short ram address bytes) (λ _. lit< tt)
 
 -- ---- What a step is made of
@@ -260,7 +260,7 @@ module _ (core : CoreState) (slot : ℕ) (live : IsLive core slot) (rules : Rule
       → StoresIn core slot place step.stored
       → RulesHold (core_after_step core slot place session step)
   stepped-holds place session step keeps sound alive own =
-      let cells = cells_after slot core.cells step in
+      let cells = cells_after_step slot core.cells step in
       let ways = stored_at core.ways place step.stored in
       let ram = given_out core.ram step.released in
       let first = with_cells-holds core rules cells (cells_after-short slot core.cells step keeps
@@ -272,15 +272,15 @@ module _ (core : CoreState) (slot : ℕ) (live : IsLive core slot) (rules : Rule
       (length-given_out core.ram step.released) in
       let fourth = with_session-holds (record base { ram = ram }) third slot session sound
       (λ _. alive) in
-      noted-holds (with_session (record base { ram = ram }) slot session) fourth
+      noted-holds (core_with_session (record base { ram = ram }) slot session) fourth
       (entry.Step (session_of core slot).install step) (live-came core rules slot live, keeps)
       refl
 
   trapped-holds : (why : Cause) → KeepsCause why → RulesHold (after_trap core slot why).0
   trapped-holds why keeps =
       let sound = session-sound core rules slot in
-      noted-holds (with_session core slot (paused (session_of core slot)))
-      (with_session-holds core rules slot (paused (session_of core slot)) (record {
+      noted-holds (core_with_session core slot (session_after_pause (session_of core slot)))
+      (with_session-holds core rules slot (session_after_pause (session_of core slot)) (record {
         entry = sound.entry;
         pc = sound.pc;
         npc = sound.npc;
@@ -440,7 +440,7 @@ module _ (v : Versions) (Stands : StandsFor) (law : VersionLaw v Stands)
   ran-well core word (Ok effect) is runs rules =
       let s = session_of core slot in
       let sound = session-sound core rules slot in
-      let found = instruction_or_fault (read word) in
+      let found = instruction_or_fault (instruction_of_word word) in
       let fits = known-Fits word in
       let short = tried-IsShortEffect (seen_by slot core.cells) s.saved found s.pc s.npc effect fits
       (seen_by-short core slot rules) sound.saved sound.npc is in

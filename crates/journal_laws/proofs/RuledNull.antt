@@ -12,8 +12,8 @@ use Rattle.xom_base.specs.declared.event.OwnFault.TheVariants as fault
 use Rattle.xom_base.specs.declared.step.Writes.{Writes}
 use Rattle.xom_base.specs.declared.step.Writes.TheVariants as writes
 use Rattle.mips_instruction.specs.declared.instruction.Ins.{Ins}
-use Rattle.mips_instruction.specs.Words.{Fits, read}
-use Rattle.mips_effect.specs.Effects.{set as set_register}
+use Rattle.mips_instruction.specs.Words.{Fits, instruction_of_word}
+use Rattle.mips_effect.specs.Effects.{write_of_register as set_register}
 use Rattle.mips_effect.specs.declared.effects.Effect.{Effect}
 use Rattle.mips_effect.specs.declared.seen.Mode.TheVariants.{Null}
 use Rattle.mips_effect.specs.declared.wish.Asked.{Asked}
@@ -21,14 +21,14 @@ use Rattle.mips_effect.specs.declared.wish.Asked.TheVariants as asked
 use Rattle.mips_effect.specs.declared.wish.Wish.{Wish}
 use Rattle.mips_effect.specs.declared.wish.Wish.TheVariants as wish
 use Rattle.mips_plain.specs.Instruction.{instruction_or_fault}
-use Rattle.mips_plain.specs.Memory.{low_bytes, word_at}
+use Rattle.mips_plain.specs.Memory.{low_bytes, word_at_address}
 use Rattle.journal_round_trip.specs.KeepsRules.{Is32Bit}
 use Rattle.tag_regs.specs.declared.cell.Cell.{Cell}
-use Rattle.tag_regs.specs.TaggedCells.{cell_at, empty}
+use Rattle.tag_regs.specs.TaggedCells.{cell_at, empty_cell}
 use Rattle.xom_model.specs.declared.outcome.NullFault.{NullFault}
 use Rattle.xom_model.specs.declared.outcome.NullFault.TheVariants as null
-use Rattle.xom_model.specs.State.{holds}
-use Rattle.xom_model.specs.Null.{Answer, Open, Told, answer_of, cause_argument, cause_number, done_answer, fetched_open, loaded_open, null_step, open_after, ran_open, seen_open, stopped_by, stored_open, tried_open, wish_answer, with_null_writes}
+use Rattle.xom_model.specs.State.{ram_holds_range}
+use Rattle.xom_model.specs.Null.{Answer, Open, Told, cause_argument, cause_number, done_answer, fetched_open, loaded_open, null_answer, null_step, open_after, ran_open, seen_open, stopped_by, stored_open, tried_open, wish_answer, with_null_writes}
 use Rattle.journal_laws.specs.RulesOfRecord.{IsShortCell, IsShortOp}
 use Rattle.journal_laws.proofs.PlainBytes.{bytes-low, bytes-written}
 use Rattle.journal_laws.proofs.RuledParts.{All-at}
@@ -67,7 +67,7 @@ cause_number-short (cause.Fault kind) = lit< tt
 cause_number-short cause.Exit = lit< tt
 cause_number-short (cause.Stopped rule) = lit< tt
 
-answer_of-short : (told : Told) (what : Asked) → IsShortTold told → Is32Bit (answer_of told what)
+answer_of-short : (told : Told) (what : Asked) → IsShortTold told → Is32Bit (null_answer told what)
 answer_of-short told asked.Status short = short.status
 answer_of-short told asked.Cause short = cause_number-short told.cause
 answer_of-short told asked.Arg short = short.cause
@@ -80,16 +80,16 @@ seen_open-short : (cells : List Cell) (reg : ℕ) → All IsShortCell cells
 seen_open-short cells reg short =
     cond_both (reg == 0) _ _ IsShortSeen (λ _. lit< tt)
     (λ _. cond_both ((cell_at cells reg).tag == 0) _ _ IsShortSeen
-    (λ _. All-at IsShortCell cells reg empty (lit< tt) short) (λ _. tt))
+    (λ _. All-at IsShortCell cells reg empty_cell (lit< tt) short) (λ _. tt))
 
 fetched_open-Fits : (ram : List ℕ) (pc : ℕ) (ins : Ins) → fetched_open ram pc ≡ Ok ins → Fits ins
 unfolding fetched_open
 fetched_open-Fits ram pc ins is = by_test _ is
   where
     by_test : (b : Bool)
-        → cond b (instruction_or_fault (read (word_at ram pc))) (Err fault.Address) ≡ Ok ins
+        → cond b (instruction_or_fault (instruction_of_word (word_at_address ram pc))) (Err fault.Address) ≡ Ok ins
         → Fits ins
-    by_test true its = known-Fits (word_at ram pc) ins its
+    by_test true its = known-Fits (word_at_address ram pc) ins its
     by_test false its = absurd (cc)
 
 -- ---- What it does
@@ -124,9 +124,9 @@ module _ (told : Told) (s : Open) (short_told : IsShortTold told) (sound : IsOpe
       (passed-open effect effect.writes short short.writes, tt)
   granted-open effect (wish.Load reg address how old) is short =
       let low : Is32Bit old = (let all = short.wish in rw is at all) in
-      let value = merge_of-short how old address (word_at s.ram (address - address % 4)) low
+      let value = merge_of-short how old address (word_at_address s.ram (address - address % 4)) low
       (word_at-short s.ram (address - address % 4) sound.ram) in
-      cond_both (holds s.ram (address - address % 4) 4)
+      cond_both (ram_holds_range s.ram (address - address % 4) 4)
       (done_answer (open_after s effect (set_register reg (loaded_open s.ram how old address))))
       (stopped_by s null.Address) GoesOpen
       (λ _. (
@@ -137,7 +137,7 @@ module _ (told : Told) (s : Open) (short_told : IsShortTold told) (sound : IsOpe
       (λ _. stopped-open null.Address)
   granted-open effect (wish.Store address count value) is short =
       let next = passed-open effect effect.writes short short.writes in
-      cond_both (holds s.ram address count)
+      cond_both (ram_holds_range s.ram address count)
       (done_answer (stored_open (open_after s effect effect.writes) address
       (low_bytes count value))) (stopped_by s null.Address) GoesOpen
       (λ _. (
@@ -153,8 +153,8 @@ module _ (told : Told) (s : Open) (short_told : IsShortTold told) (sound : IsOpe
   granted-open effect (wish.Do operation) is short =
       (passed-open effect effect.writes short short.writes, let all = short.wish in rw is at all)
   granted-open effect (wish.Ask reg what) is short = (
-    passed-open effect (set_register reg (answer_of told what)) short
-        (set-short reg (answer_of told what) (answer_of-short told what short_told)),
+    passed-open effect (set_register reg (null_answer told what)) short
+        (set-short reg (null_answer told what) (answer_of-short told what short_told)),
     tt,
   )
   granted-open effect (wish.Release reg value) is short = stopped-open null.Reserved

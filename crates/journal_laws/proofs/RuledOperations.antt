@@ -14,30 +14,30 @@ use Rattle.xom_base.specs.declared.event.Rule.{Rule}
 use Rattle.xom_base.specs.declared.event.Rule.TheVariants as rule
 use Rattle.xom_seal.specs.declared.envelope.Unwrapped.{Unwrapped}
 use Rattle.xom_seal.specs.declared.register.SealedReg.{SealedReg}
-use Rattle.xom_seal.specs.Envelopes.{contents_of, envelope_tag, id_in, tag_in, unwrapped, wrapped_in}
+use Rattle.xom_seal.specs.Envelopes.{contents_of, envelope_contents, envelope_tag, id_in, tag_in, wrapped_in}
 use Rattle.xom_seal.specs.Messages.{envelope_message}
 use Rattle.xom_seal.specs.Sealing.{register_masked, unsealed_register}
 use Rattle.xom_seal.proofs.SealLaws.{let_through}
 use Rattle.mips_plain.proofs.Stores.{length-written_at}
 use Rattle.journal_round_trip.specs.KeepsRules.{Is32Bit}
-use Rattle.line_ram.specs.Bytes.{HoldsFrame, HoldsRange, stored}
+use Rattle.line_ram.specs.Bytes.{HoldsFrame, HoldsRange, ram_with_bytes}
 use Rattle.page_map.specs.Pages.{no_pages, pages_at, with_page}
 use Rattle.tag_regs.specs.declared.cell.Cell.{Cell}
 use Rattle.tag_regs.specs.TaggedCells.{cell_at}
 use Rattle.session_table.specs.declared.session.Session.{Session}
 use Rattle.session_table.specs.declared.session.SlotState.{SlotState}
 use Rattle.session_table.specs.declared.session.SlotState.TheVariants as state
-use Rattle.session_table.specs.Sessions.{entered, free, is_live, resumed}
+use Rattle.session_table.specs.Sessions.{free, is_live, session_after_enter, session_after_resume}
 use Rattle.xom_versions.specs.Store.{area_size}
 use Rattle.xom_versions.specs.Versions.{VersionLaw, Versions}
 use Rattle.xom_model.specs.Versions.{StandsFor}
-use Rattle.xom_model.specs.State.{CoreState, holds, session_of, with_cells, with_entry, with_session}
+use Rattle.xom_model.specs.State.{CoreState, core_with_session, ram_holds_range, session_of, with_cells, with_entry}
 use Rattle.xom_model.specs.Lines.{who_of}
 use Rattle.xom_model.specs.Saves.{reg_accept_entry, reg_keys, reg_name, reg_seal_entry, saved_at, sealed_reg, with_saved}
 use Rattle.xom_model.specs.Access.{after_flush, without_guest}
 use Rattle.xom_model.specs.Guest.{after_delivery, session_after_signal, signal_of}
 use Rattle.xom_model.specs.Holds.{FramesFit, IsLive}
-use Rattle.xom_model.specs.Operation.{after_install, after_kill, after_reopening, after_restore, after_save, after_unmap, enter, envelope_at, epoch_of, first_refusal_or, go_on, image_tests, install, install_tests, is_cell, is_missing, is_slot, kill, kill_tests, map_page, map_tests, missing_cell, missing_from, operation, reopening, restore_register, restore_tests, resume, save_register, save_tests, session_for, set_register, slot_takes_signal, unmap_page, unmap_tests, unwrap, with_signal}
+use Rattle.xom_model.specs.Operation.{after_install, after_kill, after_reopening, after_restore, after_save, after_unmap, enter, envelope_in_ram, epoch_of, first_refusal_or, image_tests, install, install_tests, is_cell, is_missing, is_slot, kill, kill_tests, map_page, map_tests, missing_cell, missing_from, operation, reopening, restore_register, restore_tests, resume, resume_or_stop, save_register, save_tests, session_for, set_register, slot_takes_signal, unmap_page, unmap_tests, unwrap, with_signal}
 use Rattle.xom_model.proofs.WalkEvents.{good_slot, paused_live, slot_from}
 use Rattle.journal_laws.specs.RulesOfRecord.{StoresKeepRules, IsShortCell, IsShortOp, IsSoundSession, RulesHold}
 use Rattle.journal_laws.proofs.PlainBytes.{bytes-number, bytes-take, bytes-drop, bytes-written, envelope_message-payload, from_be_bytes-short, key_masked-payload, register_aes-bytes, register_masked-bytes, register_masked-short, register_message-payload, register_tag-bytes, register_tag-payload, register_tag-size}
@@ -79,7 +79,7 @@ cell-low reg is = elim (is_cell reg) as (λ b. is_cell reg ≡ b → not b ≡ f
   | false ↦ λ _ bad. absurd (cc)
 ] refl is
 
-range-held : (ram : List ℕ) (address count : ℕ) → holds ram address count ≡ true
+range-held : (ram : List ℕ) (address count : ℕ) → ram_holds_range ram address count ≡ true
     → address + count ≤ length ram
 range-held ram address count is = grind (arith, nat_tests)
 
@@ -119,10 +119,10 @@ module _ (core : CoreState) (rules : RulesHold core) where
   refused-well status short = (rules, short)
 
   entered-well : (slot : ℕ) → IsLive core slot
-      → DoesWell (with_session core slot (entered (session_of core slot)), 0)
+      → DoesWell (core_with_session core slot (session_after_enter (session_of core slot)), 0)
   entered-well slot live =
       let sound = session-sound core rules slot in (
-        with_session-holds core rules slot (entered (session_of core slot)) (record {
+        with_session-holds core rules slot (session_after_enter (session_of core slot)) (record {
           entry = sound.entry;
           pc = sound.entry;
           npc = omega arith;
@@ -180,10 +180,10 @@ module _ (core : CoreState) (rules : RulesHold core) (slot signal : ℕ)
   live-here : IsLive core slot
   live-here = ap is_live is
 
-  now-holds : RulesHold (with_session core slot (resumed (session_of core slot)))
+  now-holds : RulesHold (core_with_session core slot (session_after_resume (session_of core slot)))
   now-holds =
       let sound = session-sound core rules slot in
-      with_session-holds core rules slot (resumed (session_of core slot)) (record {
+      with_session-holds core rules slot (session_after_resume (session_of core slot)) (record {
         entry = sound.entry;
         pc = sound.pc;
         npc = sound.npc;
@@ -196,11 +196,11 @@ module _ (core : CoreState) (rules : RulesHold core) (slot signal : ℕ)
       }) (λ _. refl)
 
   go_on-well : (lost : Option ℕ) → missing_cell slot (session_of core slot).mask core.cells ≡ lost
-      → DoesWell (go_on core slot signal lost)
+      → DoesWell (resume_or_stop core slot signal lost)
   go_on-well None none =
-      let now = with_session core slot (resumed (session_of core slot)) in
+      let now = core_with_session core slot (session_after_resume (session_of core slot)) in
       let alive : IsLive now slot = ap (λ (s : Session). is_live s.state)
-      (get_or-set_same core.sessions slot (resumed (session_of core slot)) free
+      (get_or-set_same core.sessions slot (session_after_resume (session_of core slot)) free
       (live-within core.sessions slot live-here)) in
       (signal-holds now slot signal (omega arith) alive now-holds, lit< tt)
   go_on-well (Some reg) found = (
@@ -218,10 +218,10 @@ resume-well core rules slot signal state.Running is = refused-well core rules 2 
 resume-well core rules slot signal state.Paused is =
     let gap = missing_cell slot (session_of core slot).mask core.cells in
     either-well core rules (nat_le signal 63)
-    (cond (slot_takes_signal (session_of core slot) signal) (go_on core slot signal gap)
+    (cond (slot_takes_signal (session_of core slot) signal) (resume_or_stop core slot signal gap)
     (core, 2)) (core, 7)
     (λ few. either-well core rules (slot_takes_signal (session_of core slot) signal)
-    (go_on core slot signal gap) (core, 2)
+    (resume_or_stop core slot signal gap) (core, 2)
     (λ _. go_on-well core rules slot signal is (grind (arith, nat_tests)) gap refl)
     (refused-well core rules 2 (lit< tt))) (refused-well core rules 7 (lit< tt))
 resume-well core rules slot signal state.Ended is = refused-well core rules 2 (lit< tt)
@@ -232,14 +232,14 @@ resume-well core rules slot signal (state.Stopped why) is = refused-well core ru
 with_saved-bytes : (ram : List ℕ) (address : ℕ) (sealed : SealedReg) → IsBytes ram
     → IsBytes sealed.ct → IsBytes sealed.tag → IsBytes (with_saved ram address sealed)
 with_saved-bytes ram address sealed bytes ct tag =
-    bytes-written (stored ram address sealed.ct) (address + 4) sealed.tag
+    bytes-written (ram_with_bytes ram address sealed.ct) (address + 4) sealed.tag
     (bytes-written ram address sealed.ct bytes ct) tag
 
 with_saved-size : (ram : List ℕ) (address : ℕ) (sealed : SealedReg) → length sealed.ct ≤ 4
     → length sealed.tag ≡ 32 → address + 36 ≤ length ram
     → length (with_saved ram address sealed) ≡ length ram
 with_saved-size ram address sealed ct tag within =
-    let once = stored ram address sealed.ct in
+    let once = ram_with_bytes ram address sealed.ct in
     let first : length once ≡ length ram = length-written_at ram address sealed.ct (omega arith) in
     length-written_at once (address + 4) sealed.tag (omega arith) ∙ first
 
@@ -273,7 +273,7 @@ save-well core slot reg address rules =
     (lit< tt, (lit< tt, (lit< tt, (lit< tt, (lit< tt, tt)))))
     (λ (p : Passes (save_tests core slot reg address)). (
       saved-holds core slot reg address (cell-low reg p.1.1.0)
-          (range-held core.ram address 36 (not-false (holds core.ram address 36) p.1.1.1.0)) rules,
+          (range-held core.ram address 36 (not-false (ram_holds_range core.ram address 36) p.1.1.1.0)) rules,
       lit<
           tt,
     ))
@@ -328,7 +328,7 @@ restore-well core slot reg address rules =
     (lit< tt, (lit< tt, (lit< tt, (lit< tt, (lit< tt, tt)))))
     (λ (p : Passes (restore_tests core slot reg address)).
     reopen-well core slot reg address rules (cell-low reg p.1.1.0)
-    (range-held core.ram address 36 (not-false (holds core.ram address 36) p.1.1.1.0))
+    (range-held core.ram address 36 (not-false (ram_holds_range core.ram address 36) p.1.1.1.0))
     (paused_live (session_of core slot).state p.1.0))
 
 -- ---- Pages
@@ -355,7 +355,7 @@ map-well v core slot page frame rules =
     (lit< tt, (lit< tt, (lit< tt, (lit< tt, (lit< tt, tt)))))
     (λ (p : Passes (map_tests core slot page frame)).
     let within = range-held core.ram (frame * 8192) 8192
-    (not-false (holds core.ram (frame * 8192) 8192) p.1.1.1.0) in (
+    (not-false (ram_holds_range core.ram (frame * 8192) 8192) p.1.1.1.0) in (
       with_pages-holds core rules (with_page core.pages slot page (Some frame))
           (with_page-fits core.pages core.ram slot page (Some frame)
           (λ f is. subst (HoldsFrame core.ram) (one_frame frame f is) within) rules.frames),
@@ -391,7 +391,7 @@ module _ (v : Versions) (Stands : StandsFor) (law : VersionLaw v Stands)
       tested-well core (kill_tests core slot) (after_kill v core slot, 0) rules (lit< tt, tt)
       (λ (p : Passes (kill_tests core slot)).
       let came = (session-sound core rules slot).install (good_slot core slot p.0).1 in (
-        noted-holds (with_session (without_guest core slot) slot free)
+        noted-holds (core_with_session (without_guest core slot) slot free)
             (out-holds core rules slot free (free-IsSoundSession core.installs))
             (entry.Kill (session_of core slot).install) came refl,
         lit< tt,
@@ -404,7 +404,7 @@ module _ (v : Versions) (Stands : StandsFor) (law : VersionLaw v Stands)
       (to : slot ≤ 16) (few : core.installs + 1 < 2 ^ 64)
       (fits : place + 88 ≤ length core.ram) (roomy : area + area_size ≤ length core.ram) where
     abbrev envelope : List ℕ
-    envelope = envelope_at core place
+    envelope = envelope_in_ram core place
 
     envelope-bytes : IsBytes envelope
     envelope-bytes = part-bytes core.ram place 88 rules.ram
@@ -492,7 +492,7 @@ module _ (v : Versions) (Stands : StandsFor) (law : VersionLaw v Stands)
         (v.texts_of_build area said.lines core.ram) (hashes.texts_of_build area said.lines
         core.ram rules.ram) fifth
 
-    unwrap-well : (opens : Option Unwrapped) → unwrapped core.machine envelope ≡ opens
+    unwrap-well : (opens : Option Unwrapped) → envelope_contents core.machine envelope ≡ opens
         → DoesWell (unwrap v core slot place area opens)
     unwrap-well None is = (rules, lit< tt)
     unwrap-well (Some plain) is =
@@ -506,13 +506,13 @@ module _ (v : Versions) (Stands : StandsFor) (law : VersionLaw v Stands)
       → RulesHold core → DoesWell (install v core slot place area)
   install-well core slot place area few rules =
       tested-well core (install_tests core slot place area)
-      (unwrap v core slot place area (unwrapped core.machine (envelope_at core place))) rules
+      (unwrap v core slot place area (envelope_contents core.machine (envelope_in_ram core place))) rules
       (lit< tt, (lit< tt, (lit< tt, tt))) (λ (p : Passes (install_tests core slot place area)).
       let slots = slot_from slot p.0 in
-      let held = both-held (holds core.ram place 88) (holds core.ram area area_size) p.1.1.0 in
+      let held = both-held (ram_holds_range core.ram place 88) (ram_holds_range core.ram area area_size) p.1.1.0 in
       unwrap-well core rules slot place area slots.0 slots.1 few
       (range-held core.ram place 88 held.0) (range-held core.ram area area_size held.1)
-      (unwrapped core.machine (envelope_at core place)) refl)
+      (envelope_contents core.machine (envelope_in_ram core place)) refl)
 
   -- ---- Each operation
 

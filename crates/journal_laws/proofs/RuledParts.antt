@@ -14,13 +14,13 @@ use Rattle.line_cache.specs.declared.way.Way.{Way}
 use Rattle.line_cache.specs.Ways.{free_if, free_way, way_at, without_slot}
 use Rattle.page_map.specs.Pages.{frame_of, without_pages}
 use Rattle.tag_regs.specs.declared.cell.Cell.{Cell}
-use Rattle.tag_regs.specs.TaggedCells.{cell_at, empty, scrubbed_cell}
+use Rattle.tag_regs.specs.TaggedCells.{cell_at, empty_cell, scrubbed_cell}
 use Rattle.session_table.specs.declared.session.Session.{Session}
 use Rattle.session_table.specs.declared.session.SlotState.{SlotState}
 use Rattle.session_table.specs.declared.session.SlotState.TheVariants as state
 use Rattle.session_table.specs.Sessions.{free, is_live, session_at}
 use Rattle.xom_versions.specs.Store.{HoldsArea, Store, hash_entry}
-use Rattle.xom_model.specs.State.{CoreState, core_with_hashes, no_store, session_of, store_of, with_cells, with_entry, with_session, with_way}
+use Rattle.xom_model.specs.State.{CoreState, core_with_hashes, core_with_session, core_with_way, no_store, session_of, store_of, with_cells, with_entry}
 use Rattle.xom_model.specs.Access.{without_guest}
 use Rattle.xom_model.specs.Operation.{is_free_state}
 use Rattle.xom_model.specs.Holds.{FramesFit, IsLive}
@@ -198,7 +198,7 @@ module _ (core : CoreState) (holds : RulesHold core) where
   live-came slot live = (session-sound slot).install (live-taken (session_of core slot).state live)
 
   pub cell-short : (reg : ℕ) → Is32Bit (cell_at core.cells reg).value
-  cell-short reg = All-at IsShortCell core.cells reg empty (lit< tt) holds.cells
+  cell-short reg = All-at IsShortCell core.cells reg empty_cell (lit< tt) holds.cells
 
   pub noted-holds : (e : Entry) → KeepsEntry core.installs e
       → last_behind core.installs e ≡ core.installs → RulesHold (with_entry core e)
@@ -219,7 +219,7 @@ module _ (core : CoreState) (holds : RulesHold core) where
 
   pub with_session-holds : (slot : ℕ) (s : Session) → IsSoundSession core.installs s
       → (is_live (session_of core slot).state ≡ true → is_live s.state ≡ true)
-      → RulesHold (with_session core slot s)
+      → RulesHold (core_with_session core slot s)
   with_session-holds slot s sound stays = record {
     journal = holds.journal;
     last = holds.last;
@@ -270,7 +270,7 @@ module _ (core : CoreState) (holds : RulesHold core) where
 
   pub with_way-holds : (place : ℕ) (way : Way)
       → (place < length core.ways → IsSoundWay core.sessions way)
-      → RulesHold (with_way core place way)
+      → RulesHold (core_with_way core place way)
   with_way-holds place way sound =
       ways-hold (set core.ways place way) core.pointers
       (set-each (IsSoundWay core.sessions) core.ways place way free_way sound holds.ways)
@@ -388,7 +388,7 @@ module _ (core : CoreState) (holds : RulesHold core) where
   ]
 
   pub out-holds : (slot : ℕ) (s : Session) → IsSoundSession core.installs s
-      → RulesHold (with_session (without_guest core slot) slot s)
+      → RulesHold (core_with_session (without_guest core slot) slot s)
   unfolding without_guest
   out-holds slot s sound = record {
     journal = holds.journal;
@@ -398,7 +398,7 @@ module _ (core : CoreState) (holds : RulesHold core) where
     places = let same = length-set core.sessions slot s in let few : length core.sessions ≤ 17 =
         holds.places in omega arith;
     cells = All-map IsShortCell (scrubbed_cell slot) core.cells
-        (λ k d within. cond_both ((get_or core.cells k d).tag == slot) empty (get_or core.cells k d)
+        (λ k d within. cond_both ((get_or core.cells k d).tag == slot) empty_cell (get_or core.cells k d)
         IsShortCell (λ _. lit< tt) (λ _. holds.cells k d within));
     ways = way-out slot s;
     ram = holds.ram;

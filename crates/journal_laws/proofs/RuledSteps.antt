@@ -3,13 +3,13 @@ use Rattle.std.proofs.Common.{◌≡◌, ℕ, zero, suc, ◌+◌, ◌%◌, ◌^�
 use Rattle.std.proofs.lemmas.Bool.{cond_both, eqb-false}
 use Rattle.hex.specs.Hex.{IsBytes}
 use Rattle.mips_instruction.specs.declared.instruction.Ins.{Ins}
-use Rattle.mips_instruction.specs.Words.{Fits, read}
+use Rattle.mips_instruction.specs.Words.{Fits, instruction_of_word}
 use Rattle.mips_isa.proofs.Reading.{read-Fits}
 use Rattle.xom_base.specs.declared.event.OwnFault.{OwnFault}
 use Rattle.xom_base.specs.declared.step.Writes.{Writes}
 use Rattle.xom_base.specs.declared.step.Writes.TheVariants as writes
-use Rattle.mips_effect.specs.Arithmetic.{byte_of, half_of, left_merged, right_merged}
-use Rattle.mips_effect.specs.Effects.{AreCells, IsInRange, Ranged, merge_of, set as set_register}
+use Rattle.mips_effect.specs.Arithmetic.{byte_in_word, half_of, left_merged, right_merged}
+use Rattle.mips_effect.specs.Effects.{AreCells, IsInRange, Ranged, merge_of, write_of_register as set_register}
 use Rattle.mips_effect.specs.declared.effects.Effect.{Effect}
 use Rattle.mips_effect.specs.declared.seen.Mode.TheVariants.{Guest}
 use Rattle.mips_effect.specs.declared.seen.Seen.{Seen}
@@ -18,14 +18,14 @@ use Rattle.mips_effect.specs.declared.wish.LoadKind.TheVariants as kind
 use Rattle.mips_effect.specs.declared.wish.Wish.{Wish}
 use Rattle.mips_effect.specs.declared.wish.Wish.TheVariants as wish
 use Rattle.mips_plain.specs.Instruction.{effect_at, instruction_or_fault, step_made, step_of_wish, with_kept_pair, with_return}
-use Rattle.mips_plain.specs.Memory.{word_at}
+use Rattle.mips_plain.specs.Memory.{word_at_address}
 use Rattle.journal_round_trip.specs.KeepsRules.{Is32Bit, KeepsStep, KeepsWrites}
 use Rattle.journal_laws.specs.RulesOfRecord.{IsShortPair}
 use Rattle.journal_laws.proofs.PlainBytes.{bytes-drop, bytes-take, from_be_bytes-short}
 use Rattle.journal_laws.proofs.ShortEffects.{AreShortWrites, IsShortEffect, IsShortSeen, IsShortWish, effect_of-IsShortEffect, reduced-short}
 
 -- the word of bytes at a place
-pub word_at-short : (bytes : List ℕ) (address : ℕ) → IsBytes bytes → Is32Bit (word_at bytes address)
+pub word_at-short : (bytes : List ℕ) (address : ℕ) → IsBytes bytes → Is32Bit (word_at_address bytes address)
 word_at-short bytes address each =
     from_be_bytes-short (take 4 (drop address bytes))
     (bytes-take 4 (drop address bytes) (bytes-drop address bytes each))
@@ -48,7 +48,7 @@ right_merged-short old (suc (suc zero)) word low short_old short = omega arith
 right_merged-short old (suc (suc (suc zero))) word low short_old short = omega arith
 right_merged-short old (suc (suc (suc (suc place)))) word low short_old short = absurd (omega arith)
 
-byte_of-short : (word place : ℕ) → Is32Bit (byte_of word place)
+byte_of-short : (word place : ℕ) → Is32Bit (byte_in_word word place)
 byte_of-short word place = omega arith
 
 half_of-short : (word place : ℕ) → Is32Bit (half_of word place)
@@ -141,10 +141,10 @@ module _ (pc npc word got : ℕ) (short_pc : Is32Bit pc) (short_npc : Is32Bit np
       short.writes) ranged.wish short.wish
 
 -- an instruction that is read has its operands in their ranges
-pub known-Fits : (word : ℕ) (ins : Ins) → instruction_or_fault (read word) ≡ Ok ins → Fits ins
-known-Fits word ins is = by_found (read word) refl is
+pub known-Fits : (word : ℕ) (ins : Ins) → instruction_or_fault (instruction_of_word word) ≡ Ok ins → Fits ins
+known-Fits word ins is = by_found (instruction_of_word word) refl is
   where
-    by_found : (found : Option Ins) → read word ≡ found → instruction_or_fault found ≡ Ok ins
+    by_found : (found : Option Ins) → instruction_of_word word ≡ found → instruction_or_fault found ≡ Ok ins
         → Fits ins
     by_found None has its = absurd (cc)
     by_found (Some i) has its = let same : i ≡ ins = cc in subst Fits same (read-Fits i word has)

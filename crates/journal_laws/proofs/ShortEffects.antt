@@ -9,7 +9,7 @@ use Rattle.std.specs.Prelude.{bit_and}
 use Rattle.mips_instruction.specs.declared.instruction.Ins.{Ins}
 use Rattle.mips_instruction.specs.declared.instruction.Ins.TheVariants.{Sll, Srl, Sra, Sllv, Srlv, Srav, Jr, Jalr, Syscall, Break, Mfhi, Mthi, Mflo, Mtlo, Mult, Multu, Div, Divu, Add, Addu, Sub, Subu, And, Or, Xor, Nor, Slt, Sltu, Bltz, Bgez, Bltzal, Bgezal, J, Jal, Beq, Bne, Blez, Bgtz, Addi, Addiu, Slti, Sltiu, Andi, Ori, Xori, Lui, Lb, Lh, Lwl, Lw, Lbu, Lhu, Lwr, Sb, Sh, Swl, Sw, Swr, Xlwn, Xswn, Xmvtn, Xmvfn, Xexit, Xhand, Xsigret, Xinstall, Xenter, Xresume, Xsave, Xrestore, Xmap, Xunmap, Xkill, Xout, Xhalt, Xstat, Xcause, Xarg, Xwho}
 use Rattle.mips_instruction.specs.Words.{Fits}
-use Rattle.mips_instruction.specs.Numbers.{after, extended, jump_target, plus_signed, reduced, reduced_64, signed}
+use Rattle.mips_instruction.specs.Numbers.{jump_target, next_address, number_modulo_word, plus_signed, reduced_64, sign_extended, signed_number}
 use Rattle.xom_base.specs.declared.event.Op.TheVariants as op
 use Rattle.xom_base.specs.declared.event.OwnFault.TheVariants as fault
 use Rattle.xom_base.specs.declared.step.Writes.{Writes}
@@ -23,8 +23,8 @@ use Rattle.mips_effect.specs.declared.wish.LoadKind.{LoadKind}
 use Rattle.mips_effect.specs.declared.wish.LoadKind.TheVariants as kind
 use Rattle.mips_effect.specs.declared.wish.Wish.{Wish}
 use Rattle.mips_effect.specs.declared.wish.Wish.TheVariants as wish
-use Rattle.mips_effect.specs.Arithmetic.{bit_if, divided, divided_unsigned, halves, in_32}
-use Rattle.mips_effect.specs.Effects.{act, at_word, effect_of, goes_on, is_barred, is_open, is_reserved, judged, jumps, loads, number_of, seen_at, set, sets, sets_or_overflows, size_of, sources_of, stores, stores_left, stores_part, stores_right, way, wishes, writes_only}
+use Rattle.mips_effect.specs.Arithmetic.{bit_if, divided_unsigned, in_32, pair_of_halves, quotient_and_remainder}
+use Rattle.mips_effect.specs.Effects.{act, alignment_of, at_word, effect_going_on, effect_of, effect_or_fault, is_barred, is_open, is_reserved, jumps, loads, number_of_seen, seen_at, sets, sets_or_overflows, sources_of, stores, stores_left, stores_part, stores_right, way, wishes, write_of_register, writes_only}
 use Rattle.journal_round_trip.specs.KeepsRules.{Is32Bit}
 use Rattle.journal_laws.specs.RulesOfRecord.{IsShortOp}
 
@@ -65,7 +65,7 @@ IsShortSeen Foreign = Unit {0}
 mod-short : (n : ℕ) → Is32Bit (n % 2 ^ 32)
 mod-short n = omega arith
 
-pub reduced-short : (z : ℤ) → Is32Bit (reduced z)
+pub reduced-short : (z : ℤ) → Is32Bit (number_modulo_word z)
 reduced-short (pos n) = omega arith
 reduced-short (negsuc n) = omega arith
 
@@ -96,10 +96,10 @@ jump_target-short : (following index : ℕ) → Is32Bit following → index < 2 
     → Is32Bit (jump_target following index)
 jump_target-short following index short low = omega arith
 
-halves-short : (n : ℕ) → n < 2 ^ 64 → AreShortWrites (halves n)
+halves-short : (n : ℕ) → n < 2 ^ 64 → AreShortWrites (pair_of_halves n)
 halves-short n low = (omega arith, omega arith)
 
-divided-short : (s t : ℕ) → Is32Bit s → AreShortWrites (divided s t)
+divided-short : (s t : ℕ) → Is32Bit s → AreShortWrites (quotient_and_remainder s t)
 divided-short s t short =
     cond_both (t == 0) _ _ AreShortWrites (λ _. (short, lit< tt))
     (λ _. (reduced-short _, reduced-short _))
@@ -109,7 +109,7 @@ divided_unsigned-short s t short =
     cond_both (t == 0) _ _ AreShortWrites (λ _. (short, lit< tt))
     (λ _. (let low : s % t ≤ s = mod-le s t in omega arith, div-short s t short))
 
-pub set-short : (reg value : ℕ) → Is32Bit value → AreShortWrites (set reg value)
+pub set-short : (reg value : ℕ) → Is32Bit value → AreShortWrites (write_of_register reg value)
 set-short reg value short = cond_both (reg == 0) _ _ AreShortWrites (λ _. tt) (λ _. short)
 
 -- the high bytes of a word, from a place to its end
@@ -126,7 +126,7 @@ left-low (suc (suc (suc (suc place)))) value low short = absurd (omega arith)
 module _ (mode : Mode) (s t d following : ℕ) (short_s : Is32Bit s) (short_t : Is32Bit t)
     (short_d : Is32Bit d) (short_following : Is32Bit following) where
   goes_on-short : (written : Writes) (wished : Wish) → AreShortWrites written → IsShortWish wished
-      → IfOk (goes_on written wished following) IsShortEffect
+      → IfOk (effect_going_on written wished following) IsShortEffect
   goes_on-short written wished short_writes short_wish =
       record { writes = short_writes; wish = short_wish; pc = short_following; npc = mod-short _ }
 
@@ -139,11 +139,11 @@ module _ (mode : Mode) (s t d following : ℕ) (short_s : Is32Bit s) (short_t : 
 
   sets-short : (reg value : ℕ) → Is32Bit value → IfOk (sets reg value following) IsShortEffect
   sets-short reg value short =
-      goes_on-short (set reg value) wish.Nothing (set-short reg value short) tt
+      goes_on-short (write_of_register reg value) wish.Nothing (set-short reg value short) tt
 
   in_32-short : (reg : ℕ) (z : ℤ) → IfOk (sets_or_overflows reg (in_32 z) following) IsShortEffect
   in_32-short reg z =
-      cond_both _ (Some (reduced z)) None (λ o. IfOk (sets_or_overflows reg o following)
+      cond_both _ (Some (number_modulo_word z)) None (λ o. IfOk (sets_or_overflows reg o following)
       IsShortEffect) (λ _. sets-short reg _ (reduced-short z)) (λ _. tt)
 
   jumps-short : (written : Writes) (to : ℕ) → AreShortWrites written → Is32Bit to
@@ -158,7 +158,7 @@ module _ (mode : Mode) (s t d following : ℕ) (short_s : Is32Bit s) (short_t : 
   loads-short : (how : LoadKind) (reg address old : ℕ) → Is32Bit old
       → IfOk (loads mode how reg address old following) IsShortEffect
   loads-short how reg address old short =
-      cond_both (is_open mode (size_of how) address) _ _ (λ r. IfOk r IsShortEffect)
+      cond_both (is_open mode (alignment_of how) address) _ _ (λ r. IfOk r IsShortEffect)
       (λ _. wishes-short (wish.Load reg address how old) short) (λ _. tt)
 
   stores-short : (count address value : ℕ) → value < 2 ^ (8 * count)
@@ -201,7 +201,7 @@ module _ (mode : Mode) (s t d following : ℕ) (short_s : Is32Bit s) (short_t : 
   act-short (Srav rd rt rs) fits = sets-short rd _ (reduced-short _)
   act-short (Jr rs) fits = jumps-short writes.Nothing s tt short_s
   act-short (Jalr rd rs) fits =
-      jumps-short (set rd (after following)) s (set-short rd _ (mod-short _)) short_s
+      jumps-short (write_of_register rd (next_address following)) s (set-short rd _ (mod-short _)) short_s
   act-short (Syscall code) fits = wishes-short (wish.Call code) tt
   act-short (Break code) fits = tt
   act-short (Mfhi rd) fits = sets-short rd _ short_s
@@ -213,9 +213,9 @@ module _ (mode : Mode) (s t d following : ℕ) (short_s : Is32Bit s) (short_t : 
       writes-short _ (halves-short _ (mul-lt s t (2 ^ 32) (2 ^ 32) short_s short_t))
   act-short (Div rs rt) fits = writes-short _ (divided-short s t short_s)
   act-short (Divu rs rt) fits = writes-short _ (divided_unsigned-short s t short_s)
-  act-short (Add rd rs rt) fits = in_32-short rd (signed s +ℤ signed t)
+  act-short (Add rd rs rt) fits = in_32-short rd (signed_number s +ℤ signed_number t)
   act-short (Addu rd rs rt) fits = sets-short rd _ (mod-short _)
-  act-short (Sub rd rs rt) fits = in_32-short rd (signed s -ℤ signed t)
+  act-short (Sub rd rs rt) fits = in_32-short rd (signed_number s -ℤ signed_number t)
   act-short (Subu rd rs rt) fits = sets-short rd _ (reduced-short _)
   act-short (And rd rs rt) fits = sets-short rd _ (and-short s t short_s)
   act-short (Or rd rs rt) fits = sets-short rd _ (or_of_32 s t short_s short_t)
@@ -226,19 +226,19 @@ module _ (mode : Mode) (s t d following : ℕ) (short_s : Is32Bit s) (short_t : 
   act-short (Bltz rs imm) fits = jumps-short writes.Nothing _ tt (way-short _ imm)
   act-short (Bgez rs imm) fits = jumps-short writes.Nothing _ tt (way-short _ imm)
   act-short (Bltzal rs imm) fits =
-      jumps-short (set 31 (after following)) _ (set-short 31 _ (mod-short _)) (way-short _ imm)
+      jumps-short (write_of_register 31 (next_address following)) _ (set-short 31 _ (mod-short _)) (way-short _ imm)
   act-short (Bgezal rs imm) fits =
-      jumps-short (set 31 (after following)) _ (set-short 31 _ (mod-short _)) (way-short _ imm)
+      jumps-short (write_of_register 31 (next_address following)) _ (set-short 31 _ (mod-short _)) (way-short _ imm)
   act-short (J index) fits =
       jumps-short writes.Nothing _ tt (jump_target-short following index short_following fits)
   act-short (Jal index) fits =
-      jumps-short (set 31 (after following)) _ (set-short 31 _ (mod-short _))
+      jumps-short (write_of_register 31 (next_address following)) _ (set-short 31 _ (mod-short _))
       (jump_target-short following index short_following fits)
   act-short (Beq rs rt imm) fits = jumps-short writes.Nothing _ tt (way-short _ imm)
   act-short (Bne rs rt imm) fits = jumps-short writes.Nothing _ tt (way-short _ imm)
   act-short (Blez rs imm) fits = jumps-short writes.Nothing _ tt (way-short _ imm)
   act-short (Bgtz rs imm) fits = jumps-short writes.Nothing _ tt (way-short _ imm)
-  act-short (Addi rt rs imm) fits = in_32-short rt (signed s +ℤ signed (extended imm))
+  act-short (Addi rt rs imm) fits = in_32-short rt (signed_number s +ℤ signed_number (sign_extended imm))
   act-short (Addiu rt rs imm) fits = sets-short rt _ (reduced-short _)
   act-short (Slti rt rs imm) fits = sets-short rt _ (bit_if-short _)
   act-short (Sltiu rt rs imm) fits = sets-short rt _ (bit_if-short _)
@@ -286,7 +286,7 @@ module _ (mode : Mode) (s t d following : ℕ) (short_s : Is32Bit s) (short_t : 
   act-short (Xarg rd) fits = wishes-short (wish.Ask rd asked.Arg) tt
   act-short (Xwho rd) fits = wishes-short (wish.Ask rd asked.Who) tt
 
-number_of-short : (v : Seen) → IsShortSeen v → Is32Bit (number_of v)
+number_of-short : (v : Seen) → IsShortSeen v → Is32Bit (number_of_seen v)
 number_of-short (Value v) short = short
 number_of-short Foreign short = lit< tt
 
@@ -295,12 +295,12 @@ seen_at-short cell v short = cond_both (cell == 0) _ _ IsShortSeen (λ _. lit< t
 
 judged-short : (i : Ins) (mode : Mode) (a b c : Seen) (following : ℕ) → Fits i → IsShortSeen a
     → IsShortSeen b → IsShortSeen c
-    → Is32Bit following → IfOk (judged i mode a b c following) IsShortEffect
+    → Is32Bit following → IfOk (effect_or_fault i mode a b c following) IsShortEffect
 judged-short i mode a b c following fits short_a short_b short_c short =
     cond_both (is_reserved mode i) (Err fault.Reserved) _ (λ r. IfOk r IsShortEffect) (λ _. tt)
     (λ _. cond_both (is_barred mode i a b c) (Err fault.Foreign) _ (λ r. IfOk r IsShortEffect)
     (λ _. tt)
-    (λ _. act-short mode (number_of a) (number_of b) (number_of c) following
+    (λ _. act-short mode (number_of_seen a) (number_of_seen b) (number_of_seen c) following
     (number_of-short a short_a) (number_of-short b short_b) (number_of-short c short_c) short i
     fits))
 

@@ -9,9 +9,9 @@ use Rattle.xom_base.specs.declared.event.Cause.{Cause}
 use Rattle.xom_base.specs.declared.event.Cause.TheVariants as cause
 use Rattle.xom_base.specs.declared.event.Rule.{Rule}
 use Rattle.xom_base.specs.declared.event.Rule.TheVariants as rule
-use Rattle.step_text.specs.StepTexts.{fault_text, step_fields}
-use Rattle.journal_text.specs.JournalLines.{IsCause, IsInstalled, IsPayload, IsRow, IsRule, last_behind}
-use Rattle.journal_text.specs.JournalTexts.{cause_text, entry_text, rule_text, spaced}
+use Rattle.step_text.specs.StepTexts.{own_fault_text, step_fields}
+use Rattle.journal_text.specs.JournalLines.{IsCause, IsInstalledBefore, IsPayload, IsRow, IsRule, last_behind}
+use Rattle.journal_text.specs.JournalTexts.{cause_text, entry_text, journal_rule_text, spaced_word}
 use Rattle.journal_round_trip.specs.KeepsRules.{CameBefore, Is32Bit, KeepsCause, KeepsEntry, KeepsPayload, KeepsRule}
 use Rattle.journal_round_trip.proofs.WordLaws.{IsLine, IsWord, line-append, line-two}
 use Rattle.journal_round_trip.proofs.PieceLaws.{decimal-printed, hex-printed, number-printed, word-decimal, word-hex}
@@ -40,7 +40,7 @@ number-small : (last n : ℕ) → last < 2 ^ 64 → CameBefore last n → n < 2 
 number-small last n small before = omega (arith, before.1)
 
 installed-printed : (last n : ℕ) → last < 2 ^ 64 → CameBefore last n
-    → IsInstalled last (decimal n) n
+    → IsInstalledBefore last (decimal n) n
 installed-printed last n small before =
     (decimal-printed n (number-small last n small before), before.0, before.1)
 
@@ -56,7 +56,7 @@ rule_words (rule.TreeNode n) = codes "TreeNode" ∷ decimal n ∷ []
 rule_words (rule.RegisterTag n) = codes "RegisterTag" ∷ decimal n ∷ []
 rule_words (rule.RegisterMissing n) = codes "RegisterMissing" ∷ decimal n ∷ []
 
-line-rule : (why : Rule) → KeepsRule why → IsLine (rule_text why) (rule_words why)
+line-rule : (why : Rule) → KeepsRule why → IsLine (journal_rule_text why) (rule_words why)
 line-rule (rule.LineTag n) keeps =
     line-named (codes "LineTag") n (omega arith, refl) (omega arith)
 line-rule (rule.TreeNode n) keeps =
@@ -83,7 +83,7 @@ cause_words cause.Nothing = []
 cause_words cause.Interrupt = codes "interrupt" ∷ []
 cause_words (cause.Call code) = codes "call" ∷ decimal code ∷ []
 cause_words (cause.Page page) = codes "page" ∷ decimal page ∷ []
-cause_words (cause.Fault kind) = codes "fault" ∷ fault_text kind ∷ []
+cause_words (cause.Fault kind) = codes "fault" ∷ own_fault_text kind ∷ []
 cause_words cause.Exit = []
 cause_words (cause.Stopped why) = []
 
@@ -96,7 +96,7 @@ line-cause (cause.Call code) keeps =
 line-cause (cause.Page page) keeps =
     line-named (codes "page") page (omega arith, refl) (omega arith)
 line-cause (cause.Fault kind) keeps =
-    line-two (codes "fault") (fault_text kind) (omega arith, refl) (word-fault kind)
+    line-two (codes "fault") (own_fault_text kind) (omega arith, refl) (word-fault kind)
 line-cause cause.Exit keeps = absurd keeps
 line-cause (cause.Stopped why) keeps = absurd keeps
 
@@ -107,7 +107,7 @@ cause-printed (cause.Call code) keeps =
     (decimal code, refl, number-printed (2 ^ 32) code keeps (omega arith))
 cause-printed (cause.Page page) keeps =
     (decimal page, refl, number-printed (2 ^ 32) page keeps (omega arith))
-cause-printed (cause.Fault kind) keeps = (fault_text kind, refl, refl)
+cause-printed (cause.Fault kind) keeps = (own_fault_text kind, refl, refl)
 cause-printed cause.Exit keeps = absurd keeps
 cause-printed (cause.Stopped why) keeps = absurd keeps
 
@@ -167,7 +167,7 @@ line-entry last (entry.Accept key message place) small (k, m, p) = record {
   some = omega arith;
   joined =
       ap (λ (rest : List ℕ). codes "accept " ++ rest)
-      (append_assoc (encode_lower key) (spaced (encode_lower message)) (spaced (decimal place)));
+      (append_assoc (encode_lower key) (spaced_word (encode_lower message)) (spaced_word (decimal place)));
   each = (
     (omega arith, refl),
     (word-payload 96 key k, (word-payload 96 message m, (word-number place p, tt))),
@@ -182,7 +182,7 @@ line-entry last (entry.Hash preimage digest) small (p, all, sized, is) = record 
   );
 }
 line-entry last (entry.Stop n why) small (before, keeps) =
-    line-append (codes "stop" ++ (32 ∷ decimal n)) (rule_text why)
+    line-append (codes "stop" ++ (32 ∷ decimal n)) (journal_rule_text why)
     (codes "stop" ∷ decimal n ∷ []) (rule_words why)
     (line-installed (codes "stop") last n (omega arith, refl) small before) (line-rule why keeps)
 line-entry last (entry.Kill n) small before =

@@ -18,8 +18,8 @@ use Rattle.xom_base.specs.declared.step.Released.TheVariants as released
 use Rattle.xom_base.specs.declared.step.StepEnd.{StepEnd}
 use Rattle.xom_base.specs.declared.step.StepEnd.TheVariants as ended
 use Rattle.xom_base.specs.declared.step.Step.{Step}
-use Rattle.step_text.specs.StepFields.{IsCell, IsEnd, IsNamedNumber, IsNamedPair, IsReceived, IsReleased, IsStep, IsStored, IsWrites, low_bytes}
-use Rattle.step_text.specs.StepTexts.{end_text, fault_text, low_hex, own_fields, outer_fields, received_text, released_text, step_fields, stored_text, writes_text}
+use Rattle.step_text.specs.StepFields.{IsCell, IsEnd, IsNamedNumber, IsNamedPair, IsReceivedWord, IsReleased, IsStep, IsStored, IsWrites, number_of_bytes}
+use Rattle.step_text.specs.StepTexts.{low_hex, outer_fields, own_fault_text, own_fields, received_text, released_text, step_end_text, step_fields, stored_text, writes_text}
 use Rattle.journal_round_trip.specs.KeepsRules.{KeepsCell, Is32Bit, KeepsEnd, KeepsReceived, KeepsReleased, KeepsStep, KeepsStored, KeepsWrites}
 use Rattle.journal_round_trip.proofs.WordLaws.{IsLine, IsWord, line-append, word-append}
 use Rattle.journal_round_trip.proofs.PieceLaws.{hex8-printed, hex-printed, number-bytes, number-printed, word-decimal, word-hex, word-hex8}
@@ -90,9 +90,9 @@ bytes-low value =
     (λ i. number-bytes value (suc i)) (number-bytes value)
 
 low_bytes-low : (value count : ℕ) → 1 ≤ count → count < 5 → value < 2 ^ (8 * count)
-    → value ≡ low_bytes count (low count value)
+    → value ≡ number_of_bytes count (low count value)
 low_bytes-low value =
-    by_count (λ count. value < 2 ^ (8 * count) → value ≡ low_bytes count (low count value))
+    by_count (λ count. value < 2 ^ (8 * count) → value ≡ number_of_bytes count (low count value))
     (λ small. omega arith) (λ small. omega arith) (λ small. omega arith) (λ small. omega arith)
 
 -- ---- the fields
@@ -143,7 +143,7 @@ word-received (received.Null address value) keeps =
 word-received (received.Signal n) keeps =
     word-number_behind (codes "signal=") n keeps (omega arith, refl)
 
-pub received-printed : (g : Received) → KeepsReceived g → IsReceived (received_text g) g
+pub received-printed : (g : Received) → KeepsReceived g → IsReceivedWord (received_text g) g
 received-printed received.Nothing keeps = refl
 received-printed (received.Cell value) keeps = (hex8 value, refl, hex8-printed value keeps)
 received-printed (received.Null address value) keeps =
@@ -162,12 +162,12 @@ released-printed (released.Cell reg value) keeps = cell-printed reg value keeps
 released-printed (released.Null address value) keeps =
     pair-printed (codes "null=") address value keeps.0 keeps.1
 
-pub word-end : (e : StepEnd) → KeepsEnd e → IsWord (end_text e)
+pub word-end : (e : StepEnd) → KeepsEnd e → IsWord (step_end_text e)
 word-end ended.Goes keeps = (omega arith, refl)
 word-end (ended.Call code) keeps = word-number_behind (codes "call=") code keeps (omega arith, refl)
 word-end ended.Exit keeps = (omega arith, refl)
 
-pub end-printed : (e : StepEnd) → KeepsEnd e → IsEnd (end_text e) e
+pub end-printed : (e : StepEnd) → KeepsEnd e → IsEnd (step_end_text e) e
 end-printed ended.Goes keeps = refl
 end-printed (ended.Call code) keeps = number_behind-printed (codes "call=") code keeps
 end-printed ended.Exit keeps = refl
@@ -178,14 +178,14 @@ end-printed ended.Exit keeps = refl
 abbrev pub step_words : Step → List (List ℕ)
 step_words s =
     hex8 s.pc ∷ hex8 s.npc ∷ writes_text s.writes ∷ stored_text s.stored
-    ∷ received_text s.received ∷ released_text s.released ∷ end_text s.end ∷ []
+    ∷ received_text s.received ∷ released_text s.released ∷ step_end_text s.end ∷ []
 
 pub line-step : (s : Step) → KeepsStep s → IsLine (step_fields s) (step_words s)
 unfolding step_fields
 line-step s (pc, npc, w, st, g, r, e) =
     line-append (own_fields s) (outer_fields s)
     (hex8 s.pc ∷ hex8 s.npc ∷ writes_text s.writes ∷ stored_text s.stored ∷ [])
-    (received_text s.received ∷ released_text s.released ∷ end_text s.end ∷ [])
+    (received_text s.received ∷ released_text s.released ∷ step_end_text s.end ∷ [])
     record {
       some = omega arith;
       joined = refl;
@@ -208,7 +208,7 @@ step-printed s (pc, npc, w, st, g, r, e) = (
   stored_text s.stored,
   received_text s.received,
   released_text s.released,
-  end_text s.end,
+  step_end_text s.end,
   refl,
   hex8-printed s.pc pc,
   hex8-printed s.npc npc,
@@ -221,7 +221,7 @@ step-printed s (pc, npc, w, st, g, r, e) = (
 
 -- ---- a guest's own faults
 
-pub word-fault : (kind : OwnFault) → IsWord (fault_text kind)
+pub word-fault : (kind : OwnFault) → IsWord (own_fault_text kind)
 word-fault fault.Reserved = (omega arith, refl)
 word-fault fault.Foreign = (omega arith, refl)
 word-fault fault.Overflow = (omega arith, refl)

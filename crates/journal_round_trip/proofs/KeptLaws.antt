@@ -26,8 +26,8 @@ use Rattle.xom_base.specs.declared.step.StepEnd.TheVariants as ended
 use Rattle.xom_base.specs.declared.step.Step.{Step}
 use Rattle.xom_base.proofs.HexLaws.{hex_of-exact, length-hex_of}
 use Rattle.xom_base.proofs.LineLaws.{only_reads, same_Ok}
-use Rattle.step_text.specs.StepFields.{IsCell, IsEnd, IsHex8, IsNamedPair, IsReceived, IsReleased, IsStep, IsStored, IsWrites, low_bytes}
-use Rattle.journal_text.specs.JournalLines.{IsCause, IsInstalled, IsPayload, IsRow, IsRule, JournalLine, journal_step, last_behind}
+use Rattle.step_text.specs.StepFields.{IsCell, IsEnd, IsHex8, IsNamedPair, IsReceivedWord, IsReleased, IsStep, IsStored, IsWrites, number_of_bytes}
+use Rattle.journal_text.specs.JournalLines.{IsCause, IsInstalledBefore, IsPayload, IsRow, IsRule, JournalLine, journal_step, last_behind}
 use Rattle.journal_text.specs.Readings.{IsJournal}
 use Rattle.journal_text.proofs.RowLaws.{tells}
 use Rattle.journal_round_trip.specs.KeepsRules.{KeepsCell, CameBefore, Is32Bit, KeepsCause, KeepsEnd, KeepsEntry, KeepsPayload, KeepsReceived, KeepsReleased, KeepsRule, KeepsRules, KeepsRulesBehind, KeepsStep, KeepsStored, KeepsWrites}
@@ -57,9 +57,9 @@ short-hex8 word n (bytes, is, same) =
 
 -- so many bytes are a number of so many
 small-low_bytes : (bytes : List ℕ) → IsBytes bytes → (count : ℕ) → 1 ≤ count → count < 5
-    → low_bytes count bytes < 2 ^ (8 * count)
+    → number_of_bytes count bytes < 2 ^ (8 * count)
 small-low_bytes bytes all =
-    by_count (λ count. low_bytes count bytes < 2 ^ (8 * count))
+    by_count (λ count. number_of_bytes count bytes < 2 ^ (8 * count))
     (omega (arith, all 0)) (omega (arith, all 0, all 1)) (omega (arith, all 0, all 1, all 2))
     (omega (arith, all 0, all 1, all 2, all 3))
 
@@ -93,7 +93,7 @@ keeps-stored word (stored.Bytes address count value)
           (small-low_bytes bytes (bytes-hex count h bytes digits) count least number.1),
     )
 
-keeps-received : (word : List ℕ) (g : Received) → IsReceived word g → KeepsReceived g
+keeps-received : (word : List ℕ) (g : Received) → IsReceivedWord word g → KeepsReceived g
 keeps-received word received.Nothing is = tt
 keeps-received word (received.Cell value) (v, is, digits) = short-hex8 v value digits
 keeps-received word (received.Null address value) is =
@@ -139,7 +139,7 @@ keeps-cause words (cause.Fault kind) is = tt
 keeps-cause words cause.Exit is = is
 keeps-cause words (cause.Stopped why) is = is
 
-came_before : (last : ℕ) (word : List ℕ) (n : ℕ) → IsInstalled last word n → CameBefore last n
+came_before : (last : ℕ) (word : List ℕ) (n : ℕ) → IsInstalledBefore last word n → CameBefore last n
 came_before last word n is = (is.1, is.2)
 
 keeps-row : (last : ℕ) (words : List (List ℕ)) (e : Entry) (next : ℕ) → IsRow last words e next

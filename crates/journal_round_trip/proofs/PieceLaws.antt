@@ -13,7 +13,7 @@ use Rattle.hex.specs.Hex.{IsBytes, encode_lower}
 use Rattle.hex.proofs.HexLemmas.{decode_sized-encode_lower}
 use Rattle.text_pieces.specs.Pieces.{hex8}
 use Rattle.xom_base.specs.Hex.{IsHex}
-use Rattle.xom_base.specs.Numbers.{IsDecimal, IsNumeral, Writes}
+use Rattle.xom_base.specs.Numbers.{IsDecimal, IsNumeral, WritesBelow}
 use Rattle.xom_base.proofs.HexLaws.{decoded_is, hex_of-exact}
 use Rattle.xom_base.proofs.NumberLaws.{digits_from, value_is}
 use Rattle.step_text.specs.StepFields.{IsHex8}
@@ -41,7 +41,7 @@ decimal-printed n small =
     record { some = d.0.0; digits = digits_from 10 (decimal n) d.0.1 } in
     (numeral, sym d.1 ∙ value_is 10 (decimal n), small)
 
-pub number-printed : (bound n : ℕ) → n < bound → n < 2 ^ 64 → Writes bound (decimal n) n
+pub number-printed : (bound n : ℕ) → n < bound → n < 2 ^ 64 → WritesBelow bound (decimal n) n
 number-printed bound n below small = (inl (decimal-printed n small), below)
 
 pub word-decimal : (n : ℕ) → n < 2 ^ 64 → IsWord (decimal n)

@@ -6,7 +6,7 @@ use Rattle.xom_base.specs.declared.entry.Entry.{Entry}
 use Rattle.xom_base.specs.declared.entry.Entry.TheVariants as entry
 use Rattle.xom_base.proofs.CutLaws.{cut_of-at, lines_of-cut}
 use Rattle.journal_text.specs.JournalLines.{IsRow, JournalLine, last_behind}
-use Rattle.journal_text.specs.JournalTexts.{entry_text, journal_text, line_text}
+use Rattle.journal_text.specs.JournalTexts.{entry_text, journal_line_text, journal_text}
 use Rattle.journal_text.specs.Readings.{IsJournal}
 use Rattle.journal_round_trip.specs.KeepsRules.{KeepsEntry, KeepsRules, KeepsRulesBehind}
 use Rattle.journal_round_trip.proofs.WordLaws.{one_line, words_of-line}
@@ -14,8 +14,8 @@ use Rattle.journal_round_trip.proofs.EntryLaws.{entry_words, entry-printed, line
 
 -- the line of an entry, and what stands behind it
 lines_of-entry : (last : ℕ) (e : Entry) (rest : List ℕ) → last < 2 ^ 64 → KeepsEntry last e
-    → lines_of (line_text e ++ rest) ≡ entry_text e ∷ lines_of rest
-unfolding line_text
+    → lines_of (journal_line_text e ++ rest) ≡ entry_text e ∷ lines_of rest
+unfolding journal_line_text
 lines_of-entry last e rest small keeps =
     let one = one_line (entry_text e) (entry_words e) (line-entry last e small keeps) in
     ap lines_of (append_assoc (entry_text e) (10 ∷ []) rest)

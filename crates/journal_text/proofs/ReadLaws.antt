@@ -10,8 +10,8 @@ use Rattle.xom_base.specs.Words.{words_of}
 use Rattle.xom_base.proofs.CutLaws.{option_map_some}
 use Rattle.xom_base.specs.declared.entry.Entry.{Entry}
 use Rattle.journal_text.specs.declared.line_reader.BadLine.{BadLine}
-use Rattle.journal_text.specs.JournalLines.{JournalLine, journal_step, row_of}
-use Rattle.journal_text.specs.Readings.{AnswersNext, AnswersStep, HasRead, IsBadLine, ReadOrBad, Reading}
+use Rattle.journal_text.specs.JournalLines.{JournalLine, journal_step, row_of_entry}
+use Rattle.journal_text.specs.Readings.{AnswersNext, AnswersStep, HasRead, IsBadJournalLine, ReadOrBad, Reading}
 use Rattle.journal_text.proofs.RowLaws.{tells}
 
 -- ---- the number of a line says nothing of it
@@ -22,8 +22,8 @@ line_anywhere last m n line None next h = h
 line_anywhere last m n line (Some e) next h = h
 
 words_anywhere : (last m n : ℕ) (words : List (List ℕ))
-    → with_words (λ last n words. row_of last words) last m words ≡ with_words
-    (λ last n words. row_of last words) last n words
+    → with_words (λ last n words. row_of_entry last words) last m words ≡ with_words
+    (λ last n words. row_of_entry last words) last n words
 words_anywhere last m n [] = refl
 words_anywhere last m n (word ∷ words) = refl
 
@@ -58,8 +58,8 @@ reads_more s n (first ∷ lines) entries last line value next (v, t, more, row, 
 )
 
 -- a bad line stays the first one
-bad_more : (lines : List (List ℕ)) (line : List ℕ) (n : ℕ) → IsBadLine lines n
-    → IsBadLine (lines ++ line ∷ []) n
+bad_more : (lines : List (List ℕ)) (line : List ℕ) (n : ℕ) → IsBadJournalLine lines n
+    → IsBadJournalLine (lines ++ line ∷ []) n
 bad_more lines line n first = record {
   before = first.before;
   line = first.line;
@@ -77,7 +77,7 @@ bad_more lines line n first = record {
 bad_now : (lines : List (List ℕ)) (entries : List Entry) (last : ℕ) (line : List ℕ) (n : ℕ)
     → n ≡ 1 + length lines
     → Reads JournalLine 0 1 lines entries last → journal_step last 0 line ≡ None
-    → IsBadLine (lines ++ line ∷ []) n
+    → IsBadJournalLine (lines ++ line ∷ []) n
 bad_now lines entries last line n number read none = record {
   before = lines;
   line = line;
@@ -145,14 +145,14 @@ module _ (old new : Reading) (line : List ℕ) (result : Result (Option Entry) B
   -- ---- lines without words
 
   blank_words : (words : List (List ℕ)) (found : Option Entry) (next : ℕ)
-      → with_words (λ last n words. row_of last words) old.last 0 words ≡ Some (found, next)
+      → with_words (λ last n words. row_of_entry last words) old.last 0 words ≡ Some (found, next)
       → IsNone found ↔ (words ≡ [])
   blank_words [] found next h =
       let e : None ≡ found = (some_pair_parts None found old.last next h).0 in
       (λ _. refl, λ _. subst IsNone e refl)
   blank_words (word ∷ words) found next h =
       let m = option_map_some (λ (read : Entry × ℕ). (Some read.0, read.1))
-      (row_of old.last (word ∷ words)) (found, next) h in
+      (row_of_entry old.last (word ∷ words)) (found, next) h in
       let e : Some m.0.0 ≡ found = (some_pair_parts (Some m.0.0) found m.0.1 next m.2).0 in
       (λ none. absurd (true≢false (subst IsNone (sym e) none)), λ empty. absurd cc)
 

@@ -8,7 +8,7 @@ use Rattle.sha2.specs.Sha256.{sha256}
 use Rattle.xom_base.specs.Hex.{IsHex, WritesHex, hex_of, hex_within}
 use Rattle.xom_base.specs.Lines.{Tells, with_words}
 use Rattle.xom_base.specs.Words.{words_of}
-use Rattle.xom_base.specs.Numbers.{IsDecimal, Writes, WritesDecimal, decimal_below_of, number_below_of, numeral_of}
+use Rattle.xom_base.specs.Numbers.{IsDecimal, WritesBelow, WritesDecimal, decimal_below_of, number_below_of, numeral_of}
 use Rattle.xom_base.proofs.CutLaws.{option_map_some}
 use Rattle.xom_base.proofs.HexLaws.{hex_of-exact, hex_within-exact}
 use Rattle.xom_base.proofs.LineLaws.{Tells-words}
@@ -19,10 +19,10 @@ use Rattle.xom_base.specs.declared.event.Cause.{Cause}
 use Rattle.xom_base.specs.declared.event.Cause.TheVariants as cause
 use Rattle.xom_base.specs.declared.event.Rule.{Rule}
 use Rattle.xom_base.specs.declared.event.Rule.TheVariants as rule
-use Rattle.step_text.specs.StepFields.{fault_of, step_of}
+use Rattle.step_text.specs.StepFields.{fault_of, step_of_words}
 use Rattle.step_text.proofs.FieldLaws.{is_word, same_word}
 use Rattle.step_text.proofs.StepWords.{fault_of-exact, step_of-exact}
-use Rattle.journal_text.specs.JournalLines.{IsCause, IsInstalled, IsPayload, IsRow, IsRule, JournalLine, accept_of, cause_of, hash_of, install_of, installed_of, journal_step, kill_of, last_behind, named_cause_of, named_entry_of, named_rule_of, next_install_of, out_of, payload_of, row_of, rule_of, seal_of, slot_of, step_entry_of, stop_of, trap_of, with_last}
+use Rattle.journal_text.specs.JournalLines.{IsCause, IsInstalledBefore, IsPayload, IsRow, IsRule, JournalLine, accept_entry_of, cause_of, hash_entry_of, install_entry_of, installed_of, journal_step, kill_entry_of, last_behind, named_cause_of, named_entry_of, named_rule_of, next_install_of, out_entry_of, payload_of, row_of_entry, rule_of, seal_entry_of, slot_of_word, step_entry_of, stop_entry_of, trap_entry_of, with_last}
 
 -- ---- words
 
@@ -43,19 +43,19 @@ payload_only most word bytes is =
     rw ((hex_within-exact most word bytes).1 is.0, le-leb 1 (length bytes) is.1) refl
 
 installed_found : (last : ℕ) (word : List ℕ) (n : ℕ) → installed_of last word ≡ Some n
-    → IsInstalled last word n
+    → IsInstalledBefore last word n
 unfolding installed_of
 installed_found last word n h =
     steps _ (numeral_of 10 word) n h (λ m read h.
     let t = cond_some (leb 1 m && leb m last) m n h in
     let both = and_parts (leb 1 m) (leb m last) t.0 in
-    subst (IsInstalled last word) t.1 (
+    subst (IsInstalledBefore last word) t.1 (
       (numeral_of-exact 10 word m).0 read,
       leb-true 1 m both.0,
       leb-true m last both.1,
     ))
 
-installed_only : (last : ℕ) (word : List ℕ) (n : ℕ) → IsInstalled last word n
+installed_only : (last : ℕ) (word : List ℕ) (n : ℕ) → IsInstalledBefore last word n
     → installed_of last word ≡ Some n
 unfolding installed_of
 installed_only last word n is =
@@ -78,18 +78,18 @@ unfolding next_install_of
 next_only last word n is one =
     rw ((numeral_of-exact 10 word n).1 is) (rw (eq-eqb n (last + 1) one) refl)
 
-slot_found : (word : List ℕ) (n : ℕ) → slot_of word ≡ Some n → Writes 17 word n × (1 ≤ n)
-unfolding slot_of
+slot_found : (word : List ℕ) (n : ℕ) → slot_of_word word ≡ Some n → WritesBelow 17 word n × (1 ≤ n)
+unfolding slot_of_word
 slot_found word n h =
     steps _ (number_below_of 17 word) n h (λ m read h.
     let t = cond_some (leb 1 m) m n h in (
-      subst (Writes 17 word) t.1 ((number_below_of-exact 17 word m).0 read),
+      subst (WritesBelow 17 word) t.1 ((number_below_of-exact 17 word m).0 read),
       subst (λ n. 1 ≤ n) t.1
           (leb-true 1 m t.0),
     ))
 
-slot_only : (word : List ℕ) (n : ℕ) → Writes 17 word n → 1 ≤ n → slot_of word ≡ Some n
-unfolding slot_of
+slot_only : (word : List ℕ) (n : ℕ) → WritesBelow 17 word n → 1 ≤ n → slot_of_word word ≡ Some n
+unfolding slot_of_word
 slot_only word n is least = rw ((number_below_of-exact 17 word n).1 is, le-leb 1 n least) refl
 
 -- ---- choices by a word
@@ -199,9 +199,9 @@ cause_only words (cause.Stopped why) is = absurd is
 abbrev Found : ℕ → List (List ℕ) → Entry → Type 0
 Found last words e = IsRow last words e (last_behind last e)
 
-install_found : (last : ℕ) (rest : List (List ℕ)) (e : Entry) → install_of last rest ≡ Some e
+install_found : (last : ℕ) (rest : List (List ℕ)) (e : Entry) → install_entry_of last rest ≡ Some e
     → Found last (codes "install" ∷ rest) e
-unfolding install_of
+unfolding install_entry_of
 install_found last [] e h = absurd (none-some e h)
 install_found last (a ∷ []) e h = absurd (none-some e h)
 install_found last (a ∷ s ∷ []) e h = absurd (none-some e h)
@@ -211,7 +211,7 @@ install_found last (a ∷ s ∷ i ∷ p ∷ b ∷ []) e h = absurd (none-some e 
 install_found last (a ∷ s ∷ i ∷ p ∷ b ∷ l ∷ more ∷ rest) e h = absurd (none-some e h)
 install_found last (a ∷ s ∷ i ∷ p ∷ b ∷ l ∷ []) e h =
     steps _ (next_install_of last a) e h (λ n n_is h.
-    steps _ (slot_of s) e h (λ slot slot_is h.
+    steps _ (slot_of_word s) e h (λ slot slot_is h.
     steps _ (hex_of 16 i) e h (λ id id_is h.
     steps _ (decimal_below_of (2 ^ 32) p) e h (λ place place_is h.
     steps _ (decimal_below_of (2 ^ 32) b) e h (λ begin begin_is h.
@@ -244,13 +244,13 @@ unfolding step_entry_of
 step_found last [] e h = absurd (none-some e h)
 step_found last (a ∷ fields) e h =
     steps _ (installed_of last a) e h (λ n n_is h.
-    steps _ (step_of fields) e h (λ step step_is h.
+    steps _ (step_of_words fields) e h (λ step step_is h.
     subst (Found last (codes "step" ∷ a ∷ fields)) (same_Some (entry.Step n step) e h)
     (a, fields, refl, installed_found last a n n_is, (step_of-exact fields step).0 step_is, refl)))
 
-trap_found : (last : ℕ) (rest : List (List ℕ)) (e : Entry) → trap_of last rest ≡ Some e
+trap_found : (last : ℕ) (rest : List (List ℕ)) (e : Entry) → trap_entry_of last rest ≡ Some e
     → Found last (codes "trap" ∷ rest) e
-unfolding trap_of
+unfolding trap_entry_of
 trap_found last [] e h = absurd (none-some e h)
 trap_found last (a ∷ causes) e h =
     steps _ (installed_of last a) e h (λ n n_is h.
@@ -258,9 +258,9 @@ trap_found last (a ∷ causes) e h =
     subst (Found last (codes "trap" ∷ a ∷ causes)) (same_Some (entry.Trap n why) e h)
     (a, causes, refl, installed_found last a n n_is, cause_found causes why why_is, refl)))
 
-seal_found : (last : ℕ) (rest : List (List ℕ)) (e : Entry) → seal_of rest ≡ Some e
+seal_found : (last : ℕ) (rest : List (List ℕ)) (e : Entry) → seal_entry_of rest ≡ Some e
     → Found last (codes "seal" ∷ rest) e
-unfolding seal_of
+unfolding seal_entry_of
 seal_found last [] e h = absurd (none-some e h)
 seal_found last (k ∷ []) e h = absurd (none-some e h)
 seal_found last (k ∷ m ∷ more ∷ rest) e h = absurd (none-some e h)
@@ -270,9 +270,9 @@ seal_found last (k ∷ m ∷ []) e h =
     subst (Found last (codes "seal" ∷ k ∷ m ∷ [])) (same_Some (entry.Seal key message) e h)
     (k, m, refl, payload_found 96 k key key_is, payload_found 96 m message message_is, refl)))
 
-accept_found : (last : ℕ) (rest : List (List ℕ)) (e : Entry) → accept_of rest ≡ Some e
+accept_found : (last : ℕ) (rest : List (List ℕ)) (e : Entry) → accept_entry_of rest ≡ Some e
     → Found last (codes "accept" ∷ rest) e
-unfolding accept_of
+unfolding accept_entry_of
 accept_found last [] e h = absurd (none-some e h)
 accept_found last (k ∷ []) e h = absurd (none-some e h)
 accept_found last (k ∷ m ∷ []) e h = absurd (none-some e h)
@@ -293,9 +293,9 @@ accept_found last (k ∷ m ∷ p ∷ []) e h =
       refl,
     ))))
 
-hash_found : (last : ℕ) (rest : List (List ℕ)) (e : Entry) → hash_of rest ≡ Some e
+hash_found : (last : ℕ) (rest : List (List ℕ)) (e : Entry) → hash_entry_of rest ≡ Some e
     → Found last (codes "hash" ∷ rest) e
-unfolding hash_of
+unfolding hash_entry_of
 hash_found last [] e h = absurd (none-some e h)
 hash_found last (p ∷ []) e h = absurd (none-some e h)
 hash_found last (p ∷ d ∷ more ∷ rest) e h = absurd (none-some e h)
@@ -313,9 +313,9 @@ hash_found last (p ∷ d ∷ []) e h =
       refl,
     )))
 
-stop_found : (last : ℕ) (rest : List (List ℕ)) (e : Entry) → stop_of last rest ≡ Some e
+stop_found : (last : ℕ) (rest : List (List ℕ)) (e : Entry) → stop_entry_of last rest ≡ Some e
     → Found last (codes "stop" ∷ rest) e
-unfolding stop_of
+unfolding stop_entry_of
 stop_found last [] e h = absurd (none-some e h)
 stop_found last (a ∷ rules) e h =
     steps _ (installed_of last a) e h (λ n n_is h.
@@ -323,9 +323,9 @@ stop_found last (a ∷ rules) e h =
     subst (Found last (codes "stop" ∷ a ∷ rules)) (same_Some (entry.Stop n why) e h)
     (a, rules, refl, installed_found last a n n_is, rule_found rules why why_is, refl)))
 
-kill_found : (last : ℕ) (rest : List (List ℕ)) (e : Entry) → kill_of last rest ≡ Some e
+kill_found : (last : ℕ) (rest : List (List ℕ)) (e : Entry) → kill_entry_of last rest ≡ Some e
     → Found last (codes "kill" ∷ rest) e
-unfolding kill_of
+unfolding kill_entry_of
 kill_found last [] e h = absurd (none-some e h)
 kill_found last (a ∷ more ∷ rest) e h = absurd (none-some e h)
 kill_found last (a ∷ []) e h =
@@ -333,9 +333,9 @@ kill_found last (a ∷ []) e h =
     subst (Found last (codes "kill" ∷ a ∷ [])) (same_Some (entry.Kill m.0) e m.2)
     (a, refl, installed_found last a m.0 m.1, refl)
 
-out_found : (last : ℕ) (rest : List (List ℕ)) (e : Entry) → out_of rest ≡ Some e
+out_found : (last : ℕ) (rest : List (List ℕ)) (e : Entry) → out_entry_of rest ≡ Some e
     → Found last (codes "out" ∷ rest) e
-unfolding out_of
+unfolding out_entry_of
 out_found last [] e h = absurd (none-some e h)
 out_found last (b ∷ more ∷ rest) e h = absurd (none-some e h)
 out_found last (b ∷ []) e h =
@@ -382,8 +382,8 @@ named_entry_found last name rest e h =
     ]
 
 row_found : (last : ℕ) (words : List (List ℕ)) (e : Entry) (next : ℕ)
-    → row_of last words ≡ Some (e, next) → IsRow last words e next
-unfolding row_of
+    → row_of_entry last words ≡ Some (e, next) → IsRow last words e next
+unfolding row_of_entry
 row_found last [] e next h = absurd (none-some (e, next) h)
 row_found last (name ∷ rest) e next h =
     let m = option_map_some (with_last last) (named_entry_of last name rest) (e, next) h in
@@ -395,9 +395,9 @@ row_found last (name ∷ rest) e next h =
 -- ---- rows of the grammar are read
 
 row_only : (last : ℕ) (words : List (List ℕ)) (e : Entry) (next : ℕ) → IsRow last words e next
-    → row_of last words ≡ Some (e, next)
-unfolding row_of named_entry_of install_of step_entry_of trap_of seal_of accept_of hash_of stop_of
-    kill_of out_of
+    → row_of_entry last words ≡ Some (e, next)
+unfolding row_of_entry named_entry_of install_entry_of step_entry_of trap_entry_of seal_entry_of accept_entry_of hash_entry_of stop_entry_of
+    kill_entry_of out_entry_of
 row_only last words (entry.Install n slot id place begin lines) next
     (a, s, i, p, b, l, is, n_is, one, slot_is, least, id_is, place_is, begin_is, lines_is, next_is) =
     rw (is, next_is) (
@@ -450,13 +450,13 @@ row_only last words (entry.Out byte) next (b, is, byte_is, next_is) =
 
 -- ---- lines
 
-row_nothing : (last : ℕ) → row_of last [] ≡ None
-unfolding row_of
+row_nothing : (last : ℕ) → row_of_entry last [] ≡ None
+unfolding row_of_entry
 row_nothing last = refl
 
 pub tells : Tells journal_step JournalLine
 tells =
-    Tells-words (λ last n words. row_of last words) (λ last n words e next. IsRow last words e next)
+    Tells-words (λ last n words. row_of_entry last words) (λ last n words e next. IsRow last words e next)
     record {
       reads = λ last n words e next h. row_found last words e next h;
       only = λ last n words e next h. row_only last words e next h;
@@ -500,14 +500,14 @@ row_length last words (entry.Stop n why) next is =
 row_length last words (entry.Kill n) next is = rw is.1 (omega arith)
 row_length last words (entry.Out byte) next is = rw is.1 (omega arith)
 
-long_row : (last : ℕ) (words : List (List ℕ)) → 9 < length words → row_of last words ≡ None
+long_row : (last : ℕ) (words : List (List ℕ)) → 9 < length words → row_of_entry last words ≡ None
 long_row last words long =
-    none_from_never (row_of last words) (λ read is.
+    none_from_never (row_of_entry last words) (λ read is.
     let few : length words ≤ 9 = row_length last words read.0 read.1
     (row_found last words read.0 read.1 is) in omega arith)
 
 long_words : (last : ℕ) (words : List (List ℕ)) → 9 < length words
-    → with_words (λ last n words. row_of last words) last 0 words ≡ None
+    → with_words (λ last n words. row_of_entry last words) last 0 words ≡ None
 long_words last [] long = absurd (omega arith)
 long_words last (word ∷ words) long = rw (long_row last (word ∷ words) long) refl
 

@@ -3,10 +3,10 @@
 use Rattle.std.specs.Prelude.{◌≡◌, ℕ, ◌+◌, ◌^◌, ◌<◌, ◌≤◌, ◌==◌, ◌&&◌, nat_le, if◌then◌else◌, List, [], ◌∷◌, length, codes, Option, Some, None, option_map}
 use Rattle.std.specs.Str.{bytes_eq}
 use Rattle.sha2.specs.Sha256.{sha256}
-use Rattle.step_text.specs.StepFields.{IsFault, IsStep, fault_of, step_of}
+use Rattle.step_text.specs.StepFields.{IsFault, IsStep, fault_of, step_of_words}
 use Rattle.xom_base.specs.Hex.{IsHex, WritesHex, hex_of, hex_within}
-use Rattle.xom_base.specs.Lines.{Format, LineStep, OfWords, step_of as line_step_of}
-use Rattle.xom_base.specs.Numbers.{IsDecimal, Writes, WritesDecimal, decimal_below_of, number_below_of, numeral_of}
+use Rattle.xom_base.specs.Lines.{Format, LineStep, OfWords, step_by_words as line_step_of}
+use Rattle.xom_base.specs.Numbers.{IsDecimal, WritesBelow, WritesDecimal, decimal_below_of, number_below_of, numeral_of}
 use Rattle.xom_base.specs.Options.{◌>>=◌}
 use Rattle.xom_base.specs.declared.entry.Entry.{Entry}
 use Rattle.xom_base.specs.declared.entry.Entry.TheVariants as entry
@@ -22,27 +22,27 @@ abbrev pub IsPayload : ℕ → List ℕ → List ℕ → Type 0
 IsPayload most word bytes = WritesHex most word bytes × (1 ≤ length bytes)
 
 -- the number of an install that an earlier line installed: they count from 1, and the last is this
-abbrev pub IsInstalled : ℕ → List ℕ → ℕ → Type 0
-IsInstalled last word n = IsDecimal word n × (1 ≤ n) × (n ≤ last)
+abbrev pub IsInstalledBefore : ℕ → List ℕ → ℕ → Type 0
+IsInstalledBefore last word n = IsDecimal word n × (1 ≤ n) × (n ≤ last)
 
 -- RULE and DETAIL
 abbrev pub IsRule : List (List ℕ) → Rule → Type 0
 IsRule words (rule.LineTag n) =
-    (d : List ℕ) × (words ≡ codes "LineTag" ∷ d ∷ []) × Writes (2 ^ 32) d n
+    (d : List ℕ) × (words ≡ codes "LineTag" ∷ d ∷ []) × WritesBelow (2 ^ 32) d n
 IsRule words (rule.TreeNode n) =
-    (d : List ℕ) × (words ≡ codes "TreeNode" ∷ d ∷ []) × Writes (2 ^ 8) d n
+    (d : List ℕ) × (words ≡ codes "TreeNode" ∷ d ∷ []) × WritesBelow (2 ^ 8) d n
 IsRule words (rule.RegisterTag n) =
-    (d : List ℕ) × (words ≡ codes "RegisterTag" ∷ d ∷ []) × Writes (2 ^ 8) d n
+    (d : List ℕ) × (words ≡ codes "RegisterTag" ∷ d ∷ []) × WritesBelow (2 ^ 8) d n
 IsRule words (rule.RegisterMissing n) =
-    (d : List ℕ) × (words ≡ codes "RegisterMissing" ∷ d ∷ []) × Writes (2 ^ 8) d n
+    (d : List ℕ) × (words ≡ codes "RegisterMissing" ∷ d ∷ []) × WritesBelow (2 ^ 8) d n
 
 -- the words behind `trap N`
 abbrev pub IsCause : List (List ℕ) → Cause → Type 0
 IsCause words cause.Interrupt = words ≡ codes "interrupt" ∷ []
 IsCause words (cause.Call code) =
-    (c : List ℕ) × (words ≡ codes "call" ∷ c ∷ []) × Writes (2 ^ 32) c code
+    (c : List ℕ) × (words ≡ codes "call" ∷ c ∷ []) × WritesBelow (2 ^ 32) c code
 IsCause words (cause.Page page) =
-    (p : List ℕ) × (words ≡ codes "page" ∷ p ∷ []) × Writes (2 ^ 32) p page
+    (p : List ℕ) × (words ≡ codes "page" ∷ p ∷ []) × WritesBelow (2 ^ 32) p page
 IsCause words (cause.Fault kind) = (k : List ℕ) × (words ≡ codes "fault" ∷ k ∷ []) × IsFault k kind
 IsCause words cause.Nothing = ⊥
 IsCause words cause.Exit = ⊥
@@ -54,15 +54,15 @@ IsCause words (cause.Stopped why) = ⊥
 abbrev pub IsRow : ℕ → List (List ℕ) → Entry → ℕ → Type 0
 IsRow last words (entry.Install n slot id place begin lines) next =
     (a s i p b l : List ℕ) × (words ≡ codes "install" ∷ a ∷ s ∷ i ∷ p ∷ b ∷ l ∷ [])
-    × IsDecimal a n × (n ≡ last + 1) × Writes 17 s slot × (1 ≤ slot) × IsHex 16 i id.0
+    × IsDecimal a n × (n ≡ last + 1) × WritesBelow 17 s slot × (1 ≤ slot) × IsHex 16 i id.0
     × WritesDecimal (2 ^ 32) p place × WritesDecimal (2 ^ 32) b begin × WritesDecimal (2 ^ 32) l
     lines × (next ≡ n)
 IsRow last words (entry.Step n step) next =
     (a : List ℕ) × (fields : List (List ℕ)) × (words ≡ codes "step" ∷ a ∷ fields)
-    × IsInstalled last a n × IsStep fields step × (next ≡ last)
+    × IsInstalledBefore last a n × IsStep fields step × (next ≡ last)
 IsRow last words (entry.Trap n why) next =
     (a : List ℕ) × (causes : List (List ℕ)) × (words ≡ codes "trap" ∷ a ∷ causes)
-    × IsInstalled last a n × IsCause causes why × (next ≡ last)
+    × IsInstalledBefore last a n × IsCause causes why × (next ≡ last)
 IsRow last words (entry.Seal key message) next =
     (k m : List ℕ) × (words ≡ codes "seal" ∷ k ∷ m ∷ []) × IsPayload 96 k key
     × IsPayload 96 m message × (next ≡ last)
@@ -74,11 +74,11 @@ IsRow last words (entry.Hash preimage digest) next =
     × IsPayload 260 p preimage × IsHex 32 d digest × (digest ≡ sha256 preimage) × (next ≡ last)
 IsRow last words (entry.Stop n why) next =
     (a : List ℕ) × (rules : List (List ℕ)) × (words ≡ codes "stop" ∷ a ∷ rules)
-    × IsInstalled last a n × IsRule rules why × (next ≡ last)
+    × IsInstalledBefore last a n × IsRule rules why × (next ≡ last)
 IsRow last words (entry.Kill n) next =
-    (a : List ℕ) × (words ≡ codes "kill" ∷ a ∷ []) × IsInstalled last a n × (next ≡ last)
+    (a : List ℕ) × (words ≡ codes "kill" ∷ a ∷ []) × IsInstalledBefore last a n × (next ≡ last)
 IsRow last words (entry.Out byte) next =
-    (b : List ℕ) × (words ≡ codes "out" ∷ b ∷ []) × Writes 256 b byte × (next ≡ last)
+    (b : List ℕ) × (words ≡ codes "out" ∷ b ∷ []) × WritesBelow 256 b byte × (next ≡ last)
 
 -- the format: a line without words is passed over
 abbrev pub JournalLine : Format ℕ Entry
@@ -102,26 +102,26 @@ next_install_of last word = do
   n ← numeral_of 10 word
   if n == last + 1 then Some n else None
 
-unfoldable pub slot_of : List ℕ → Option ℕ
-slot_of word = do
+unfoldable pub slot_of_word : List ℕ → Option ℕ
+slot_of_word word = do
   n ← number_below_of 17 word
   if nat_le 1 n then Some n else None
 
-unfoldable pub install_of : ℕ → List (List ℕ) → Option Entry
-install_of last (a ∷ s ∷ i ∷ p ∷ b ∷ l ∷ []) = do
+unfoldable pub install_entry_of : ℕ → List (List ℕ) → Option Entry
+install_entry_of last (a ∷ s ∷ i ∷ p ∷ b ∷ l ∷ []) = do
   n ← next_install_of last a
-  slot ← slot_of s
+  slot ← slot_of_word s
   id ← hex_of 16 i
   place ← decimal_below_of (2 ^ 32) p
   begin ← decimal_below_of (2 ^ 32) b
   lines ← decimal_below_of (2 ^ 32) l
   Some (entry.Install n slot (record { 0 = id }) place begin lines)
-install_of last other = None
+install_entry_of last other = None
 
 unfoldable pub step_entry_of : ℕ → List (List ℕ) → Option Entry
 step_entry_of last (a ∷ fields) = do
   n ← installed_of last a
-  step ← step_of fields
+  step ← step_of_words fields
   Some (entry.Step n step)
 step_entry_of last [] = None
 
@@ -138,34 +138,34 @@ cause_of (name ∷ []) = if bytes_eq name (codes "interrupt") then Some cause.In
 cause_of (name ∷ detail ∷ []) = named_cause_of name detail
 cause_of other = None
 
-unfoldable pub trap_of : ℕ → List (List ℕ) → Option Entry
-trap_of last (a ∷ causes) = do
+unfoldable pub trap_entry_of : ℕ → List (List ℕ) → Option Entry
+trap_entry_of last (a ∷ causes) = do
   n ← installed_of last a
   why ← cause_of causes
   Some (entry.Trap n why)
-trap_of last [] = None
+trap_entry_of last [] = None
 
-unfoldable pub seal_of : List (List ℕ) → Option Entry
-seal_of (k ∷ m ∷ []) = do
+unfoldable pub seal_entry_of : List (List ℕ) → Option Entry
+seal_entry_of (k ∷ m ∷ []) = do
   key ← payload_of 96 k
   message ← payload_of 96 m
   Some (entry.Seal key message)
-seal_of other = None
+seal_entry_of other = None
 
-unfoldable pub accept_of : List (List ℕ) → Option Entry
-accept_of (k ∷ m ∷ p ∷ []) = do
+unfoldable pub accept_entry_of : List (List ℕ) → Option Entry
+accept_entry_of (k ∷ m ∷ p ∷ []) = do
   key ← payload_of 96 k
   message ← payload_of 96 m
   place ← decimal_below_of (2 ^ 32) p
   Some (entry.Accept key message place)
-accept_of other = None
+accept_entry_of other = None
 
-unfoldable pub hash_of : List (List ℕ) → Option Entry
-hash_of (p ∷ d ∷ []) = do
+unfoldable pub hash_entry_of : List (List ℕ) → Option Entry
+hash_entry_of (p ∷ d ∷ []) = do
   preimage ← payload_of 260 p
   digest ← hex_of 32 d
   if bytes_eq digest (sha256 preimage) then Some (entry.Hash preimage digest) else None
-hash_of other = None
+hash_entry_of other = None
 
 -- a rule by its name
 unfoldable pub named_rule_of : List ℕ → List ℕ → Option Rule
@@ -183,33 +183,33 @@ unfoldable pub rule_of : List (List ℕ) → Option Rule
 rule_of (name ∷ detail ∷ []) = named_rule_of name detail
 rule_of other = None
 
-unfoldable pub stop_of : ℕ → List (List ℕ) → Option Entry
-stop_of last (a ∷ rules) = do
+unfoldable pub stop_entry_of : ℕ → List (List ℕ) → Option Entry
+stop_entry_of last (a ∷ rules) = do
   n ← installed_of last a
   why ← rule_of rules
   Some (entry.Stop n why)
-stop_of last [] = None
+stop_entry_of last [] = None
 
-unfoldable pub kill_of : ℕ → List (List ℕ) → Option Entry
-kill_of last (a ∷ []) = option_map entry.Kill (installed_of last a)
-kill_of last other = None
+unfoldable pub kill_entry_of : ℕ → List (List ℕ) → Option Entry
+kill_entry_of last (a ∷ []) = option_map entry.Kill (installed_of last a)
+kill_entry_of last other = None
 
-unfoldable pub out_of : List (List ℕ) → Option Entry
-out_of (b ∷ []) = option_map entry.Out (number_below_of 256 b)
-out_of other = None
+unfoldable pub out_entry_of : List (List ℕ) → Option Entry
+out_entry_of (b ∷ []) = option_map entry.Out (number_below_of 256 b)
+out_entry_of other = None
 
 -- the entry of a line by its name and the words behind it
 unfoldable pub named_entry_of : ℕ → List ℕ → List (List ℕ) → Option Entry
 named_entry_of last name rest =
-    if bytes_eq name (codes "install") then install_of last rest
+    if bytes_eq name (codes "install") then install_entry_of last rest
     else (if bytes_eq name (codes "step") then step_entry_of last rest
-    else (if bytes_eq name (codes "trap") then trap_of last rest
-    else (if bytes_eq name (codes "seal") then seal_of rest
-    else (if bytes_eq name (codes "accept") then accept_of rest
-    else (if bytes_eq name (codes "hash") then hash_of rest
-    else (if bytes_eq name (codes "stop") then stop_of last rest
-    else (if bytes_eq name (codes "kill") then kill_of last rest
-    else (if bytes_eq name (codes "out") then out_of rest else None))))))))
+    else (if bytes_eq name (codes "trap") then trap_entry_of last rest
+    else (if bytes_eq name (codes "seal") then seal_entry_of rest
+    else (if bytes_eq name (codes "accept") then accept_entry_of rest
+    else (if bytes_eq name (codes "hash") then hash_entry_of rest
+    else (if bytes_eq name (codes "stop") then stop_entry_of last rest
+    else (if bytes_eq name (codes "kill") then kill_entry_of last rest
+    else (if bytes_eq name (codes "out") then out_entry_of rest else None))))))))
 
 -- the number of the last install, behind an entry
 abbrev pub last_behind : ℕ → Entry → ℕ
@@ -227,10 +227,10 @@ last_behind last (entry.Out byte) = last
 abbrev pub with_last : ℕ → Entry → Entry × ℕ
 with_last last e = (e, last_behind last e)
 
-unfoldable pub row_of : ℕ → List (List ℕ) → Option (Entry × ℕ)
-row_of last (name ∷ rest) = option_map (with_last last) (named_entry_of last name rest)
-row_of last [] = None
+unfoldable pub row_of_entry : ℕ → List (List ℕ) → Option (Entry × ℕ)
+row_of_entry last (name ∷ rest) = option_map (with_last last) (named_entry_of last name rest)
+row_of_entry last [] = None
 
 -- the same of a line, for the loop over lines
 abbrev pub journal_step : LineStep ℕ Entry
-journal_step = line_step_of (λ last n words. row_of last words)
+journal_step = line_step_of (λ last n words. row_of_entry last words)

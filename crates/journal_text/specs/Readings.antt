@@ -20,8 +20,8 @@ abbrev pub IsJournal : List ℕ → List Entry → Type 0
 IsJournal text = IsText JournalLine entries_alone 0 text
 
 -- of these lines, the one of this number, counted from 1, is the first that is bad
-abbrev pub IsBadLine : List (List ℕ) → ℕ → Type 0
-IsBadLine lines n = IsFirstBad JournalLine 0 1 lines n
+abbrev pub IsBadJournalLine : List (List ℕ) → ℕ → Type 0
+IsBadJournalLine lines n = IsFirstBad JournalLine 0 1 lines n
 
 -- the entries of a journal that was read, or the fault
 abbrev pub entries_read : Result Log TextFault → Result (List Entry) TextFault
@@ -41,7 +41,7 @@ pub record Reading : Type 0 where
 abbrev pub ReadOrBad : Bool → Reading → List (List ℕ) → List Entry → Type 0
 ReadOrBad false reading lines entries =
     Reads JournalLine 0 1 lines entries reading.last × (reading.lines ≡ length lines)
-ReadOrBad true reading lines entries = IsBadLine lines reading.lines
+ReadOrBad true reading lines entries = IsBadJournalLine lines reading.lines
 
 abbrev pub HasRead : Reading → List (List ℕ) → List Entry → Type 0
 HasRead reading lines entries = ReadOrBad reading.bad reading lines entries
@@ -52,7 +52,7 @@ abbrev pub AnswersNext : List (List ℕ) → List Entry → Result (Option Entry
 AnswersNext lines entries (Ok found) reading =
     (reading.bad ≡ false) × HasRead reading lines (entries ++ option_to_list found)
 AnswersNext lines entries (Err bad) reading =
-    (reading.bad ≡ true) × IsBadLine lines bad.0 × (reading.lines ≡ bad.0)
+    (reading.bad ≡ true) × IsBadJournalLine lines bad.0 × (reading.lines ≡ bad.0)
 
 -- what is answered of a line that says this, by a reader that has met no bad one
 abbrev pub AnswersStep : Option (Option Entry × ℕ) → Reading → Result (Option Entry) BadLine

@@ -1,6 +1,6 @@
 ghost use Rattle.std.specs.Prelude.{◌≡◌, ◌++◌, IfOk, OnOk};
 ghost use Rattle.std.specs.Fmt.{decimal};
-ghost use Rattle.journal_text.specs.JournalTexts.{cause_text, entry_text, journal_text, line_text, rule_text, spaced};
+ghost use Rattle.journal_text.specs.JournalTexts.{cause_text, entry_text, journal_line_text, journal_rule_text, journal_text, spaced_word};
 ghost use Rattle.hex.specs.Hex.{encode_lower};
 
 use std::alloc::Global;
@@ -24,9 +24,9 @@ pub fn print_journal(alloc: Global, journal: &Journal) -> Result<ByteList, NoMem
 }
 
 /// Adds the line of an entry, with its end.
-#[tactic(auto, unfolding(crate::specs::JournalTexts::line_text))]
+#[tactic(auto, unfolding(crate::specs::JournalTexts::journal_line_text))]
 fn push_line(text: &mut Vec<u8>, entry: &Entry) -> Result<(), NoMemory>
-    ensures { OnOk result (text.new.items ≡ text.old.items ++ line_text entry.now) }
+    ensures { OnOk result (text.new.items ≡ text.old.items ++ journal_line_text entry.now) }
 {
     push_entry(text, entry)?;
     push_bytes(text, b"\n")
@@ -92,8 +92,8 @@ fn push_image(
     entry: u32,
     lines: u32,
 ) -> Result<(), NoMemory>
-    ensures { OnOk result (text.new.items ≡ text.old.items ++ (spaced (decimal slot) ++ (spaced (encode_lower id.now.0)
-        ++ (spaced (decimal place) ++ (spaced (decimal entry) ++ spaced (decimal lines)))))) }
+    ensures { OnOk result (text.new.items ≡ text.old.items ++ (spaced_word (decimal slot) ++ (spaced_word (encode_lower id.now.0)
+        ++ (spaced_word (decimal place) ++ (spaced_word (decimal entry) ++ spaced_word (decimal lines)))))) }
 {
     push_spaced(text, u32::from(slot))?;
     push_bytes(text, b" ")?;
@@ -113,7 +113,7 @@ fn push_numbered(text: &mut Vec<u8>, name: &[u8], n: u64) -> Result<(), NoMemory
 
 /// Adds a number behind a space.
 fn push_spaced(text: &mut Vec<u8>, n: u32) -> Result<(), NoMemory>
-    ensures { OnOk result (text.new.items ≡ text.old.items ++ spaced (decimal n)) }
+    ensures { OnOk result (text.new.items ≡ text.old.items ++ spaced_word (decimal n)) }
 {
     push_bytes(text, b" ")?;
     push_decimal(text, n)
@@ -121,7 +121,7 @@ fn push_spaced(text: &mut Vec<u8>, n: u32) -> Result<(), NoMemory>
 
 /// Adds two hexadecimal words with a space between them.
 fn push_two(text: &mut Vec<u8>, first: &[u8], second: &[u8]) -> Result<(), NoMemory>
-    ensures { OnOk result (text.new.items ≡ text.old.items ++ (encode_lower first.now ++ spaced (encode_lower second.now))) }
+    ensures { OnOk result (text.new.items ≡ text.old.items ++ (encode_lower first.now ++ spaced_word (encode_lower second.now))) }
 {
     push_hex(text, first)?;
     push_bytes(text, b" ")?;
@@ -130,7 +130,7 @@ fn push_two(text: &mut Vec<u8>, first: &[u8], second: &[u8]) -> Result<(), NoMem
 
 /// Adds a key, a message and the place that they were read from.
 fn push_accept(text: &mut Vec<u8>, key: &[u8], message: &[u8], place: u32) -> Result<(), NoMemory>
-    ensures { OnOk result (text.new.items ≡ text.old.items ++ (encode_lower key.now ++ spaced (encode_lower message.now) ++ spaced (decimal place))) }
+    ensures { OnOk result (text.new.items ≡ text.old.items ++ (encode_lower key.now ++ spaced_word (encode_lower message.now) ++ spaced_word (decimal place))) }
 {
     push_two(text, key, message)?;
     push_spaced(text, place)
@@ -157,7 +157,7 @@ fn push_cause(text: &mut Vec<u8>, cause: Cause) -> Result<(), NoMemory>
 }
 
 fn push_rule(text: &mut Vec<u8>, rule: Rule) -> Result<(), NoMemory>
-    ensures { OnOk result (text.new.items ≡ text.old.items ++ rule_text rule) }
+    ensures { OnOk result (text.new.items ≡ text.old.items ++ journal_rule_text rule) }
 {
     match rule {
         Rule::LineTag(line) => push_named(text, b"LineTag ", line),

@@ -1,7 +1,7 @@
 ghost use Rattle.std.specs.Prelude.{◌≡◌, ◌+◌, ◌∷◌, ◌++◌, [], OnOk};
 ghost use Rattle.xom_base.specs.Lines.{AnswersRead, AnswersText, lines_of, made_of, read_from};
 ghost use Rattle.journal_text.specs.JournalLines.{journal_step};
-ghost use Rattle.journal_text.specs.Readings.{IsBadLine, IsJournal, entries_alone, entries_read};
+ghost use Rattle.journal_text.specs.Readings.{IsBadJournalLine, IsJournal, entries_alone, entries_read};
 
 use crate::line_reader::{BadLine, LineReader};
 use std::alloc::Global;
@@ -12,7 +12,7 @@ use xom_journal::{Journal, cost};
 /// is `Line` with the number of the first bad line, counted from 1, or `NoMemory`. It costs time linear in
 /// the text, and memory for the journal alone.
 pub fn read_journal(alloc: Global, text: &ByteList) -> Result<Journal, TextFault>
-    ensures { AnswersText (IsJournal text.now) (IsBadLine (lines_of text.now)) (entries_read result) }
+    ensures { AnswersText (IsJournal text.now) (IsBadJournalLine (lines_of text.now)) (entries_read result) }
 {
     journal_in(alloc, text.as_slice())
 }

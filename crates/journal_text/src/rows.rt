@@ -1,7 +1,7 @@
 ghost use Rattle.std.specs.Prelude.{◌≡◌, ◌≤◌, ◌<◌, ◌^◌, List, length, map, option_map};
 ghost use Rattle.xom_base.specs.Hex.{hex_within};
 ghost use Rattle.xom_base.specs.Numbers.{decimal_below_of, number_below_of};
-ghost use Rattle.journal_text.specs.JournalLines.{accept_of, cause_of, hash_of, install_of, installed_of, journal_step, kill_of, last_behind, named_cause_of, named_entry_of, named_rule_of, next_install_of, out_of, payload_of, row_of, rule_of, seal_of, slot_of, step_entry_of, stop_of, trap_of};
+ghost use Rattle.journal_text.specs.JournalLines.{accept_entry_of, cause_of, hash_entry_of, install_entry_of, installed_of, journal_step, kill_entry_of, last_behind, named_cause_of, named_entry_of, named_rule_of, next_install_of, out_entry_of, payload_of, row_of_entry, rule_of, seal_entry_of, slot_of_word, step_entry_of, stop_entry_of, trap_entry_of};
 
 use keyed_mac::digest;
 use step_text::{fault_in, step_in};
@@ -23,9 +23,9 @@ pub fn line_in(last: u64, line: &[u8]) -> Option<(Option<Entry>, u64)>
     Some((Some(entry), next))
 }
 
-#[tactic(auto, unfolding(crate::specs::JournalLines::row_of))]
+#[tactic(auto, unfolding(crate::specs::JournalLines::row_of_entry))]
 fn row_in(last: u64, words: &[&[u8]]) -> Option<(Entry, u64)>
-    ensures { result ≡ row_of last (map (λ word. word.now) words.now) }
+    ensures { result ≡ row_of_entry last (map (λ word. word.now) words.now) }
 {
     let (name, rest) = words.split_first()?;
     let entry = named_entry(last, name, rest)?;
@@ -77,9 +77,9 @@ fn last_install(last: u64, entry: &Entry) -> u64
     }
 }
 
-#[tactic(auto, unfolding(crate::specs::JournalLines::install_of))]
+#[tactic(auto, unfolding(crate::specs::JournalLines::install_entry_of))]
 fn install_in(last: u64, words: &[&[u8]]) -> Option<Entry>
-    ensures { result ≡ install_of last (map (λ word. word.now) words.now) }
+    ensures { result ≡ install_entry_of last (map (λ word. word.now) words.now) }
 {
     match words {
         [install, slot, id, place, entry, lines] => {
@@ -112,9 +112,9 @@ fn step_entry(last: u64, words: &[&[u8]]) -> Option<Entry>
     Some(Entry::Step { install, step })
 }
 
-#[tactic(auto, unfolding(crate::specs::JournalLines::trap_of))]
+#[tactic(auto, unfolding(crate::specs::JournalLines::trap_entry_of))]
 fn trap_in(last: u64, words: &[&[u8]]) -> Option<Entry>
-    ensures { result ≡ trap_of last (map (λ word. word.now) words.now) }
+    ensures { result ≡ trap_entry_of last (map (λ word. word.now) words.now) }
 {
     let (install, causes) = words.split_first()?;
     let install = installed(last, install)?;
@@ -157,9 +157,9 @@ fn named_cause(name: &[u8], detail: &[u8]) -> Option<Cause>
     }
 }
 
-#[tactic(auto, unfolding(crate::specs::JournalLines::seal_of))]
+#[tactic(auto, unfolding(crate::specs::JournalLines::seal_entry_of))]
 fn seal_in(words: &[&[u8]]) -> Option<Entry>
-    ensures { result ≡ seal_of (map (λ word. word.now) words.now) }
+    ensures { result ≡ seal_entry_of (map (λ word. word.now) words.now) }
 {
     match words {
         [key, message] => {
@@ -171,9 +171,9 @@ fn seal_in(words: &[&[u8]]) -> Option<Entry>
     }
 }
 
-#[tactic(auto, unfolding(crate::specs::JournalLines::accept_of))]
+#[tactic(auto, unfolding(crate::specs::JournalLines::accept_entry_of))]
 fn accept_in(words: &[&[u8]]) -> Option<Entry>
-    ensures { result ≡ accept_of (map (λ word. word.now) words.now) }
+    ensures { result ≡ accept_entry_of (map (λ word. word.now) words.now) }
 {
     match words {
         [key, message, place] => {
@@ -190,9 +190,9 @@ fn accept_in(words: &[&[u8]]) -> Option<Entry>
     }
 }
 
-#[tactic(auto, unfolding(crate::specs::JournalLines::hash_of))]
+#[tactic(auto, unfolding(crate::specs::JournalLines::hash_entry_of))]
 fn hash_in(words: &[&[u8]]) -> Option<Entry>
-    ensures { result ≡ hash_of (map (λ word. word.now) words.now) }
+    ensures { result ≡ hash_entry_of (map (λ word. word.now) words.now) }
 {
     match words {
         [preimage, hash] => {
@@ -212,9 +212,9 @@ fn hash_in(words: &[&[u8]]) -> Option<Entry>
     }
 }
 
-#[tactic(auto, unfolding(crate::specs::JournalLines::stop_of))]
+#[tactic(auto, unfolding(crate::specs::JournalLines::stop_entry_of))]
 fn stop_in(last: u64, words: &[&[u8]]) -> Option<Entry>
-    ensures { result ≡ stop_of last (map (λ word. word.now) words.now) }
+    ensures { result ≡ stop_entry_of last (map (λ word. word.now) words.now) }
 {
     let (install, rules) = words.split_first()?;
     let install = installed(last, install)?;
@@ -253,9 +253,9 @@ fn named_rule(name: &[u8], detail: &[u8]) -> Option<Rule>
     }
 }
 
-#[tactic(auto, unfolding(crate::specs::JournalLines::kill_of))]
+#[tactic(auto, unfolding(crate::specs::JournalLines::kill_entry_of))]
 fn kill_in(last: u64, words: &[&[u8]]) -> Option<Entry>
-    ensures { result ≡ kill_of last (map (λ word. word.now) words.now) }
+    ensures { result ≡ kill_entry_of last (map (λ word. word.now) words.now) }
 {
     match words {
         [install] => {
@@ -266,9 +266,9 @@ fn kill_in(last: u64, words: &[&[u8]]) -> Option<Entry>
     }
 }
 
-#[tactic(auto, unfolding(crate::specs::JournalLines::out_of))]
+#[tactic(auto, unfolding(crate::specs::JournalLines::out_entry_of))]
 fn out_in(words: &[&[u8]]) -> Option<Entry>
-    ensures { result ≡ out_of (map (λ word. word.now) words.now) }
+    ensures { result ≡ out_entry_of (map (λ word. word.now) words.now) }
 {
     match words {
         [byte] => {
@@ -312,9 +312,9 @@ fn next_install(last: u64, word: &[u8]) -> Option<u64>
     (1 <= n && n - 1 == last).then_some(n)
 }
 
-#[tactic(auto, unfolding(crate::specs::JournalLines::slot_of))]
+#[tactic(auto, unfolding(crate::specs::JournalLines::slot_of_word))]
 fn slot_in(word: &[u8]) -> Option<u8>
-    ensures { result ≡ slot_of word.now }
+    ensures { result ≡ slot_of_word word.now }
 {
     let n = number_below(word, 17)?;
     (1 <= n).then_some(n as u8)

@@ -22,30 +22,30 @@ bytes_shown view from count = map (byte_shown view) (range_with_len from count)
 -- ---- A script
 
 -- a turn, with the bytes that a kernel write puts into RAM
-abbrev pub Told : Type 0
-Told = Turn × List ℕ
+abbrev pub ToldTurn : Type 0
+ToldTurn = Turn × List ℕ
 
 -- a kernel write of at most 8,192 bytes of a list
-abbrev pub write_of : ℕ → List ℕ → Told
-write_of address bytes = (turn.Write address (min (length bytes) chunk_size), take chunk_size bytes)
+abbrev pub write_turn : ℕ → List ℕ → ToldTurn
+write_turn address bytes = (turn.Write address (min (length bytes) chunk_size), take chunk_size bytes)
 
 -- a kernel write of at most 8,192 bytes, as they stand in RAM at this turn
-abbrev pub copy_of : View → ℕ → ℕ → ℕ → Told
+abbrev pub copy_of : View → ℕ → ℕ → ℕ → ToldTurn
 copy_of view from to count =
     (turn.Write to (min count chunk_size), bytes_shown view from (min count chunk_size))
 
 -- a kernel write of the byte that stands there at this turn, with the bits of a mask turned over
-abbrev pub flip_of : View → ℕ → ℕ → Told
+abbrev pub flip_of : View → ℕ → ℕ → ToldTurn
 flip_of view address mask = (turn.Write address 1, bit_xor (byte_shown view address) mask ∷ [])
 
 -- the status as a digit on the console, which takes a byte
-abbrev pub show_of : View → Told
+abbrev pub show_of : View → ToldTurn
 show_of view = (turn.Do (op.Out ((48 + view.status) % 2 ^ 8)), [])
 
 -- what a line asks for
-abbrev pub turn_of : View → ScriptLine → Told
+abbrev pub turn_of : View → ScriptLine → ToldTurn
 turn_of view (line.Do op) = (turn.Do op, [])
-turn_of view (line.Write address bytes) = write_of address bytes
+turn_of view (line.Write address bytes) = write_turn address bytes
 turn_of view (line.Copy from to count) = copy_of view from to count
 turn_of view (line.Flip address mask) = flip_of view address mask
 turn_of view line.Show = show_of view

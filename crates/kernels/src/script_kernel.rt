@@ -1,6 +1,6 @@
 ghost use Rattle.std.specs.Prelude.{◌≡◌};
 ghost use Rattle.kernels.specs.Given.{IsGiven};
-ghost use Rattle.kernels.specs.Turns.{copy_of, flip_of, show_of, turn_of, write_of};
+ghost use Rattle.kernels.specs.Turns.{copy_of, flip_of, show_of, turn_of, write_turn};
 
 use crate::view_bytes::{byte_shown, copy_shown, put_byte};
 use std::marker::Model;
@@ -70,7 +70,7 @@ fn turn(line: &ScriptLine, view: &View, chunk: &mut Chunk) -> Turn
 
 /// A kernel write of these bytes, of the first 8,192 where there are more.
 fn write(address: u32, bytes: &ByteList, chunk: &mut Chunk) -> Turn
-    ensures { IsGiven (write_of address bytes.now) result chunk.new }
+    ensures { IsGiven (write_turn address bytes.now) result chunk.new }
 {
     let length = bytes.len().min(Chunk::SIZE as usize);
     chunk.put(0, &bytes.as_slice()[..length]);

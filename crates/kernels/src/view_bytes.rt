@@ -1,5 +1,5 @@
 ghost use Rattle.std.specs.Prelude.{◌≡◌, ◌≤◌, ◌<◌, [], ◌∷◌, take};
-ghost use Rattle.line_ram.specs.Bytes.{stored};
+ghost use Rattle.line_ram.specs.Bytes.{ram_with_bytes};
 ghost use Rattle.xom_model.specs.Event.{chunk_size};
 ghost use Rattle.kernels.specs.Turns.{byte_shown as byte_shown_in, bytes_shown as bytes_shown_in};
 
@@ -28,7 +28,7 @@ pub fn copy_shown(view: &View, from: u32, count: u32, chunk: &mut Chunk)
 /// Puts a byte at a place of the chunk.
 pub fn put_byte(chunk: &mut Chunk, i: u32, byte: u8)
     requires { i < chunk_size }
-    ensures { chunk.new ≡ stored chunk.old i (byte ∷ []) }
+    ensures { chunk.new ≡ ram_with_bytes chunk.old i (byte ∷ []) }
 {
     chunk.put(i, &[byte]);
 }

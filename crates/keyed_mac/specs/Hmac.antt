@@ -4,8 +4,8 @@ use Rattle.std.specs.Prelude.{ℕ, ◌-◌, List, ◌++◌, length, map, nat_le,
 use Rattle.sha2.specs.Sha256.{sha256}
 
 -- B, the size of a block of SHA-256 in bytes (section 2.3)
-abbrev pub block_size : ℕ
-block_size = 64
+abbrev pub hash_block_size : ℕ
+hash_block_size = 64
 
 -- the byte of the inner pad, and that of the outer one (section 2.3)
 abbrev pub ipad : ℕ
@@ -16,18 +16,18 @@ opad = 0x5c
 
 -- the text with zeros behind it, up to the size of a block
 abbrev pub zero_padded : List ℕ → List ℕ
-zero_padded text = text ++ replicate (block_size - length text) 0
+zero_padded text = text ++ replicate (hash_block_size - length text) 0
 
 -- K0: the key, or the hash of one that is longer than a block, with zeros behind it (section 4,
 -- steps 1 to 3)
 abbrev pub block_key : List ℕ → List ℕ
-block_key key = zero_padded (if nat_le (length key) block_size then key else sha256 key)
+block_key key = zero_padded (if nat_le (length key) hash_block_size then key else sha256 key)
 
 -- each byte of a block xor that of a pad (steps 4 and 7)
-abbrev pub masked : ℕ → List ℕ → List ℕ
-masked pad block = map (λ byte. bit_xor byte pad) block
+abbrev pub block_with_pad : ℕ → List ℕ → List ℕ
+block_with_pad pad block = map (λ byte. bit_xor byte pad) block
 
 -- H((K0 xor opad) || H((K0 xor ipad) || text)) (steps 5, 6, 8 and 9)
 unfoldable pub hmac_sha256 : List ℕ → List ℕ → List ℕ
 hmac_sha256 key text =
-    sha256 (masked opad (block_key key) ++ sha256 (masked ipad (block_key key) ++ text))
+    sha256 (block_with_pad opad (block_key key) ++ sha256 (block_with_pad ipad (block_key key) ++ text))

@@ -1,7 +1,7 @@
 //! A key as the two blocks that HMAC hashes before its texts, FIPS 198-1, section 4, steps 1 to 4 and 7.
 
 ghost use Rattle.std.specs.Prelude.{◌≡◌, ◌≤◌, length};
-ghost use Rattle.keyed_mac.specs.Hmac.{block_key, ipad, masked as masked_of, opad};
+ghost use Rattle.keyed_mac.specs.Hmac.{block_key, block_with_pad as masked_of, ipad, opad};
 
 /// The size of a block of SHA-256 in bytes, and of the longest key (FIPS 198-1, section 2.3).
 pub const BLOCK: usize = 64;

@@ -3,8 +3,8 @@ use Rattle.std.proofs.Common.{◌≡◌, ◌≢◌, refl, ℕ, ◌/◌, ◌%◌,
 use Rattle.std.proofs.lemmas.Bool.Decides.{eqb_tells}
 use Rattle.std.proofs.lemmas.List.{get_or-set_other, get_or-set_same, length-set}
 use Rattle.line_cache.specs.declared.way.Way.{Way}
-use Rattle.line_cache.specs.Ways.{Cache, found, free_way, way_at}
-use Rattle.line_cache.specs.Lines.{Holds, IsCache, IsFilled, line_in, way_found}
+use Rattle.line_cache.specs.Ways.{Cache, free_way, place_of_line, way_at}
+use Rattle.line_cache.specs.Lines.{Holds, IsCache, IsFilled, cached_line, way_found}
 use Rattle.line_cache.proofs.Search.{found-None, found-Some, found_at, found_none}
 
 -- the way may stand in this place
@@ -99,7 +99,7 @@ module _ (cache : Cache) (sound : IsCache cache) (place : ℕ) (within : place <
 
     module _ (sets : length pointers ≡ 32) where
       -- the line of the new way is found there
-      pub found-set : way.slot ≢ 0 → found new.ways way.slot way.line ≡ Some place
+      pub found-set : way.slot ≢ 0 → place_of_line new.ways way.slot way.line ≡ Some place
       found-set some = found_at new (IsCache-set sets) way.slot way.line some place
           (elim (new_is place) [
             | inl s ↦ subst (λ w. Holds w way.slot way.line) (sym s.1)
@@ -107,14 +107,14 @@ module _ (cache : Cache) (sound : IsCache cache) (place : ℕ) (within : place <
             | inr o ↦ absurd (o.0 refl)
           ])
 
-      pub line_in-set : way.slot ≢ 0 → line_in new.ways way.slot way.line ≡ Some way
+      pub line_in-set : way.slot ≢ 0 → cached_line new.ways way.slot way.line ≡ Some way
       line_in-set some =
           ap (way_found new.ways) (found-set some)
           ∙ ap Some (elim (new_is place) [ inl s ↦ s.1 | inr o ↦ absurd (o.0 refl) ])
 
       module _ (slot line : ℕ) (some : slot ≢ 0) (not_new : ¬ Holds way slot line) where
         -- the line that stood there is gone
-        pub found-gone : Holds (way_at cache.ways place) slot line → found new.ways slot line ≡ None
+        pub found-gone : Holds (way_at cache.ways place) slot line → place_of_line new.ways slot line ≡ None
         found-gone held = found_none new.ways slot line some (λ at holds. elim (new_is at) [
           | inl s ↦ not_new (other_Holds (way_at new.ways at) way slot line s.1 holds)
           | inr o ↦ o.0 (sound.once place at (λ free. some (sym held.its_slot ∙ free))
@@ -128,13 +128,13 @@ module _ (cache : Cache) (sound : IsCache cache) (place : ℕ) (within : place <
         ])
 
         pub line_in-gone : Holds (way_at cache.ways place) slot line
-            → line_in new.ways slot line ≡ None
+            → cached_line new.ways slot line ≡ None
         line_in-gone held = ap (way_found new.ways) (found-gone held)
 
         -- every other line is as it was
         module _ (not_old : ¬ Holds (way_at cache.ways place) slot line) where
-          line_found : (before : Option ℕ) → found cache.ways slot line ≡ before
-              → line_in new.ways slot line ≡ way_found cache.ways before
+          line_found : (before : Option ℕ) → place_of_line cache.ways slot line ≡ before
+              → cached_line new.ways slot line ≡ way_found cache.ways before
           line_found (Some at) is =
               let held = found-Some cache.ways slot line some at is in
               elim (new_is at) [
@@ -153,5 +153,5 @@ module _ (cache : Cache) (sound : IsCache cache) (place : ℕ) (within : place <
                     (other_Holds (way_at new.ways at) (way_at cache.ways at) slot line o.1 holds)
               ]))
 
-          pub line_in-other : line_in new.ways slot line ≡ line_in cache.ways slot line
-          line_in-other = line_found (found cache.ways slot line) refl
+          pub line_in-other : cached_line new.ways slot line ≡ cached_line cache.ways slot line
+          line_in-other = line_found (place_of_line cache.ways slot line) refl

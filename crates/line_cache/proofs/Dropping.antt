@@ -4,8 +4,8 @@ use Rattle.std.proofs.lemmas.Bool.{cases_lt}
 use Rattle.std.proofs.lemmas.Bool.Decides.{eqb_tells}
 use Rattle.std.proofs.lemmas.List.{get_or-map, get_or_past, length-map, take_at}
 use Rattle.line_cache.specs.declared.way.Way.{Way}
-use Rattle.line_cache.specs.Ways.{Cache, found, free_if, free_way, way_at, without_slot}
-use Rattle.line_cache.specs.Lines.{DropsSlot, IsCache, line_in, way_found}
+use Rattle.line_cache.specs.Ways.{Cache, free_if, free_way, place_of_line, way_at, without_slot}
+use Rattle.line_cache.specs.Lines.{DropsSlot, IsCache, cached_line, way_found}
 use Rattle.line_cache.proofs.Search.{found-None, found-Some, found_at, found_none}
 use Rattle.line_cache.proofs.Changes.{other_Holds}
 
@@ -74,7 +74,7 @@ module _ (cache : Cache) (sound : IsCache cache) (slot : ℕ) where
   }
 
   module _ (some : 1 ≤ slot) where
-    none_left : (line : ℕ) → found new.ways slot line ≡ None
+    none_left : (line : ℕ) → place_of_line new.ways slot line ≡ None
     none_left line = found_none new.ways slot line (λ none. absurd (omega arith))
         (λ at holds. elim (new_is at) [
           | inl f ↦ (let zero_slot = sym holds.its_slot ∙ ap (λ w. w.slot) f.1 in absurd (omega arith))
@@ -82,8 +82,8 @@ module _ (cache : Cache) (sound : IsCache cache) (slot : ℕ) where
         ])
 
     module _ (other line : ℕ) (some_other : other ≢ 0) (differs : other ≢ slot) where
-      line_found : (before : Option ℕ) → found cache.ways other line ≡ before
-          → line_in new.ways other line ≡ way_found cache.ways before
+      line_found : (before : Option ℕ) → place_of_line cache.ways other line ≡ before
+          → cached_line new.ways other line ≡ way_found cache.ways before
       line_found (Some at) is =
           let held = found-Some cache.ways other line some_other at is in
           elim (new_is at) [
@@ -105,7 +105,7 @@ module _ (cache : Cache) (sound : IsCache cache) (slot : ℕ) where
     drops_slot = record {
       none = none_left;
       other_slots = λ other line some_other differs. line_found other line some_other differs
-          (found cache.ways other line) refl;
+          (place_of_line cache.ways other line) refl;
     }
 
 -- ---- The answers of the body

@@ -3,7 +3,7 @@ use Rattle.std.proofs.Common.{◌≡◌, ◌≢◌, refl, ℕ, ◌+◌, ◌%◌,
 use Rattle.std.proofs.lemmas.List.{length-set}
 use Rattle.line_cache.specs.declared.way.Victim.{Victim}
 use Rattle.line_cache.specs.declared.way.Way.{Way}
-use Rattle.line_cache.specs.Ways.{Cache, chosen, first_place, found, free_in_set, moved_on, new_way, place_for, pointed, pointers_after, pushed_out, victim_for, victim_of, way_at, with_line}
+use Rattle.line_cache.specs.Ways.{Cache, cache_with_line, first_place, free_in_set, free_or_pointed, moved_on, new_way, place_for, place_of_line, pointers_after, pushed_out, victim_for, victim_of, way_at, way_of_pointer}
 use Rattle.line_cache.specs.Lines.{BringsIn, HandsOut, Holds, IsCache, IsFilled, IsFull, IsLine, IsVictim, way_found}
 use Rattle.line_cache.proofs.Search.{found-None, found_at, free-None, free-Some, none_free}
 use Rattle.line_cache.proofs.Changes.{Fits, IsCache-set, found-set, line_in-gone, line_in-other, line_in-set}
@@ -11,7 +11,7 @@ use Rattle.line_cache.proofs.Changes.{Fits, IsCache-set, found-set, line_in-gone
 -- the cache with a new line, where its set has a free way and where it is full
 pub line_in_free : (cache : Cache) (slot line : ℕ) (bytes : List ℕ) (free : ℕ)
     → free_in_set cache.ways line ≡ Some free
-    → with_line cache slot line bytes
+    → cache_with_line cache slot line bytes
     ≡ record {
       ways = slice_set cache.ways (first_place line + free) (new_way slot line bytes);
       pointers = cache.pointers;
@@ -20,11 +20,11 @@ line_in_free cache slot line bytes free is = rw is refl
 
 pub line_in_full : (cache : Cache) (slot line : ℕ) (bytes : List ℕ)
     → free_in_set cache.ways line ≡ None
-    → with_line cache slot line bytes
+    → cache_with_line cache slot line bytes
     ≡ record {
-      ways = slice_set cache.ways (first_place line + pointed cache.pointers line)
+      ways = slice_set cache.ways (first_place line + way_of_pointer cache.pointers line)
           (new_way slot line bytes);
-      pointers = slice_set cache.pointers (line % 32) ((pointed cache.pointers line + 1) % 4);
+      pointers = slice_set cache.pointers (line % 32) ((way_of_pointer cache.pointers line + 1) % 4);
     }
 line_in_full cache slot line bytes is = rw is refl
 
@@ -34,11 +34,11 @@ victim_of_free cache line free is = rw is refl
 
 pub victim_of_full : (cache : Cache) (line : ℕ) → free_in_set cache.ways line ≡ None
     → victim_for cache line
-    ≡ Some (victim_of (way_at cache.ways (first_place line + pointed cache.pointers line)))
+    ≡ Some (victim_of (way_at cache.ways (first_place line + way_of_pointer cache.pointers line)))
 victim_of_full cache line is = rw is refl
 
 module _ (cache : Cache) (sound : IsCache cache) (slot line : ℕ) (bytes : List ℕ) (some : slot ≢ 0)
-    (known : slot ≤ 16) (inside : line < 2 ^ 15) (absent : found cache.ways slot line ≡ None) where
+    (known : slot ≤ 16) (inside : line < 2 ^ 15) (absent : place_of_line cache.ways slot line ≡ None) where
   abbrev way : Way
   way = new_way slot line bytes
 
@@ -52,14 +52,14 @@ module _ (cache : Cache) (sound : IsCache cache) (slot line : ℕ) (bytes : List
   }
 
   chosen_low : (free : Option ℕ) → free_in_set cache.ways line ≡ free
-      → chosen free (pointed cache.pointers line) < 4
+      → free_or_pointed free (way_of_pointer cache.pointers line) < 4
   chosen_low (Some free) is = (free-Some cache sound line free is).0
   chosen_low None is = omega arith
 
   abbrev place : ℕ
   place = place_for cache.ways cache.pointers line
 
-  low : chosen (free_in_set cache.ways line) (pointed cache.pointers line) < 4
+  low : free_or_pointed (free_in_set cache.ways line) (way_of_pointer cache.pointers line) < 4
   low = chosen_low (free_in_set cache.ways line) refl
 
   within : place < 128
@@ -72,12 +72,12 @@ module _ (cache : Cache) (sound : IsCache cache) (slot line : ℕ) (bytes : List
   sets : length (pointers_after cache.ways cache.pointers line) ≡ 32
   sets = still (free_in_set cache.ways line)
 
-  pub with_line_is_cache : IsCache (with_line cache slot line bytes)
+  pub with_line_is_cache : IsCache (cache_with_line cache slot line bytes)
   with_line_is_cache =
       IsCache-set cache sound place within way (pointers_after cache.ways cache.pointers line)
       (fits _ low) sets
 
-  pub with_line_is_found : found (with_line cache slot line bytes).ways slot line ≡ Some place
+  pub with_line_is_found : place_of_line (cache_with_line cache slot line bytes).ways slot line ≡ Some place
   with_line_is_found =
       found-set cache sound place within way (pointers_after cache.ways cache.pointers line)
       (fits _ low) sets some
@@ -86,14 +86,14 @@ module _ (cache : Cache) (sound : IsCache cache) (slot line : ℕ) (bytes : List
   not_there at = found-None cache.ways slot line some absent at
 
   handed_out : (free : Option ℕ) → free_in_set cache.ways line ≡ free → (at : ℕ)
-      → at ≡ first_place line + chosen free (pointed cache.pointers line) → at ≡ place
+      → at ≡ first_place line + free_or_pointed free (way_of_pointer cache.pointers line) → at ≡ place
       → IfSome (pushed_out free (way_at cache.ways at))
-      (HandsOut cache.ways (with_line cache slot line bytes).ways)
+      (HandsOut cache.ways (cache_with_line cache slot line bytes).ways)
   handed_out (Some free) is at place_is same = tt
   handed_out None is at place_is same =
       let old = way_at cache.ways at in
       let filled : IsFilled cache.ways at = subst (λ n. IsFilled cache.ways n) (sym place_is)
-      (free-None cache sound line is (pointed cache.pointers line) (omega arith)) in
+      (free-None cache sound line is (way_of_pointer cache.pointers line) (omega arith)) in
       record {
         way = old;
         before = ap (way_found cache.ways) (found_at cache sound old.slot old.line filled at
@@ -111,7 +111,7 @@ module _ (cache : Cache) (sound : IsCache cache) (slot line : ℕ) (bytes : List
       }
 
   others : (free : Option ℕ) → free_in_set cache.ways line ≡ free → (at : ℕ)
-      → at ≡ first_place line + chosen free (pointed cache.pointers line)
+      → at ≡ first_place line + free_or_pointed free (way_of_pointer cache.pointers line)
       → (who other : ℕ) → who ≢ 0 → ¬ IsVictim (pushed_out free (way_at cache.ways at)) who other
       → ¬ Holds (way_at cache.ways at) who other
   others (Some free) is at place_is who other some_who not_victim holds =
@@ -121,18 +121,18 @@ module _ (cache : Cache) (sound : IsCache cache) (slot line : ℕ) (bytes : List
       not_victim (holds.its_slot, holds.its_line)
 
   in_range : (free : Option ℕ) → free_in_set cache.ways line ≡ free → (at : ℕ)
-      → at ≡ first_place line + chosen free (pointed cache.pointers line)
+      → at ≡ first_place line + free_or_pointed free (way_of_pointer cache.pointers line)
       → IfSome (pushed_out free (way_at cache.ways at)) IsLine
   in_range (Some free) is at place_is = tt
   in_range None is at place_is =
       let filled : IsFilled cache.ways at = subst (λ n. IsFilled cache.ways n) (sym place_is)
-      (free-None cache sound line is (pointed cache.pointers line) (omega arith)) in
+      (free-None cache sound line is (way_of_pointer cache.pointers line) (omega arith)) in
       record { some = omega arith; known = sound.known at; inside = sound.inside at }
 
   pub victim_is_line : IfSome (victim_for cache line) IsLine
   victim_is_line = in_range (free_in_set cache.ways line) refl place refl
 
-  pub with_line_brings_in : BringsIn cache.ways (with_line cache slot line bytes).ways slot line
+  pub with_line_brings_in : BringsIn cache.ways (cache_with_line cache slot line bytes).ways slot line
       bytes (victim_for cache line)
   with_line_brings_in = record {
     this_line = line_in-set cache sound place within way (pointers_after cache.ways cache.pointers
@@ -152,13 +152,13 @@ pub record Placed (cache : Cache) (slot line : ℕ) (bytes : List ℕ) (new : Ca
     (victim : Option Victim) : Type 0 where
   pub is_cache : IsCache new
   pub full : IsSome victim ↔ IsFull cache.ways line
-  pub found_there : found new.ways slot line ≡ Some (place_for cache.ways cache.pointers line)
+  pub found_there : place_of_line new.ways slot line ≡ Some (place_for cache.ways cache.pointers line)
   pub lines : BringsIn cache.ways new.ways slot line bytes victim
   pub range : IfSome victim IsLine
 
 module _ (opened cache : Cache) (same : opened ≡ cache) (sound : IsCache opened) (slot line : ℕ)
     (bytes : List ℕ) (some : 1 ≤ slot) (known : slot ≤ 16) (inside : line < 2 ^ 15)
-    (absent : found cache.ways slot line ≡ None) (first : ℕ) (way : Way)
+    (absent : place_of_line cache.ways slot line ≡ None) (first : ℕ) (way : Way)
     (first_is : first ≡ first_place line) (way_is : way ≡ new_way slot line bytes) where
   whole : IsCache cache
   whole = subst IsCache same sound
@@ -166,7 +166,7 @@ module _ (opened cache : Cache) (same : opened ≡ cache) (sound : IsCache opene
   not_null : slot ≢ 0
   not_null none = absurd (omega arith)
 
-  placed_as : (new : Cache) (victim : Option Victim) → with_line cache slot line bytes ≡ new
+  placed_as : (new : Cache) (victim : Option Victim) → cache_with_line cache slot line bytes ≡ new
       → victim_for cache line ≡ victim
       → (IsSome victim ↔ IsFull cache.ways line) → Placed cache slot line bytes new victim
   placed_as new victim new_is victim_is full = record {
@@ -175,7 +175,7 @@ module _ (opened cache : Cache) (same : opened ≡ cache) (sound : IsCache opene
     full = full;
     range = subst (λ v. IfSome v IsLine) victim_is (victim_is_line cache whole slot line bytes
         not_null known inside absent);
-    found_there = subst (λ c. found c.ways slot line ≡ Some (place_for cache.ways cache.pointers
+    found_there = subst (λ c. place_of_line c.ways slot line ≡ Some (place_for cache.ways cache.pointers
         line)) new_is
         (with_line_is_found cache whole slot line bytes not_null known inside absent);
     lines = subst (BringsIn cache.ways new.ways slot line bytes) victim_is
@@ -195,12 +195,12 @@ module _ (opened cache : Cache) (same : opened ≡ cache) (sound : IsCache opene
       )
 
   pub placed_full : (victim : Victim) (pointer : ℕ) → None ≡ free_in_set cache.ways line
-      → pointer ≡ pointed opened.pointers line
+      → pointer ≡ way_of_pointer opened.pointers line
       → victim ≡ victim_of (way_at opened.ways (first + pointer))
       → Placed cache slot line bytes
       (record {
         ways = slice_set opened.ways (first + pointer) way;
-        pointers = slice_set opened.pointers (line % 32) ((pointed opened.pointers line + 1) % 4);
+        pointers = slice_set opened.pointers (line % 32) ((way_of_pointer opened.pointers line + 1) % 4);
       }) (Some victim)
   placed_full victim pointer is pointer_is victim_is = placed_as _ (Some victim)
       (rw (pointer_is, same, first_is, way_is) (line_in_full cache slot line bytes (sym is)))

@@ -7,7 +7,7 @@ use Rattle.std.proofs.lemmas.List.{get_or-drop, get_or-take, get_or_past, length
 use Rattle.std.proofs.lemmas.List.Quantifiers.{position-Some}
 use Rattle.std.proofs.lemmas.List.Sums.{fails_before_first, position_or_len_is}
 use Rattle.line_cache.specs.declared.way.Way.{Way}
-use Rattle.line_cache.specs.Ways.{Cache, first_place, found, free_in_set, free_way, is_free, is_of, set_of, way_at}
+use Rattle.line_cache.specs.Ways.{Cache, first_place, free_in_set, free_way, is_free, is_of, place_of_line, set_of, way_at}
 use Rattle.line_cache.specs.Lines.{Holds, IsCache, IsFilled, IsFull}
 
 -- ---- Positions
@@ -63,19 +63,19 @@ filled_within ways place filled = elim (cases_lt place (length ways)) [
 -- ---- The search over all places
 
 module _ (ways : List Way) (slot line : ℕ) (some : slot ≢ 0) where
-  pub found-Some : (place : ℕ) → found ways slot line ≡ Some place
+  pub found-Some : (place : ℕ) → place_of_line ways slot line ≡ Some place
       → Holds (way_at ways place) slot line
   found-Some place is = is_of-Holds slot line (way_at ways place)
       (position-Some (is_of slot line) ways place free_way is).1
 
   -- a line that no place holds isn't found
   pub found_none : ((place : ℕ) → ¬ Holds (way_at ways place) slot line)
-      → found ways slot line ≡ None
+      → place_of_line ways slot line ≡ None
   found_none absent = position_none (is_of slot line) ways free_way (λ j _.
       elim (tells slot line (way_at ways j)) [ inl h ↦ absurd (absent j h.0) | inr n ↦ n.1 ])
 
   -- a line that isn't found is held by no place
-  pub found-None : found ways slot line ≡ None → (place : ℕ) → ¬ Holds (way_at ways place) slot line
+  pub found-None : place_of_line ways slot line ≡ None → (place : ℕ) → ¬ Holds (way_at ways place) slot line
   found-None none place holds =
       let filled : IsFilled ways place = λ free. some (sym holds.its_slot ∙ free) in
       let fails = none_passes (is_of slot line) ways place free_way none
@@ -156,7 +156,7 @@ module _ (cache : Cache) (sound : IsCache cache) (line : ℕ) where
 module _ (cache : Cache) (sound : IsCache cache) (slot line : ℕ) (some : slot ≢ 0) where
   -- a place that holds the line is the one that is found
   pub found_at : (place : ℕ) → Holds (way_at cache.ways place) slot line
-      → found cache.ways slot line ≡ Some place
+      → place_of_line cache.ways slot line ≡ Some place
   found_at place holds =
       let filled : IsFilled cache.ways place = λ free. some (sym holds.its_slot ∙ free) in
       position_at (is_of slot line) cache.ways place free_way
@@ -180,7 +180,7 @@ module _ (cache : Cache) (sound : IsCache cache) (slot line : ℕ) (some : slot 
 
   -- a line that its set doesn't have isn't cached
   pub none_in_set : position (is_of slot line) (set_of cache.ways line) ≡ None
-      → found cache.ways slot line ≡ None
+      → place_of_line cache.ways slot line ≡ None
   none_in_set none = found_none cache.ways slot line some (λ place holds.
       let filled : IsFilled cache.ways place = λ free. some (sym holds.its_slot ∙ free) in
       let in_set : place / 4 ≡ line % 32 = sound.in_set place filled ∙ ap (λ l. l % 32)
@@ -198,7 +198,7 @@ module _ (cache : Cache) (sound : IsCache cache) (slot line : ℕ) (some : slot 
 
   -- a line that its set has in a way is found at that way's place
   pub some_in_set : (way : ℕ) → position (is_of slot line) (set_of cache.ways line) ≡ Some way
-      → found cache.ways slot line ≡ Some (first_place line + way)
+      → place_of_line cache.ways slot line ≡ Some (first_place line + way)
   some_in_set way is =
       let at = position-Some (is_of slot line) (set_of cache.ways line) way free_way is in
       let size = set_size cache sound line in

@@ -2,7 +2,7 @@
 use Rattle.std.proofs.Common.{◌≡◌, ℕ, ◌^◌, ◌<◌, ◌≤◌, inl, inr, replicate, sym, ap, subst, arith}
 use Rattle.std.proofs.lemmas.Bool.{cases_lt}
 use Rattle.std.proofs.lemmas.List.{get_or-replicate, get_or_past, length-replicate}
-use Rattle.line_cache.specs.Ways.{empty, first_pointers, free_way, no_ways, way_at}
+use Rattle.line_cache.specs.Ways.{empty_cache, first_pointers, free_way, no_ways, way_at}
 use Rattle.line_cache.specs.Lines.{IsCache}
 
 all_free : (place : ℕ) → way_at no_ways place ≡ free_way
@@ -13,7 +13,7 @@ all_free place = elim (cases_lt place 128) [
       length-replicate 128 free_way in omega arith)
 ]
 
-pub empty_is_cache : IsCache empty
+pub empty_is_cache : IsCache empty_cache
 unfolding no_ways first_pointers
 empty_is_cache = record {
   places = length-replicate 128 free_way;

@@ -3,7 +3,7 @@ use Rattle.std.proofs.Common.{◌≡◌, ◌≢◌, refl, ℕ, ◌+◌, ◌/◌,
 use Rattle.std.proofs.lemmas.Bool.Decides.{eqb_tells}
 use Rattle.line_cache.specs.declared.way.Victim.{Victim}
 use Rattle.line_cache.specs.declared.way.Way.{Way}
-use Rattle.line_cache.specs.Ways.{Cache, found, free_way, victim_of, way_at, with_way}
+use Rattle.line_cache.specs.Ways.{Cache, cache_with_way, free_way, place_of_line, victim_of, way_at}
 use Rattle.line_cache.specs.Lines.{HasNoLine, Holds, HoldsLeast, IsCache, IsFilled, IsLeastAmong, TakesLeast, is_in_page}
 use Rattle.line_cache.proofs.Search.{filled_within, found_at, found_none}
 use Rattle.line_cache.proofs.Changes.{IsCache-set, free_fits, line_in-gone, line_in-other}
@@ -133,7 +133,7 @@ module _ (cache : Cache) (sound : IsCache cache) (slot page : ℕ) (some : 1 ≤
     own : Holds way slot way.line
     own = record { its_slot = of_its_page.0; its_line = refl }
 
-    there : found cache.ways slot way.line ≡ Some place
+    there : place_of_line cache.ways slot way.line ≡ Some place
     there = found_at cache sound slot way.line not_null place own
 
     pub some_of_page : ¬ HasNoLine cache.ways slot page
@@ -142,12 +142,12 @@ module _ (cache : Cache) (sound : IsCache cache) (slot page : ℕ) (some : 1 ≤
     not_free : (who line : ℕ) → who ≢ 0 → ¬ Holds free_way who line
     not_free who line some_who free = some_who (sym free.its_slot)
 
-    pub taken_is_cache : IsCache (with_way cache place free_way)
+    pub taken_is_cache : IsCache (cache_with_way cache place free_way)
     taken_is_cache =
         IsCache-set cache sound place holds.below free_way cache.pointers (free_fits cache place)
         sound.sets
 
-    pub takes_least : TakesLeast cache (with_way cache place free_way) slot page (victim_of way)
+    pub takes_least : TakesLeast cache (cache_with_way cache place free_way) slot page (victim_of way)
     takes_least = record {
       range = record {
         some = let same = of_its_page.0 in omega arith;

@@ -1,7 +1,7 @@
 -- What a loan of a cached line's bytes does to the cache.
 use Rattle.std.proofs.Common.{ℕ, ◌<◌, List, arith}
 use Rattle.line_cache.specs.declared.way.Way.{Way}
-use Rattle.line_cache.specs.Ways.{Cache, way_at, with_bytes, written}
+use Rattle.line_cache.specs.Ways.{Cache, cache_with_bytes, way_at, way_with_bytes}
 use Rattle.line_cache.specs.Lines.{IsCache, IsFilled, WritesLine}
 use Rattle.line_cache.proofs.Search.{filled_within}
 use Rattle.line_cache.proofs.Changes.{Fits, IsCache-set, line_in-other, line_in-set}
@@ -9,7 +9,7 @@ use Rattle.line_cache.proofs.Changes.{Fits, IsCache-set, line_in-other, line_in-
 module _ (cache : Cache) (sound : IsCache cache) (place : ℕ) (filled : IsFilled cache.ways place)
     (bytes : List ℕ) where
   abbrev way : Way
-  way = written (way_at cache.ways place) bytes
+  way = way_with_bytes (way_at cache.ways place) bytes
 
   within : place < 128
   within =
@@ -23,10 +23,10 @@ module _ (cache : Cache) (sound : IsCache cache) (place : ℕ) (filled : IsFille
     inside = sound.inside place;
   }
 
-  pub with_bytes_is_cache : IsCache (with_bytes cache place bytes)
+  pub with_bytes_is_cache : IsCache (cache_with_bytes cache place bytes)
   with_bytes_is_cache = IsCache-set cache sound place within way cache.pointers fits sound.sets
 
-  pub writes_line : WritesLine cache.ways (with_bytes cache place bytes).ways place bytes
+  pub writes_line : WritesLine cache.ways (cache_with_bytes cache place bytes).ways place bytes
   writes_line = record {
     this_line = line_in-set cache sound place within way cache.pointers fits sound.sets filled;
     other_lines = λ who other some not_here.

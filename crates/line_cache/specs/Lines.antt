@@ -2,7 +2,7 @@
 use Rattle.std.specs.Prelude.{ℕ, ◌+◌, ◌/◌, ◌%◌, ◌^◌, ◌≡◌, ◌≢◌, ◌≤◌, ◌<◌, ◌==◌, ◌&&◌, Bool, true, false, List, Option, Some, None, length, IfSome}
 use Rattle.line_cache.specs.declared.way.Way.{Way}
 use Rattle.line_cache.specs.declared.way.Victim.{Victim}
-use Rattle.line_cache.specs.Ways.{Cache, first_place, found, free_way, new_way, victim_of, way_at, with_way, written}
+use Rattle.line_cache.specs.Ways.{Cache, cache_with_way, first_place, free_way, new_way, place_of_line, victim_of, way_at, way_with_bytes}
 
 -- the way holds this line of this slot
 pub record Holds (way : Way) (slot line : ℕ) : Type 0 where
@@ -34,8 +34,8 @@ way_found ways (Some place) = Some (way_at ways place)
 way_found ways None = None
 
 -- what is cached of a line: the way that holds it
-abbrev pub line_in : List Way → ℕ → ℕ → Option Way
-line_in ways slot line = way_found ways (found ways slot line)
+abbrev pub cached_line : List Way → ℕ → ℕ → Option Way
+cached_line ways slot line = way_found ways (place_of_line ways slot line)
 
 -- a line of a slot, as it may be cached
 pub record IsLine (victim : Victim) : Type 0 where
@@ -46,9 +46,9 @@ pub record IsLine (victim : Victim) : Type 0 where
 -- the way was handed out with all that it held
 pub record HandsOut (old new : List Way) (victim : Victim) : Type 0 where
   pub way : Way
-  pub before : line_in old victim.slot victim.line ≡ Some way
+  pub before : cached_line old victim.slot victim.line ≡ Some way
   pub whole : victim ≡ victim_of way
-  pub gone : line_in new victim.slot victim.line ≡ None
+  pub gone : cached_line new victim.slot victim.line ≡ None
 
 -- the victim is this line
 abbrev pub IsVictim : Option Victim → ℕ → ℕ → Type 0
@@ -58,10 +58,10 @@ IsVictim None slot line = ⊥
 -- the line is cached with its bytes, clean; a victim is handed out; every other line is as before
 pub record BringsIn (old new : List Way) (slot line : ℕ) (bytes : List ℕ)
     (victim : Option Victim) : Type 0 where
-  pub this_line : line_in new slot line ≡ Some (new_way slot line bytes)
+  pub this_line : cached_line new slot line ≡ Some (new_way slot line bytes)
   pub victim_line : IfSome victim (HandsOut old new)
   pub other_lines : (who other : ℕ) → who ≢ 0 → (who ≡ slot → other ≢ line)
-      → ¬ IsVictim victim who other → line_in new who other ≡ line_in old who other
+      → ¬ IsVictim victim who other → cached_line new who other ≡ cached_line old who other
 
 -- the way holds a line of a page of 128 lines
 abbrev pub is_in_page : ℕ → ℕ → Way → Bool
@@ -82,31 +82,31 @@ IsLeastAmong ways slot page count None =
 
 -- no line of the page is cached
 abbrev pub HasNoLine : List Way → ℕ → ℕ → Type 0
-HasNoLine ways slot page = (line : ℕ) → line / 128 ≡ page → found ways slot line ≡ None
+HasNoLine ways slot page = (line : ℕ) → line / 128 ≡ page → place_of_line ways slot line ≡ None
 
 -- the least line of the page is handed out, and every other line is as before
 pub record TakesLeast (old new : Cache) (slot page : ℕ) (victim : Victim) : Type 0 where
   pub range : IsLine victim
   pub slot_is : victim.slot ≡ slot
   pub page_is : victim.line / 128 ≡ page
-  pub least : (line : ℕ) → line < victim.line → line / 128 ≡ page → found old.ways slot line ≡ None
+  pub least : (line : ℕ) → line < victim.line → line / 128 ≡ page → place_of_line old.ways slot line ≡ None
   pub place : ℕ
-  pub place_is : found old.ways slot victim.line ≡ Some place
+  pub place_is : place_of_line old.ways slot victim.line ≡ Some place
   pub whole : victim ≡ victim_of (way_at old.ways place)
-  pub cache : new ≡ with_way old place free_way
-  pub gone : line_in new.ways slot victim.line ≡ None
+  pub cache : new ≡ cache_with_way old place free_way
+  pub gone : cached_line new.ways slot victim.line ≡ None
   pub other_lines : (who line : ℕ) → who ≢ 0 → (who ≡ slot → line ≢ victim.line)
-      → line_in new.ways who line ≡ line_in old.ways who line
+      → cached_line new.ways who line ≡ cached_line old.ways who line
 
 -- no line of the slot is cached, and every line of another is as before
 pub record DropsSlot (old new : List Way) (slot : ℕ) : Type 0 where
-  pub none : (line : ℕ) → found new slot line ≡ None
+  pub none : (line : ℕ) → place_of_line new slot line ≡ None
   pub other_slots : (other line : ℕ) → other ≢ 0 → other ≢ slot
-      → line_in new other line ≡ line_in old other line
+      → cached_line new other line ≡ cached_line old other line
 
 -- the line in a place has these bytes, still to be written back, and every other line is as before
 pub record WritesLine (old new : List Way) (place : ℕ) (bytes : List ℕ) : Type 0 where
-  pub this_line : line_in new (way_at old place).slot (way_at old place).line
-      ≡ Some (written (way_at old place) bytes)
+  pub this_line : cached_line new (way_at old place).slot (way_at old place).line
+      ≡ Some (way_with_bytes (way_at old place) bytes)
   pub other_lines : (who other : ℕ) → who ≢ 0 → ¬ Holds (way_at old place) who other
-      → line_in new who other ≡ line_in old who other
+      → cached_line new who other ≡ cached_line old who other

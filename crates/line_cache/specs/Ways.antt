@@ -19,8 +19,8 @@ no_ways = replicate 128 free_way
 unfoldable pub first_pointers : List ℕ
 first_pointers = replicate 32 0
 
-abbrev pub empty : Cache
-empty = record { ways = no_ways; pointers = first_pointers }
+abbrev pub empty_cache : Cache
+empty_cache = record { ways = no_ways; pointers = first_pointers }
 
 abbrev pub way_at : List Way → ℕ → Way
 way_at ways place = slice_index_or ways place free_way
@@ -30,8 +30,8 @@ abbrev pub is_of : ℕ → ℕ → Way → Bool
 is_of slot line way = (way.slot == slot) && (way.line == line)
 
 -- where a line is cached, by a search over all places
-abbrev pub found : List Way → ℕ → ℕ → Option ℕ
-found ways slot line = position (is_of slot line) ways
+abbrev pub place_of_line : List Way → ℕ → ℕ → Option ℕ
+place_of_line ways slot line = position (is_of slot line) ways
 
 -- ---- Sets
 
@@ -50,24 +50,24 @@ unfoldable pub free_in_set : List Way → ℕ → Option ℕ
 free_in_set ways line = position is_free (set_of ways line)
 
 -- the way that the pointer of a line's set names
-abbrev pub pointed : List ℕ → ℕ → ℕ
-pointed pointers line = slice_index_or pointers (line % 32) 0 % 4
+abbrev pub way_of_pointer : List ℕ → ℕ → ℕ
+way_of_pointer pointers line = slice_index_or pointers (line % 32) 0 % 4
 
 -- ---- A new line
 
-abbrev pub chosen : Option ℕ → ℕ → ℕ
-chosen (Some free) pointer = free
-chosen None pointer = pointer
+abbrev pub free_or_pointed : Option ℕ → ℕ → ℕ
+free_or_pointed (Some free) pointer = free
+free_or_pointed None pointer = pointer
 
 -- the place of a new line: the lowest free way of its set, or the one that the pointer names
 abbrev pub place_for : List Way → List ℕ → ℕ → ℕ
 place_for ways pointers line =
-    first_place line + chosen (free_in_set ways line) (pointed pointers line)
+    first_place line + free_or_pointed (free_in_set ways line) (way_of_pointer pointers line)
 
 abbrev pub moved_on : Option ℕ → List ℕ → ℕ → List ℕ
 moved_on (Some free) pointers line = pointers
 moved_on None pointers line =
-    slice_set pointers (line % 32) ((pointed pointers line + 1) % 4)
+    slice_set pointers (line % 32) ((way_of_pointer pointers line + 1) % 4)
 
 -- the pointer of a full set moves to the next way, and from the last to the first
 abbrev pub pointers_after : List Way → List ℕ → ℕ → List ℕ
@@ -78,8 +78,8 @@ abbrev pub new_way : ℕ → ℕ → List ℕ → Way
 new_way slot line bytes = record { slot = slot; line = line; bytes = bytes; dirty = false }
 
 -- the cache with a new line
-abbrev pub with_line : Cache → ℕ → ℕ → List ℕ → Cache
-with_line cache slot line bytes = record {
+abbrev pub cache_with_line : Cache → ℕ → ℕ → List ℕ → Cache
+cache_with_line cache slot line bytes = record {
   ways = slice_set cache.ways (place_for cache.ways cache.pointers line) (new_way slot line bytes);
   pointers = pointers_after cache.ways cache.pointers line;
 }
@@ -101,15 +101,15 @@ victim_for cache line = pushed_out (free_in_set cache.ways line)
 -- ---- Lines that are written or leave
 
 -- a way with other bytes, which are still to be written back
-abbrev pub written : Way → List ℕ → Way
-written way bytes = record way { bytes = bytes; dirty = true }
+abbrev pub way_with_bytes : Way → List ℕ → Way
+way_with_bytes way bytes = record way { bytes = bytes; dirty = true }
 
-abbrev pub with_way : Cache → ℕ → Way → Cache
-with_way cache place way = record cache { ways = slice_set cache.ways place way }
+abbrev pub cache_with_way : Cache → ℕ → Way → Cache
+cache_with_way cache place way = record cache { ways = slice_set cache.ways place way }
 
-abbrev pub with_bytes : Cache → ℕ → List ℕ → Cache
-with_bytes cache place bytes =
-    with_way cache place (written (way_at cache.ways place) bytes)
+abbrev pub cache_with_bytes : Cache → ℕ → List ℕ → Cache
+cache_with_bytes cache place bytes =
+    cache_with_way cache place (way_with_bytes (way_at cache.ways place) bytes)
 
 abbrev pub free_if : ℕ → Way → Way
 free_if slot way = if way.slot == slot then free_way else way

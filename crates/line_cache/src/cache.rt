@@ -1,7 +1,7 @@
 ghost use Rattle.std.specs.Prelude.{◌≡◌, ◌≤◌, ◌<◌, ◌^◌, ◌↔◌, ◌+◌, IfNone, IfOk, IfSome, IsNone, IsSome, None, Some, length, position};
 ghost use Rattle.std.specs.Borrow.{sem};
 ghost use Rattle.line_cache.specs.Lines.{IsLeastAmong};
-ghost use Rattle.line_cache.specs.Ways.{empty, first_place as first_of, found, free_if, free_in_set, first_pointers as first_pointers_of_sets, is_free, is_of, no_ways, place_for, victim_for, way_at, with_line, without_slot};
+ghost use Rattle.line_cache.specs.Ways.{cache_with_line, empty_cache, first_place as first_of, first_pointers as first_pointers_of_sets, free_if, free_in_set, is_free, is_of, no_ways, place_for, place_of_line, victim_for, way_at, without_slot};
 
 use crate::{Victim, Way};
 use std::alloc::Global;
@@ -34,7 +34,7 @@ impl LineCache {
     /// No line is cached, and each pointer is at the first way.
     #[tactic(auto, using(crate::proofs::Start::empty_is_cache))]
     pub fn new(alloc: Global) -> Result<LineCache, NoMemory>
-        ensures { IfOk result (λ cache. cache ≡ empty) }
+        ensures { IfOk result (λ cache. cache ≡ empty_cache) }
     {
         Ok(LineCache {
             ways: free_ways(alloc)?,
@@ -46,7 +46,7 @@ impl LineCache {
     #[tactic(auto, using(crate::proofs::Search::none_in_set, crate::proofs::Search::some_in_set))]
     pub fn find(&self, slot: u8, line: u32) -> Option<u32>
         requires { 1 ≤ slot }
-        ensures place { result ≡ found self.now.ways slot line }
+        ensures place { result ≡ place_of_line self.now.ways slot line }
         ensures filled { IfSome result (IsFilled self.now.ways) }
     {
         let first = first_place(line);
@@ -87,11 +87,11 @@ impl LineCache {
         requires some { 1 ≤ slot }
         requires known { slot ≤ 16 }
         requires inside { line < 2 ^ 15 }
-        requires absent { found self.old.ways slot line ≡ None }
-        ensures cache { self.new ≡ with_line self.old slot line bytes.now }
+        requires absent { place_of_line self.old.ways slot line ≡ None }
+        ensures cache { self.new ≡ cache_with_line self.old slot line bytes.now }
         ensures victim { result ≡ victim_for self.old line }
         ensures full { IsSome result ↔ IsFull self.old.ways line }
-        ensures place { found self.new.ways slot line ≡ Some (place_for self.old.ways self.old.pointers line) }
+        ensures place { place_of_line self.new.ways slot line ≡ Some (place_for self.old.ways self.old.pointers line) }
         ensures range { IfSome result IsLine }
         ensures lines { BringsIn self.old.ways self.new.ways slot line bytes.now result }
     {

@@ -2,7 +2,7 @@
 use Rattle.std.proofs.Common.{◌≡◌, inl, inr, ℕ, ◌+◌, ◌≤◌, zero, suc, List, [], ◌∷◌, ◌++◌, length, take, drop, refl, sym, ◌∙◌, ap, arith}
 use Rattle.std.proofs.lemmas.List.{append_assoc, drop-append-le, drop-drop, drop_at, length-append, length-drop, length-take-le, take-append-drop, take-append-le, take-take, take_at}
 use Rattle.std.proofs.lemmas.Slice.{drop-append-drop}
-use Rattle.line_ram.specs.Bytes.{bytes_at, stored}
+use Rattle.line_ram.specs.Bytes.{bytes_at, ram_with_bytes}
 use Rattle.line_ram.specs.Laws.{OthersStay, SizeStays, StoredIsRead, StoredInside}
 
 pub length-stored : SizeStays
@@ -66,7 +66,7 @@ stored-inside ram bytes address count place held within =
     let long : length range ≡ count = length-take-le count tail
     (omega (arith, length-drop address ram)) in
     let end = address + place + length bytes in
-    let inner : length (stored range place bytes) ≡ count = length-stored range bytes place
+    let inner : length (ram_with_bytes range place bytes) ≡ count = length-stored range bytes place
     (omega arith) ∙ long in
     let head : take place range ≡ take place tail = take-take place count tail (omega arith) in
     let back : drop (place + length bytes) range ++ drop (address + count) ram ≡ drop end ram =
@@ -77,7 +77,7 @@ stored-inside ram bytes address count place held within =
     {x = address + (place + length bytes)} (omega arith) in
     let front = take address ram in let rest = drop (place + length bytes) range in let past =
     drop (address + count) ram in let behind = bytes ++ drop end ram in
-    ap (λ n. front ++ (stored range place bytes ++ drop (address + n) ram)) inner
+    ap (λ n. front ++ (ram_with_bytes range place bytes ++ drop (address + n) ram)) inner
     ∙ ap (λ l. front ++ l) (
     append_assoc (take place range) (bytes ++ rest) past
     ∙ ap (λ l. take place range ++ l) (append_assoc bytes rest past ∙ ap (λ l. bytes ++ l) back)

@@ -3,20 +3,20 @@ use Rattle.std.proofs.Common.{◌≡◌, ℕ, ◌+◌, ◌-◌, ◌≤◌, zero,
 use Rattle.std.proofs.lemmas.List.{append_assoc, drop-append-le, drop-drop, drop-replicate, length-append, length-drop, length-replicate, replicate-append-replicate, take-append-le, take-replicate, take_at}
 use Rattle.std.proofs.lemmas.Bool.{cases_lt}
 use Rattle.std.specs.List.{refill}
-use Rattle.xom_base.specs.Padded.{filled, same_at_both}
-use Rattle.line_ram.specs.Bytes.{HoldsRange, bytes_at, stored}
+use Rattle.xom_base.specs.Padded.{padded_block, same_at_both}
+use Rattle.line_ram.specs.Bytes.{HoldsRange, bytes_at, ram_with_bytes}
 use Rattle.line_ram.proofs.Ranges.{length-stored, take-past}
 
 -- the size is the one that was asked for
 pub length-filled : (size : ℕ) (used : List ℕ) → length used ≤ size
-    → length (filled size used) ≡ size
+    → length (padded_block size used) ≡ size
 length-filled size used within =
     length-append used (replicate (size - length used) 0)
     ∙ omega (arith, length-replicate {A = ℕ} (size - length used) 0)
 
 -- zeros behind the used bytes are there already
 pub filled-more : (size count : ℕ) (used : List ℕ) → count ≤ size
-    → filled size (used ++ replicate (count - length used) 0) ≡ filled size used
+    → padded_block size (used ++ replicate (count - length used) 0) ≡ padded_block size used
 filled-more size count used fits =
     let more = replicate (count - length used) 0 in
     let long : length (used ++ more) ≡ length used + (count - length used) =
@@ -30,11 +30,11 @@ filled-more size count used fits =
 -- what is stored in the used part is stored in RAM
 pub filled-stored : (size address : ℕ) (used bytes : List ℕ)
     → HoldsRange used address (length bytes)
-    → filled size (stored used address bytes) ≡ stored (filled size used) address bytes
+    → padded_block size (ram_with_bytes used address bytes) ≡ ram_with_bytes (padded_block size used) address bytes
 filled-stored size address used bytes within =
     let zeros : List ℕ = replicate (size - length used) 0 in
     let end = address + length bytes in let front = take address used in let rest = drop end used in
-    ap (λ n. stored used address bytes ++ replicate (size - n) 0)
+    ap (λ n. ram_with_bytes used address bytes ++ replicate (size - n) 0)
     (length-stored used bytes address within)
     ∙ append_assoc front (bytes ++ rest) zeros
     ∙ same_at_both (λ l r. l ++ r) (sym (take-append-le address used zeros (omega arith)))
@@ -51,18 +51,18 @@ pub filled-written : (size address len : ℕ) (used more copied bytes : List ℕ
     → copied ≡ bytes → len ≡ length more
     → more ≡ used ++ replicate (address + length bytes - length used) 0
     → address + length bytes ≤ size → address + length bytes ≤ len
-    → filled size (refill len more (over more address copied)) ≡ stored (filled size used) address
+    → padded_block size (refill len more (over more address copied)) ≡ ram_with_bytes (padded_block size used) address
     bytes
 filled-written size address len used more copied bytes same long is fits reached =
-    let now = stored more address bytes in
+    let now = ram_with_bytes more address bytes in
     let part : over more address copied ≡ now =
     ap (over more address) same
     ∙ ap (λ l. take address more ++ (bytes ++ l)) (drop-drop (length bytes) address more) in
     let size_of : length now ≡ length more = length-stored more bytes address (omega arith) in
-    ap (λ p. filled size (refill len more p)) part
-    ∙ ap (filled size) (take_at now (drop (length now) more) len (size_of ∙ sym long))
+    ap (λ p. padded_block size (refill len more p)) part
+    ∙ ap (padded_block size) (take_at now (drop (length now) more) len (size_of ∙ sym long))
     ∙ filled-stored size address more bytes (omega arith)
-    ∙ ap (λ l. stored l address bytes) (ap (filled size) is ∙ filled-more size
+    ∙ ap (λ l. ram_with_bytes l address bytes) (ap (padded_block size) is ∙ filled-more size
     (address + length bytes) used fits)
 
 -- a slice that the bytes don't fill has zeros behind them
@@ -106,7 +106,7 @@ drop-zeros (suc a) zeros (x ∷ xs) =
 
 -- what RAM holds in a range is what is used there and zeros
 pub bytes_filled : (size address count : ℕ) (used : List ℕ) → address + count ≤ size
-    → take count (drop address used ++ replicate count 0) ≡ bytes_at (filled size used) address
+    → take count (drop address used ++ replicate count 0) ≡ bytes_at (padded_block size used) address
     count
 bytes_filled size address count used held =
     let rest = size - length used - (address - length used) in

@@ -28,7 +28,7 @@ use denote.FollowSlice.{heres_id}
 use borrow.Table.Elements.{at, at_byte, cut_app, join_app, length-take-le}
 use Rattle.std.proofs.lemmas.List.{append_assoc, drop-drop}
 use Rattle.std.proofs.lemmas.Slice.{drop-append-drop}
-use Rattle.line_ram.specs.Bytes.{stored}
+use Rattle.line_ram.specs.Bytes.{ram_with_bytes}
 use Rattle.line_ram.proofs.Ranges.{take-past}
 
 -- ---- the lists
@@ -53,7 +53,7 @@ module _ (xs : List ℕ) (m k : ℕ) where
   joined y z = front ++ (y ++ (mid ++ (z ++ back)))
 
   abbrev pub written : List ℕ → List ℕ → List ℕ
-  written y z = stored (stored xs m y) k z
+  written y z = ram_with_bytes (ram_with_bytes xs m y) k z
 
   pub written-joined : m + 32 ≤ k → k + 32 ≤ length xs → (y z : List ℕ) → length y ≡ 32
       → length z ≡ 32 → written y z ≡ joined y z
@@ -61,7 +61,7 @@ module _ (xs : List ℕ) (m k : ℕ) where
       let lf : length front ≡ m = length-take-le m xs (omega arith) in
       let ly : length (front ++ y) ≡ m + 32 = length-append front y ∙ omega (arith, lf, ey) in
       let rest = drop_list (m + 32) xs in
-      let once : stored xs m y ≡ (front ++ y) ++ rest =
+      let once : ram_with_bytes xs m y ≡ (front ++ y) ++ rest =
       ap (λ n. front ++ (y ++ drop_list (m + n) xs)) ey ∙ sym (append_assoc front y rest) in
       let reach : k ≡ (k - (m + 32)) + length (front ++ y) = omega (arith, ly) in
       let head : take k ((front ++ y) ++ rest) ≡ (front ++ y) ++ mid = take-past (front ++ y) rest

@@ -21,8 +21,8 @@ abbrev pub bytes_at : List ℕ → ℕ → ℕ → List ℕ
 bytes_at ram address count = take count (drop address ram)
 
 -- RAM with these bytes from the address on
-abbrev pub stored : List ℕ → ℕ → List ℕ → List ℕ
-stored ram address bytes = take address ram ++ (bytes ++ drop (address + length bytes) ram)
+abbrev pub ram_with_bytes : List ℕ → ℕ → List ℕ → List ℕ
+ram_with_bytes ram address bytes = take address ram ++ (bytes ++ drop (address + length bytes) ram)
 
 -- RAM holds the range: address plus length, as whole numbers, is at most its size
 abbrev pub HoldsRange : List ℕ → ℕ → ℕ → Type 0
@@ -40,6 +40,6 @@ abbrev pub tag_place : ℕ → ℕ → ℕ
 tag_place frame index = frame * frame_size + tags_offset + line_size * index
 
 -- RAM with this ciphertext and this tag at a frame's line
-abbrev pub with_line : List ℕ → ℕ → ℕ → List ℕ → List ℕ → List ℕ
-with_line ram frame index ciphertext tag =
-    stored (stored ram (ciphertext_place frame index) ciphertext) (tag_place frame index) tag
+abbrev pub ram_with_line : List ℕ → ℕ → ℕ → List ℕ → List ℕ → List ℕ
+ram_with_line ram frame index ciphertext tag =
+    ram_with_bytes (ram_with_bytes ram (ciphertext_place frame index) ciphertext) (tag_place frame index) tag

@@ -1,6 +1,6 @@
 ghost use Rattle.std.specs.Prelude.{◌≡◌, ◌≤◌, ◌<◌, ◌+◌, ◌-◌, ◌*◌, ◌^◌, ◌++◌, ◌↔◌, List, ℕ, IfOk, IsTrue, drop, length, replicate, take, vec_capacity, vec_len};
 ghost use Rattle.std.specs.Borrow.{sem};
-ghost use Rattle.line_ram.specs.Bytes.{HoldsFrame, HoldsRange, bytes_at, ciphertext_place, frame_lines, frame_size, line_size, stored, tag_place, with_line};
+ghost use Rattle.line_ram.specs.Bytes.{HoldsFrame, HoldsRange, bytes_at, ciphertext_place, frame_lines, frame_size, line_size, ram_with_bytes, ram_with_line, tag_place};
 ghost use Rattle.line_ram.specs.Lending.{LendsRange, stored_through};
 
 use std::alloc::Global;
@@ -17,11 +17,11 @@ pub struct LineRam {
 
 impl Model for LineRam {
     ghost use Rattle.std.specs.Prelude.{List, ℕ, length, ◌≤◌, ◌^◌, vec_capacity, vec_len};
-    ghost use Rattle.xom_base.specs.Padded.{filled};
+    ghost use Rattle.xom_base.specs.Padded.{padded_block};
 
     ghost Value = { List ℕ };
 
-    ghost view = { λ ram. filled ram.size ram.bytes.items };
+    ghost view = { λ ram. padded_block ram.size ram.bytes.items };
 
     ghost invariant = { λ ram. (vec_len ram.bytes ≤ ram.size) × (ram.size ≤ 2 ^ 26) × (ram.size ≤ vec_capacity ram.bytes) };
 }
@@ -68,7 +68,7 @@ impl LineRam {
     /// Puts bytes from an address on.
     pub fn write(&mut self, address: u32, bytes: &[u8])
         requires { HoldsRange self.old address (length bytes.now) }
-        ensures bytes { self.new ≡ stored self.old address bytes.now }
+        ensures bytes { self.new ≡ ram_with_bytes self.old address bytes.now }
         ensures size { length self.new ≡ length self.old }
     {
         let from = address as usize;
@@ -83,7 +83,7 @@ impl LineRam {
         ensures* writes_back { sem 𝓛 (LendsRange self.entry address result) }
         ensures value { result.now ≡ bytes_at self.old address count }
         ensures length { length result.now ≡ count }
-        ensures whole { (bytes : List ℕ) → length bytes ≡ count → stored_through self.old address bytes ≡ stored self.old address bytes }
+        ensures whole { (bytes : List ℕ) → length bytes ≡ count → stored_through self.old address bytes ≡ ram_with_bytes self.old address bytes }
     {
         let from = address as usize;
         reach(&mut self.bytes, self.size as usize);
@@ -118,7 +118,7 @@ impl LineRam {
     pub fn write_line(&mut self, frame: u32, index: u32, ciphertext: &[u8; 32], tag: &[u8; 32])
         requires frame { HoldsFrame self.old frame }
         requires index { index < frame_lines }
-        ensures line { self.new ≡ with_line self.old frame index ciphertext.now tag.now }
+        ensures line { self.new ≡ ram_with_line self.old frame index ciphertext.now tag.now }
         ensures size { length self.new ≡ length self.old }
     {
         let _size = self.size();

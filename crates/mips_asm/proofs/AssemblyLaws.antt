@@ -12,8 +12,8 @@ use Rattle.mips_asm.specs.declared.fault.AsmFault.{AsmFault}
 use Rattle.mips_asm.specs.declared.fault.AsmFault.TheVariants.{Syntax, Duplicate, TooLong, Overlap, UnknownName, Range, NoMemory}
 use Rattle.mips_asm.specs.declared.placed.Placed.{Placed}
 use Rattle.mips_asm.specs.Layout.{layout}
-use Rattle.mips_asm.specs.Passes.{Labels, duplicate_line, line_of, overlap_line, too_long_line, unknown_line}
-use Rattle.mips_asm.specs.Sources.{IsFaultOf, IsFirst, IsOutOfRange, IsPlacedFault, OrNoMemory, bad_entry, bad_entry_of, entry_in, is_entry, labels_of, last_entry}
+use Rattle.mips_asm.specs.Passes.{Labels, duplicate_line, overlap_line, statement_line, too_long_line, unknown_line}
+use Rattle.mips_asm.specs.Sources.{IsFaultOf, IsFirst, IsOutOfRange, IsPlacedFault, OrNoMemory, bad_entry, bad_entry_of, entry_value, is_entry_statement, labels_of, last_entry}
 
 -- what a pass says of its fault
 abbrev pub Said : (ℕ → AsmFault) → Option ℕ → AsmFault → Type 0
@@ -33,7 +33,7 @@ unknown_said placed fault apart (inr some) =
 
 range_said : (placed : List Placed) (fault : AsmFault) → overlap_line placed ≡ None
     → unknown_line (labels_of placed) placed ≡ None
-    → (fault ≡ NoMemory) ⊎ ((n : ℕ) × (fault ≡ Range n) × IsFirst line_of
+    → (fault ≡ NoMemory) ⊎ ((n : ℕ) × (fault ≡ Range n) × IsFirst statement_line
     (IsOutOfRange (labels_of placed) (bad_entry_of placed)) placed n)
     → OrNoMemory (IsPlacedFault placed) fault
 range_said placed fault apart known (inl none) = inl none
@@ -62,21 +62,21 @@ All-reverse P (x ∷ xs) all =
 
 -- where no line is that of a bad last entry, there is none
 pub no_bad_entry : (labels : Labels) (placed : List Placed) (line : ℕ)
-    → All (λ (p : Placed). ¬ (bad_entry labels (last_entry placed) ≡ Some (line_of p))) placed
+    → All (λ (p : Placed). ¬ (bad_entry labels (last_entry placed) ≡ Some (statement_line p))) placed
     → bad_entry labels (last_entry placed) ≡ Some line → ⊥
 no_bad_entry labels placed line all bad = at (last_entry placed) refl bad
   where
     P : Placed → Type 0
-    P = λ p. ¬ (bad_entry labels (last_entry placed) ≡ Some (line_of p))
+    P = λ p. ¬ (bad_entry labels (last_entry placed) ≡ Some (statement_line p))
 
     at : (o : Option Placed) → last_entry placed ≡ o → bad_entry labels o ≡ Some line → ⊥
     at None is bad = none-some line bad
     at (Some p) is bad =
-        found_in is_entry P (reverse placed) p (All-reverse P placed all) is
-        (ap (bad_entry labels) is ∙ whose (is_none (entry_in labels p.part.content)) bad)
+        found_in is_entry_statement P (reverse placed) p (All-reverse P placed all) is
+        (ap (bad_entry labels) is ∙ whose (is_none (entry_value labels p.part.content)) bad)
       where
-        whose : (b : Bool) → cond b (Some (line_of p)) None ≡ Some line
-            → cond b (Some (line_of p)) None ≡ Some (line_of p)
+        whose : (b : Bool) → cond b (Some (statement_line p)) None ≡ Some line
+            → cond b (Some (statement_line p)) None ≡ Some (statement_line p)
         whose true h = refl
         whose false h = absurd (none-some line h)
 
@@ -133,12 +133,12 @@ bad_is (Err line) told bad is given = given ∙ sym is
 pub range_here : (placed : List Placed) (fault : AsmFault) (labels : Labels) (bad : Option ℕ)
     → labels ≡ labels_of placed → bad ≡ bad_entry_of placed
     → overlap_line placed ≡ None → unknown_line labels placed ≡ None
-    → (fault ≡ NoMemory) ⊎ ((n : ℕ) × (fault ≡ Range n) × IsFirst line_of (IsOutOfRange labels bad)
+    → (fault ≡ NoMemory) ⊎ ((n : ℕ) × (fault ≡ Range n) × IsFirst statement_line (IsOutOfRange labels bad)
     placed n)
     → OrNoMemory (IsPlacedFault placed) fault
 range_here placed fault labels bad named last apart known said =
     let F : Labels → Option ℕ → Type 0 = λ l b. (fault ≡ NoMemory)
-    ⊎ ((n : ℕ) × (fault ≡ Range n) × IsFirst line_of (IsOutOfRange l b) placed n) in
+    ⊎ ((n : ℕ) × (fault ≡ Range n) × IsFirst statement_line (IsOutOfRange l b) placed n) in
     range_said placed fault apart (ap (λ (l : Labels). unknown_line l placed) (sym named) ∙ known)
     (subst (F (labels_of placed)) last (subst (λ (l : Labels). F l bad) named said))
 
@@ -146,10 +146,10 @@ range_here placed fault labels bad named last apart known said =
 pub entry_is_ok : (labels : Labels) (placed : List Placed) (r : Result ℕ ℕ) (told : Option ℕ)
     → MatchResult r (λ entry. bad_entry labels (last_entry placed) ≡ None)
     (λ line. bad_entry labels (last_entry placed) ≡ Some line)
-    → told ≡ result_err r → All (λ (p : Placed). ¬ (told ≡ Some (line_of p))) placed
+    → told ≡ result_err r → All (λ (p : Placed). ¬ (told ≡ Some (statement_line p))) placed
     → is_ok r ≡ true
 entry_is_ok labels placed (Ok entry) told is given all = refl
 entry_is_ok labels placed (Err line) told is given all =
     absurd (no_bad_entry labels placed line
-    (subst (λ (o : Option ℕ). All (λ (p : Placed). ¬ (o ≡ Some (line_of p))) placed)
+    (subst (λ (o : Option ℕ). All (λ (p : Placed). ¬ (o ≡ Some (statement_line p))) placed)
     (given ∙ sym is) all) is)

@@ -10,12 +10,12 @@ use Rattle.xom_base.specs.declared.image.PlainImage.{PlainImage}
 use Rattle.asm_source.specs.declared.content.Part.{Part}
 use Rattle.asm_syntax.specs.Lines.{source_of}
 use Rattle.mips_asm.specs.declared.placed.Placed.{Placed}
-use Rattle.mips_asm.specs.Encoding.{Gives}
-use Rattle.mips_asm.specs.Images.{IsWritten, PlacedBytes, byte_over, chunks_end, holds}
+use Rattle.mips_asm.specs.Encoding.{StatementGives}
+use Rattle.mips_asm.specs.Images.{IsWritten, PlacedBytes, byte_over, chunks_end, piece_covers}
 use Rattle.mips_asm.specs.Laws.{AreBytesOf, BytesOfStatements, StandsAtItsPlace}
-use Rattle.mips_asm.specs.Layout.{IsSized, after, covers, end_of, last_end, layout}
-use Rattle.mips_asm.specs.Passes.{Labels, first_fault, line_of, overlap_line, overlaps}
-use Rattle.mips_asm.specs.Sources.{IsPlacedImage, Writes, labels_of}
+use Rattle.mips_asm.specs.Layout.{IsSized, covers, last_end, layout, place_after, statement_end}
+use Rattle.mips_asm.specs.Passes.{Labels, first_fault, overlap_line, overlaps, statement_line}
+use Rattle.mips_asm.specs.Sources.{IsPlacedImage, StatementsWrite, labels_of}
 use Rattle.mips_asm.proofs.FaultLaws.{first_good, rest_good}
 use Rattle.mips_asm.proofs.ImageLaws.{byte_over_nil, chunk_at}
 use Rattle.mips_asm.proofs.LayoutLaws.{end_of-le, placed_at}
@@ -30,41 +30,41 @@ pub layout-sized : (place : ℕ) (parts : List Part) → All IsSized (layout pla
 unfolding layout
 layout-sized place [] = All-nil IsSized
 layout-sized place (part ∷ parts) =
-    All-cons IsSized (placed_at place part) (layout (after place part.content) parts) refl
-    (layout-sized (after place part.content) parts)
+    All-cons IsSized (placed_at place part) (layout (place_after place part.content) parts) refl
+    (layout-sized (place_after place part.content) parts)
 
 -- what a statement writes is as long as its size
 own-size : (labels : Labels) (p : Placed) (own : List ℕ) → IsSized p
-    → Gives labels p.place p.part.content own → length own ≡ p.size
+    → StatementGives labels p.place p.part.content own → length own ≡ p.size
 own-size labels p own sized gives = Gives-size labels p.place p.part.content own gives ∙ sym sized
 
 -- its bytes hold the places that it covers
 holds-covers : (labels : Labels) (p : Placed) (own : List ℕ) (k : ℕ) → IsSized p
-    → Gives labels p.place p.part.content own → holds (chunk_at p.place own) k ≡ covers p k
+    → StatementGives labels p.place p.part.content own → piece_covers (chunk_at p.place own) k ≡ covers p k
 holds-covers labels p own k sized gives =
     ap (λ (n : ℕ). leb p.place k && ltb k (p.place + n)) (own-size labels p own sized gives)
 
 -- each of its bytes holds a place
 holds_own : (place k : ℕ) (own : List ℕ) → k < length own
-    → holds (chunk_at place own) (place + k) ≡ true
+    → piece_covers (chunk_at place own) (place + k) ≡ true
 holds_own place k own below = grind (arith, nat_tests)
 
 -- its bytes stand before every end that is not before its own
-before_end : (p : Placed) (k n end : ℕ) → n ≡ p.size → k < n → end_of p ≤ end → p.place + k < end
+before_end : (p : Placed) (k n end : ℕ) → n ≡ p.size → k < n → statement_end p ≤ end → p.place + k < end
 before_end p k n end size below past = grind (arith, nat_tests)
 
 -- ---- one statement after another
 
 -- one more chunk
 byte_over-cons : (byte : ℕ) (x : PlacedBytes) (xs : List PlacedBytes) (k : ℕ)
-    → byte_over byte (x ∷ xs) k ≡ byte_over (cond (holds x k) (get_or x.bytes (k - x.place) 0) byte)
+    → byte_over byte (x ∷ xs) k ≡ byte_over (cond (piece_covers x k) (get_or x.bytes (k - x.place) 0) byte)
     xs k
 unfolding byte_over
 byte_over-cons byte x xs k = refl
 
 -- where no statement writes, what stood there before stays
 untouched : (labels : Labels) (placed : List Placed) (chunks : List PlacedBytes) (byte k : ℕ)
-    → All IsSized placed → Writes labels placed chunks
+    → All IsSized placed → StatementsWrite labels placed chunks
     → All (λ (p : Placed). covers p k ≡ false) placed → byte_over byte chunks k ≡ byte
 untouched labels [] chunks byte k sized writes free =
     ap (λ (c : List PlacedBytes). byte_over byte c k) writes ∙ byte_over_nil byte k
@@ -104,27 +104,27 @@ written-last before p k there =
 
 -- where nothing is written twice, no later statement writes where an earlier one does
 later_free : (before placed : List Placed) (k : ℕ)
-    → first_fault line_of overlaps before placed ≡ None → written_by before k ≡ true
+    → first_fault statement_line overlaps before placed ≡ None → written_by before k ≡ true
     → All (λ (p : Placed). covers p k ≡ false) placed
 later_free before [] k apart there = All-nil (λ (p : Placed). covers p k ≡ false)
 later_free before (p ∷ placed) k apart there =
     All-cons (λ (q : Placed). covers q k ≡ false) p placed
     (false_from_ne_true (covers p k) (λ here.
     true≢false (sym (overlaps_true before p k (covers-from p k here) (covers-below p k here) there)
-    ∙ first_good line_of overlaps before p placed apart)))
-    (later_free (before ++ p ∷ []) placed k (rest_good line_of overlaps before p placed apart)
+    ∙ first_good statement_line overlaps before p placed apart)))
+    (later_free (before ++ p ∷ []) placed k (rest_good statement_line overlaps before p placed apart)
     (written-more before p k there))
 
 -- what a statement writes stands at its place once all is written, whatever stood there before
 abbrev StandsOver : Labels → List PlacedBytes → Placed → Type 0
 StandsOver labels chunks p =
-    (own : List ℕ) × Gives labels p.place p.part.content own
+    (own : List ℕ) × StatementGives labels p.place p.part.content own
     × ((k byte : ℕ) → k < length own → byte_over byte chunks (p.place + k) ≡ get_or own k 0)
 
 -- the first statement's bytes stay where no later one writes
 first_stands : (labels : Labels) (p : Placed) (placed : List Placed) (own : List ℕ)
     (rest : List PlacedBytes) (byte k : ℕ)
-    → All IsSized placed → Writes labels placed rest
+    → All IsSized placed → StatementsWrite labels placed rest
     → All (λ (q : Placed). covers q (p.place + k) ≡ false) placed → k < length own
     → byte_over byte (chunk_at p.place own ∷ rest) (p.place + k) ≡ get_or own k 0
 first_stands labels p placed own rest byte k sized writes free below =
@@ -138,18 +138,18 @@ first_stands labels p placed own rest byte k sized writes free below =
 
 -- each statement's bytes stand at its place
 all_stand : (labels : Labels) (before placed : List Placed) (chunks : List PlacedBytes)
-    → first_fault line_of overlaps before placed ≡ None → All IsSized placed
-    → Writes labels placed chunks
+    → first_fault statement_line overlaps before placed ≡ None → All IsSized placed
+    → StatementsWrite labels placed chunks
     → All (StandsOver labels chunks) placed
 all_stand labels before [] chunks apart sized writes = All-nil (StandsOver labels chunks)
 all_stand labels before (p ∷ placed) chunks apart sized writes =
-    let rest_apart = rest_good line_of overlaps before p placed apart in
+    let rest_apart = rest_good statement_line overlaps before p placed apart in
     let rest_sized = All-tail IsSized p placed sized in
     All-cons (StandsOver labels chunks) p placed (writes.0, writes.2, here rest_apart rest_sized)
     (All-weaker (StandsOver labels writes.1) (StandsOver labels chunks) later placed
     (all_stand labels (before ++ p ∷ []) placed writes.1 rest_apart rest_sized writes.4))
   where
-    here : first_fault line_of overlaps (before ++ p ∷ []) placed ≡ None → All IsSized placed
+    here : first_fault statement_line overlaps (before ++ p ∷ []) placed ≡ None → All IsSized placed
         → (k byte : ℕ) → k < length writes.0
         → byte_over byte chunks (p.place + k) ≡ get_or writes.0 k 0
     here rest_apart rest_sized k byte below =
@@ -168,27 +168,27 @@ all_stand labels before (p ∷ placed) chunks apart sized writes =
       λ k byte below.
           ap (λ (c : List PlacedBytes). byte_over byte c (q.place + k)) writes.3
           ∙ byte_over-cons byte (chunk_at p.place writes.0) writes.1 (q.place + k)
-          ∙ stands.2 k (cond (holds (chunk_at p.place writes.0) (q.place + k))
+          ∙ stands.2 k (cond (piece_covers (chunk_at p.place writes.0) (q.place + k))
           (get_or writes.0 (q.place + k - p.place) 0) byte) below,
     )
 
 -- the bytes end where the statements do
 pub ends-same : (labels : Labels) (placed : List Placed) (chunks : List PlacedBytes)
-    → All IsSized placed → Writes labels placed chunks → chunks_end chunks ≡ last_end placed
+    → All IsSized placed → StatementsWrite labels placed chunks → chunks_end chunks ≡ last_end placed
 unfolding chunks_end last_end
 ends-same labels [] chunks sized writes = ap chunks_end writes
 ends-same labels (p ∷ placed) chunks sized writes =
     ap chunks_end writes.3
     ∙ ap (λ (n : ℕ). max (cond (ltb 0 n) (p.place + n) 0) (chunks_end writes.1))
     (own-size labels p writes.0 (All-head IsSized p placed sized) writes.2)
-    ∙ ap (max (end_of p)) (ends-same labels placed writes.1 (All-tail IsSized p placed sized)
+    ∙ ap (max (statement_end p)) (ends-same labels placed writes.1 (All-tail IsSized p placed sized)
     writes.4)
 
 -- ---- images
 
 -- bytes that are written statement by statement, of which no two meet
 bytes_of_written : (placed : List Placed) (chunks : List PlacedBytes) (bytes : List ℕ)
-    → overlap_line placed ≡ None → All IsSized placed → Writes (labels_of placed) placed chunks
+    → overlap_line placed ≡ None → All IsSized placed → StatementsWrite (labels_of placed) placed chunks
     → IsWritten chunks bytes → AreBytesOf placed bytes
 bytes_of_written placed chunks bytes apart sized writes is =
     record { whole = whole; written = written; gaps = gaps }
@@ -202,8 +202,8 @@ bytes_of_written placed chunks bytes apart sized writes is =
         all_stand (labels_of placed) [] placed chunks apart sized writes i d within in
         let size = own-size (labels_of placed) (get_or placed i d) stands.0 (sized i d within)
         stands.1 in
-        let ends : end_of (get_or placed i d) ≤ length bytes =
-        subst (λ (n : ℕ). end_of (get_or placed i d) ≤ n) (sym whole)
+        let ends : statement_end (get_or placed i d) ≤ length bytes =
+        subst (λ (n : ℕ). statement_end (get_or placed i d) ≤ n) (sym whole)
         (end_of-le placed i d within) in (
           stands.0,
           stands.1,

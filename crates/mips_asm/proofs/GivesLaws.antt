@@ -8,7 +8,7 @@ use Rattle.mips_instruction.specs.declared.instruction.Ins.{Ins}
 use Rattle.asm_source.specs.declared.content.Content.{Content}
 use Rattle.asm_source.specs.declared.content.Content.TheVariants.{Label, Words, Bytes, Ascii, Space, Align, Org, Entry, LoadNumber, LoadAddress, Instruction}
 use Rattle.asm_syntax.specs.Forms.{map_some}
-use Rattle.mips_asm.specs.Encoding.{AreWords, Gives, IsAligned, IsCode, byte_value, instruction_at, join_some, load_address, load_number, one_instruction, word_value}
+use Rattle.mips_asm.specs.Encoding.{AreWords, IsCode, IsPadding, StatementGives, byte_value, instruction_at, join_some, load_address, load_number, one_instruction, word_value}
 use Rattle.mips_asm.specs.Layout.{padding}
 use Rattle.mips_asm.specs.Passes.{Labels}
 use Rattle.mips_asm.proofs.FitsLaws.{Fits-decided}
@@ -57,7 +57,7 @@ IsCode-found place None = inr (λ bytes code. none-some code.0 code.2)
 IsCode-found place (Some is) = some_code place is (AreWords-found is)
 
 -- zeros up to a multiple
-IsAligned-found : (n place : ℕ) → Found (IsAligned n place)
+IsAligned-found : (n place : ℕ) → Found (IsPadding n place)
 IsAligned-found n place = elim (cases_lt 12 n) [
   | inl past ↦ inr (λ bytes is. let low : n ≤ 12 = is.0 in absurd (omega arith))
   | inr low ↦ inl (replicate (padding n place) 0, (low, refl))
@@ -65,7 +65,7 @@ IsAligned-found n place = elim (cases_lt 12 n) [
 
 -- a statement writes bytes, or none are what it writes
 pub Gives-found : (labels : Labels) (place : ℕ) (content : Content)
-    → Found (Gives labels place content)
+    → Found (StatementGives labels place content)
 Gives-found labels place (Label name) = inl ([], refl)
 Gives-found labels place (Words vs) =
     at_word place (λ bytes. join_some (word_value labels) vs ≡ Some bytes)

@@ -1,6 +1,6 @@
 -- Bytes of an image, one chunk after another.
 use Rattle.std.proofs.Common.{◌≡◌, ℕ, ◌-◌, cond, List, [], ◌∷◌, ◌++◌, get_or, max, refl, arith}
-use Rattle.mips_asm.specs.Images.{PlacedBytes, byte_over, chunk_end, chunks_end, holds}
+use Rattle.mips_asm.specs.Images.{PlacedBytes, byte_over, chunk_end, chunks_end, piece_covers}
 
 -- bytes at a place
 abbrev pub chunk_at : ℕ → List ℕ → PlacedBytes
@@ -19,12 +19,12 @@ chunks_end_none = refl
 
 -- what stands at a place, with one more chunk
 pub byte_over-push : (byte : ℕ) (xs : List PlacedBytes) (x : PlacedBytes) (k : ℕ)
-    → byte_over byte (xs ++ x ∷ []) k ≡ cond (holds x k) (get_or x.bytes (k - x.place) 0)
+    → byte_over byte (xs ++ x ∷ []) k ≡ cond (piece_covers x k) (get_or x.bytes (k - x.place) 0)
     (byte_over byte xs k)
 unfolding byte_over
 byte_over-push byte [] x k = refl
 byte_over-push byte (y ∷ xs) x k =
-    byte_over-push (cond (holds y k) (get_or y.bytes (k - y.place) 0) byte) xs x k
+    byte_over-push (cond (piece_covers y k) (get_or y.bytes (k - y.place) 0) byte) xs x k
 
 pub byte_over_nil : (byte k : ℕ) → byte_over byte [] k ≡ byte
 unfolding byte_over

@@ -8,28 +8,28 @@ use Rattle.std.proofs.lemmas.List.{take_more}
 use Rattle.std.proofs.lemmas.List.Folds.{list_any_more}
 use Rattle.asm_source.specs.declared.content.Part.{Part}
 use Rattle.mips_asm.specs.declared.placed.Placed.{Placed}
-use Rattle.mips_asm.specs.Passes.{is_label, label_in, place_of, repeats}
+use Rattle.mips_asm.specs.Passes.{is_label, label_said, place_of, repeats}
 
 -- ---- one label or statement
 
-label_is : (q name : List ℕ) (part : Part) → label_in part.content ≡ Some name
+label_is : (q name : List ℕ) (part : Part) → label_said part.content ≡ Some name
     → is_label q part ≡ bytes_eq name q
 label_is q name part is =
     ap (λ (o : Option (List ℕ)). option_map_or (λ (label : List ℕ). bytes_eq label q) o false) is
 
-no_label : (q : List ℕ) (part : Part) → label_in part.content ≡ None → is_label q part ≡ false
+no_label : (q : List ℕ) (part : Part) → label_said part.content ≡ None → is_label q part ≡ false
 no_label q part is =
     ap (λ (o : Option (List ℕ)). option_map_or (λ (label : List ℕ). bytes_eq label q) o false) is
 
 pub repeats_label : (before : List Part) (name : List ℕ) (part : Part)
-    → label_in part.content ≡ Some name → repeats before part ≡ list_any (is_label name) before
+    → label_said part.content ≡ Some name → repeats before part ≡ list_any (is_label name) before
 repeats_label before name part is =
     ap
     (λ (o : Option (List ℕ)). option_map_or (λ (name : List ℕ). list_any (is_label name) before) o
     false)
     is
 
-pub repeats_none : (before : List Part) (part : Part) → label_in part.content ≡ None
+pub repeats_none : (before : List Part) (part : Part) → label_said part.content ≡ None
     → repeats before part ≡ false
 repeats_none before part is =
     ap
@@ -48,7 +48,7 @@ chosen false false n old is = is
 
 pub known_label : (parts : List Part) (i : ℕ) (d : Part) (q name : List ℕ) (n : ℕ)
     (old new : Option ℕ)
-    → i < length parts → label_in (get_or parts i d).content ≡ Some name
+    → i < length parts → label_said (get_or parts i d).content ≡ Some name
     → new ≡ cond (bytes_eq name q) (Some n) old → is_some old ≡ list_any (is_label q) (take i parts)
     → is_some new ≡ list_any (is_label q) (take (i + 1) parts)
 known_label parts i d q name n old new within is set known =
@@ -63,7 +63,7 @@ or_false true = refl
 or_false false = refl
 
 pub known_none : (parts : List Part) (i : ℕ) (d : Part) (q : List ℕ) → i < length parts
-    → label_in (get_or parts i d).content ≡ None
+    → label_said (get_or parts i d).content ≡ None
     → list_any (is_label q) (take i parts) ≡ list_any (is_label q) (take (i + 1) parts)
 known_none parts i d q within is =
     or_false (list_any (is_label q) (take i parts))
@@ -87,7 +87,7 @@ place_of-push (y ∷ xs) x q =
     (cond (is_label q y.part) (Some y.place) None))
 
 pub place_label : (placed : List Placed) (i : ℕ) (d : Placed) (q name : List ℕ) (old new : Option ℕ)
-    → i < length placed → label_in (get_or placed i d).part.content ≡ Some name
+    → i < length placed → label_said (get_or placed i d).part.content ≡ Some name
     → new ≡ cond (bytes_eq name q) (Some (get_or placed i d).place) old
     → old ≡ place_of (take i placed) q → new ≡ place_of (take (i + 1) placed) q
 place_label placed i d q name old new within is set known =
@@ -100,7 +100,7 @@ place_label placed i d q name old new within is set known =
     ∙ ap (λ (before : List Placed). place_of before q) (sym (take_more placed i d within))
 
 pub place_none : (placed : List Placed) (i : ℕ) (d : Placed) (q : List ℕ) → i < length placed
-    → label_in (get_or placed i d).part.content ≡ None
+    → label_said (get_or placed i d).part.content ≡ None
     → place_of (take i placed) q ≡ place_of (take (i + 1) placed) q
 place_none placed i d q within is =
     ap (λ (b : Bool). cond b (Some (get_or placed i d).place) (place_of (take i placed) q))

@@ -10,19 +10,19 @@ use Rattle.std.proofs.lemmas.Bool.{cases_lt, lt-ltb, true≢false}
 use Rattle.std.proofs.lemmas.Bool.Decides.{nat_tests}
 use Rattle.asm_source.specs.declared.content.Part.{Part}
 use Rattle.mips_asm.specs.declared.placed.Placed.{Placed}
-use Rattle.mips_asm.specs.Layout.{IsInside, after, end_of, is_too_long, last_end, layout, limit, size_of}
-use Rattle.mips_asm.specs.Passes.{line_of, too_long_line}
+use Rattle.mips_asm.specs.Layout.{IsInside, is_too_long, last_end, layout, limit, place_after, statement_end, statement_size}
+use Rattle.mips_asm.specs.Passes.{statement_line, too_long_line}
 
 -- ---- places
 
 -- the next place behind labels and statements
 abbrev pub place_behind : ℕ → List Part → ℕ
 place_behind place [] = place
-place_behind place (part ∷ parts) = place_behind (after place part.content) parts
+place_behind place (part ∷ parts) = place_behind (place_after place part.content) parts
 
 -- a label or a statement at a place
 abbrev pub placed_at : ℕ → Part → Placed
-placed_at place part = record { place = place; size = size_of place part.content; part = part }
+placed_at place part = record { place = place; size = statement_size place part.content; part = part }
 
 layout-append : (place : ℕ) (xs ys : List Part)
     → layout place (xs ++ ys) ≡ layout place xs ++ layout (place_behind place xs) ys
@@ -30,10 +30,10 @@ unfolding layout
 layout-append place [] ys = refl
 layout-append place (x ∷ xs) ys =
     ap (λ (more : List Placed). placed_at place x ∷ more)
-    (layout-append (after place x.content) xs ys)
+    (layout-append (place_after place x.content) xs ys)
 
 layout-cons : (place : ℕ) (x : Part) (xs : List Part)
-    → layout place (x ∷ xs) ≡ placed_at place x ∷ layout (after place x.content) xs
+    → layout place (x ∷ xs) ≡ placed_at place x ∷ layout (place_after place x.content) xs
 unfolding layout
 layout-cons place x xs = refl
 
@@ -42,9 +42,9 @@ unfolding layout
 layout-none place = refl
 
 pub place_behind-push : (place : ℕ) (xs : List Part) (x : Part)
-    → place_behind place (xs ++ x ∷ []) ≡ after (place_behind place xs) x.content
+    → place_behind place (xs ++ x ∷ []) ≡ place_after (place_behind place xs) x.content
 place_behind-push place [] x = refl
-place_behind-push place (y ∷ xs) x = place_behind-push (after place y.content) xs x
+place_behind-push place (y ∷ xs) x = place_behind-push (place_after place y.content) xs x
 
 -- one more label or statement
 pub layout-push : (place : ℕ) (xs : List Part) (x : Part)
@@ -54,7 +54,7 @@ layout-push place xs x =
     ∙ ap (λ (more : List Placed). layout place xs ++ more)
     (layout-cons (place_behind place xs) x []
     ∙ ap (λ (more : List Placed). placed_at (place_behind place xs) x ∷ more)
-    (layout-none (after (place_behind place xs) x.content)))
+    (layout-none (place_after (place_behind place xs) x.content)))
 
 -- what is inside isn't too long
 inside_fits : (x : Placed) → IsInside x → is_too_long x ≡ false
@@ -72,32 +72,32 @@ pub too_long_next : (place : ℕ) (xs : List Part) (x : Part) (ys : List Part)
 too_long_next place xs x ys inside long =
     let at = place_behind place xs in
     let whole : layout place (xs ++ (x ∷ ys)) ≡ layout place xs
-    ++ (placed_at at x ∷ layout (after at x.content) ys) =
+    ++ (placed_at at x ∷ layout (place_after at x.content) ys) =
     layout-append place xs (x ∷ ys) ∙ ap (λ (more : List Placed). layout place xs ++ more)
     (layout-cons at x ys) in
-    let here : find is_too_long (placed_at at x ∷ layout (after at x.content) ys)
+    let here : find is_too_long (placed_at at x ∷ layout (place_after at x.content) ys)
     ≡ Some (placed_at at x) = rw long refl in
     let first : find is_too_long (layout place (xs ++ (x ∷ ys))) ≡ option_or
     (find is_too_long (layout place xs))
-    (find is_too_long (placed_at at x ∷ layout (after at x.content) ys)) =
+    (find is_too_long (placed_at at x ∷ layout (place_after at x.content) ys)) =
     ap (find is_too_long) whole ∙ find-append is_too_long (layout place xs)
-    (placed_at at x ∷ layout (after at x.content) ys) in
-    ap (λ (found : Option Placed). option_map line_of found)
+    (placed_at at x ∷ layout (place_after at x.content) ys) in
+    ap (λ (found : Option Placed). option_map statement_line found)
     (first ∙ ap (λ (found : Option Placed). option_or found
-    (find is_too_long (placed_at at x ∷ layout (after at x.content) ys)))
+    (find is_too_long (placed_at at x ∷ layout (place_after at x.content) ys)))
     (none_too_long (layout place xs) inside) ∙ here)
 
 -- ---- ends
 
 -- one more statement's end
 last_end-push : (xs : List Placed) (x : Placed)
-    → last_end (xs ++ x ∷ []) ≡ max (last_end xs) (end_of x)
+    → last_end (xs ++ x ∷ []) ≡ max (last_end xs) (statement_end x)
 unfolding last_end
 last_end-push [] x = grind arith
 last_end-push (y ∷ xs) x = rw (last_end-push xs x) (grind arith)
 
 pub last_end_more : (xs : List Placed) (i : ℕ) (d : Placed) → i < length xs
-    → last_end (take (i + 1) xs) ≡ max (last_end (take i xs)) (end_of (get_or xs i d))
+    → last_end (take (i + 1) xs) ≡ max (last_end (take i xs)) (statement_end (get_or xs i d))
 last_end_more xs i d within =
     ap last_end (take_more xs i d within) ∙ last_end-push (take i xs) (get_or xs i d)
 
@@ -107,16 +107,16 @@ last_end_none = refl
 
 -- no statement ends behind the last end
 All-ends : (xs : List Placed) (bound : ℕ) → last_end xs ≤ bound
-    → All (λ (x : Placed). end_of x ≤ bound) xs
+    → All (λ (x : Placed). statement_end x ≤ bound) xs
 unfolding last_end
-All-ends [] bound below = All-nil (λ (x : Placed). end_of x ≤ bound)
+All-ends [] bound below = All-nil (λ (x : Placed). statement_end x ≤ bound)
 All-ends (x ∷ xs) bound below =
-    All-cons (λ (x : Placed). end_of x ≤ bound) x xs (grind arith) (All-ends xs bound (grind arith))
+    All-cons (λ (x : Placed). statement_end x ≤ bound) x xs (grind arith) (All-ends xs bound (grind arith))
 
 pub end_of-le : (xs : List Placed) (i : ℕ) (d : Placed) → i < length xs
-    → end_of (get_or xs i d) ≤ last_end xs
+    → statement_end (get_or xs i d) ≤ last_end xs
 end_of-le xs i d within =
-    All-get_or (λ (x : Placed). end_of x ≤ last_end xs) xs i d within
+    All-get_or (λ (x : Placed). statement_end x ≤ last_end xs) xs i d within
     (All-ends xs (last_end xs) (omega arith))
 
 -- ---- the next of a list, in a loop
@@ -128,7 +128,7 @@ layout_more xs i d within =
     ap (layout 0) (take_more xs i d within) ∙ layout-push 0 (take i xs) (get_or xs i d)
 
 pub place_more : (xs : List Part) (i : ℕ) (d : Part) → i < length xs
-    → place_behind 0 (take (i + 1) xs) ≡ after (place_behind 0 (take i xs)) (get_or xs i d).content
+    → place_behind 0 (take (i + 1) xs) ≡ place_after (place_behind 0 (take i xs)) (get_or xs i d).content
 place_more xs i d within =
     ap (place_behind 0) (take_more xs i d within) ∙ place_behind-push 0 (take i xs) (get_or xs i d)
 
@@ -143,13 +143,13 @@ too_long_at xs i d within inside long =
 
 pub too_long_none : (placed : List Placed) → All IsInside placed → too_long_line placed ≡ None
 too_long_none placed inside =
-    ap (λ (found : Option Placed). option_map line_of found) (none_too_long placed inside)
+    ap (λ (found : Option Placed). option_map statement_line found) (none_too_long placed inside)
 
 pub fits_end : (xs : List Placed) (i : ℕ) (x : Placed) → i < length xs → x ≡ get_or xs i x
     → 0 < x.size → x.place + x.size ≤ last_end xs
 fits_end xs i x within is some =
-    let le : end_of (get_or xs i x) ≤ last_end xs = end_of-le xs i x within in
-    let here : end_of x ≤ last_end xs = subst (λ (p : Placed). end_of p ≤ last_end xs) (sym is)
+    let le : statement_end (get_or xs i x) ≤ last_end xs = end_of-le xs i x within in
+    let here : statement_end x ≤ last_end xs = subst (λ (p : Placed). statement_end p ≤ last_end xs) (sym is)
     le in
     rw (lt-ltb 0 x.size some) at here
 
@@ -199,7 +199,7 @@ short_inside place size short some = elim (cases_lt limit (place + size)) [
 pub layout_step : (xs : List Part) (n m : ℕ) (x : Part) (placed : List Placed) (place size : ℕ)
     → m ≡ n + 1 → n < length xs → x ≡ get_or xs n x
     → placed ≡ layout 0 (take n xs) → place ≡ place_behind 0 (take n xs)
-    → size ≡ size_of place x.content
+    → size ≡ statement_size place x.content
     → placed ++ record { place = place; size = size; part = x } ∷ [] ≡ layout 0 (take m xs)
 layout_step xs n m x placed place size em within is a b s =
     let one : ◌≡◌ {A = Placed} record { place = place; size = size; part = x }
@@ -212,16 +212,16 @@ layout_step xs n m x placed place size em within is a b s =
 
 pub place_step : (xs : List Part) (n m : ℕ) (x : Part) (place : ℕ) → m ≡ n + 1 → n < length xs
     → x ≡ get_or xs n x → place ≡ place_behind 0 (take n xs)
-    → after place x.content ≡ place_behind 0 (take m xs)
+    → place_after place x.content ≡ place_behind 0 (take m xs)
 place_step xs n m x place em within is b =
-    ap (λ (p : ℕ). after p x.content) b
-    ∙ ap (λ (y : Part). after (place_behind 0 (take n xs)) y.content) is
+    ap (λ (p : ℕ). place_after p x.content) b
+    ∙ ap (λ (y : Part). place_after (place_behind 0 (take n xs)) y.content) is
     ∙ sym (place_more xs n x within) ∙ ap (λ (k : ℕ). place_behind 0 (take k xs)) (sym em)
 
 -- the next part is too long
 pub too_long_step : (xs : List Part) (n : ℕ) (x : Part) (place : ℕ) → n < length xs
     → x ≡ get_or xs n x → place ≡ place_behind 0 (take n xs) → All IsInside (layout 0 (take n xs))
-    → past place (size_of place x.content) ≡ true → too_long_line (layout 0 xs) ≡ Some x.line
+    → past place (statement_size place x.content) ≡ true → too_long_line (layout 0 xs) ≡ Some x.line
 too_long_step xs n x place within is b inside long =
     let there : is_too_long (placed_at (place_behind 0 (take n xs)) (get_or xs n x)) ≡ true =
     sym (ap (λ (p : ℕ). is_too_long (placed_at p x)) b

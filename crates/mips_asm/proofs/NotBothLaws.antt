@@ -7,8 +7,8 @@ use Rattle.mips_asm.specs.declared.fault.AsmFault.{AsmFault}
 use Rattle.mips_asm.specs.declared.fault.AsmFault.TheVariants.{Syntax, Duplicate, TooLong, Overlap, UnknownName, Range, NoMemory}
 use Rattle.mips_asm.specs.declared.placed.Placed.{Placed}
 use Rattle.mips_asm.specs.Layout.{layout}
-use Rattle.mips_asm.specs.Passes.{Labels, duplicate_line, line_of, too_long_line}
-use Rattle.mips_asm.specs.Sources.{GivesNothing, IsFirst, IsOutOfRange, IsPartsFault, IsPlacedFault, IsPlacedImage, Writes, bad_entry, bad_entry_of, entry_by, labels_of, last_entry}
+use Rattle.mips_asm.specs.Passes.{Labels, duplicate_line, statement_line, too_long_line}
+use Rattle.mips_asm.specs.Sources.{GivesNothing, IsFirst, IsOutOfRange, IsPartsFault, IsPlacedFault, IsPlacedImage, StatementsWrite, bad_entry, bad_entry_of, entry_by, labels_of, last_entry}
 use Rattle.mips_asm.specs.Images.{PlacedBytes}
 
 -- a fault that was both found and not found
@@ -18,7 +18,7 @@ both found n none some = none-some n (sym none ∙ some)
 -- each of the statements writes bytes
 Writes-some : (labels : Labels) (before : List Placed) (x : Placed) (after : List Placed)
     (chunks : List PlacedBytes)
-    → Writes labels (before ++ (x ∷ after)) chunks → ¬ GivesNothing labels x
+    → StatementsWrite labels (before ++ (x ∷ after)) chunks → ¬ GivesNothing labels x
 Writes-some labels [] x after chunks writes nothing = nothing writes.0 writes.2
 Writes-some labels (z ∷ before) x after chunks writes nothing =
     Writes-some labels before x after writes.1 writes.4 nothing
@@ -31,12 +31,12 @@ entry-not_bad labels (Some last) entry line good bad = none-some line (rw good a
 
 -- where there is an image, no value is out of its range
 image-in_range : (placed : List Placed) (image : PlainImage) (n : ℕ) → IsPlacedImage placed image
-    → IsFirst line_of (IsOutOfRange (labels_of placed) (bad_entry_of placed)) placed n → ⊥
+    → IsFirst statement_line (IsOutOfRange (labels_of placed) (bad_entry_of placed)) placed n → ⊥
 image-in_range placed image n is first = elim first.bad [
   | inl nothing ↦ Writes-some (labels_of placed) first.before first.first first.after is.chunks
-      (subst (λ (xs : List Placed). Writes (labels_of placed) xs is.chunks) first.whole is.writes)
+      (subst (λ (xs : List Placed). StatementsWrite (labels_of placed) xs is.chunks) first.whole is.writes)
       nothing
-  | inr bad ↦ entry-not_bad (labels_of placed) (last_entry placed) image.entry (line_of first.first)
+  | inr bad ↦ entry-not_bad (labels_of placed) (last_entry placed) image.entry (statement_line first.first)
       is.entry bad
 ]
 

@@ -6,17 +6,17 @@ use Rattle.std.proofs.lemmas.Bool.{eqb-true, true≢false}
 use Rattle.std.proofs.lemmas.List.{take_more, take-append-drop, drop_more}
 use Rattle.std.proofs.lemmas.List.Elements.{All-cons, All-head, All-nil, All-tail}
 use Rattle.mips_asm.specs.declared.placed.Placed.{Placed}
-use Rattle.mips_asm.specs.Encoding.{Gives}
+use Rattle.mips_asm.specs.Encoding.{StatementGives}
 use Rattle.mips_asm.specs.Images.{PlacedBytes}
-use Rattle.mips_asm.specs.Passes.{Labels, line_of}
+use Rattle.mips_asm.specs.Passes.{Labels, statement_line}
 use Rattle.mips_asm.proofs.ImageLaws.{chunk_at}
-use Rattle.mips_asm.specs.Sources.{IsFirst, IsOutOfRange, Writes}
+use Rattle.mips_asm.specs.Sources.{IsFirst, IsOutOfRange, StatementsWrite}
 
 -- one more statement
 pub Writes-push : (labels : Labels) (xs : List Placed) (x : Placed) (chunks : List PlacedBytes)
     (bytes : List ℕ)
-    → Writes labels xs chunks → Gives labels x.place x.part.content bytes
-    → Writes labels (xs ++ x ∷ []) (chunks ++ chunk_at x.place bytes ∷ [])
+    → StatementsWrite labels xs chunks → StatementGives labels x.place x.part.content bytes
+    → StatementsWrite labels (xs ++ x ∷ []) (chunks ++ chunk_at x.place bytes ∷ [])
 Writes-push labels [] x chunks bytes writes gives = (
   bytes,
   [],
@@ -36,16 +36,16 @@ Writes-push labels (y ∷ xs) x chunks bytes writes gives = (
 -- the next statement, in a loop
 pub Writes_more : (labels : Labels) (xs : List Placed) (i : ℕ) (d : Placed)
     (chunks : List PlacedBytes) (bytes : List ℕ)
-    → i < length xs → Writes labels (take i xs) chunks
-    → Gives labels (get_or xs i d).place (get_or xs i d).part.content bytes
-    → Writes labels (take (i + 1) xs) (chunks ++ chunk_at (get_or xs i d).place bytes ∷ [])
+    → i < length xs → StatementsWrite labels (take i xs) chunks
+    → StatementGives labels (get_or xs i d).place (get_or xs i d).part.content bytes
+    → StatementsWrite labels (take (i + 1) xs) (chunks ++ chunk_at (get_or xs i d).place bytes ∷ [])
 Writes_more labels xs i d chunks bytes within writes gives =
     rw (take_more xs i d within) (Writes-push labels (take i xs) (get_or xs i d) chunks bytes writes
     gives)
 
 -- no statement that was written is out of its range
 pub good_so_far : (labels : Labels) (bad : Option ℕ) (xs : List Placed) (chunks : List PlacedBytes)
-    → Writes labels xs chunks → All (λ (p : Placed). ¬ (bad ≡ Some (line_of p))) xs
+    → StatementsWrite labels xs chunks → All (λ (p : Placed). ¬ (bad ≡ Some (statement_line p))) xs
     → All (λ (p : Placed). ¬ (IsOutOfRange labels bad p)) xs
 good_so_far labels bad [] chunks writes entry =
     All-nil (λ (p : Placed). ¬ (IsOutOfRange labels bad p))
@@ -53,18 +53,18 @@ good_so_far labels bad (x ∷ xs) chunks writes entry =
     All-cons (λ (p : Placed). ¬ (IsOutOfRange labels bad p)) x xs
     (λ out. elim out [
       | inl nothing ↦ nothing writes.0 writes.2
-      | inr here ↦ All-head (λ (p : Placed). ¬ (bad ≡ Some (line_of p))) x xs entry here
+      | inr here ↦ All-head (λ (p : Placed). ¬ (bad ≡ Some (statement_line p))) x xs entry here
     ])
     (good_so_far labels bad xs writes.1 writes.4
-    (All-tail (λ (p : Placed). ¬ (bad ≡ Some (line_of p))) x xs entry))
+    (All-tail (λ (p : Placed). ¬ (bad ≡ Some (statement_line p))) x xs entry))
 
 -- the next statement is the first that is out of its range
 pub first_bad : (labels : Labels) (bad : Option ℕ) (xs : List Placed) (i : ℕ) (d : Placed)
     (chunks : List PlacedBytes)
-    → i < length xs → Writes labels (take i xs) chunks
-    → All (λ (p : Placed). ¬ (bad ≡ Some (line_of p))) (take i xs)
+    → i < length xs → StatementsWrite labels (take i xs) chunks
+    → All (λ (p : Placed). ¬ (bad ≡ Some (statement_line p))) (take i xs)
     → IsOutOfRange labels bad (get_or xs i d)
-    → IsFirst line_of (IsOutOfRange labels bad) xs (line_of (get_or xs i d))
+    → IsFirst statement_line (IsOutOfRange labels bad) xs (statement_line (get_or xs i d))
 first_bad labels bad xs i d chunks within writes entry out = record {
   before = take i xs;
   first = get_or xs i d;
@@ -79,24 +79,24 @@ first_bad labels bad xs i d chunks within writes entry out = record {
 -- the same at an element that is known to be that of the place
 pub first_here : (labels : Labels) (bad : Option ℕ) (xs : List Placed) (i : ℕ) (x : Placed)
     (chunks : List PlacedBytes)
-    → i < length xs → x ≡ get_or xs i x → Writes labels (take i xs) chunks
-    → All (λ (p : Placed). ¬ (bad ≡ Some (line_of p))) (take i xs) → IsOutOfRange labels bad x
-    → IsFirst line_of (IsOutOfRange labels bad) xs (line_of x)
+    → i < length xs → x ≡ get_or xs i x → StatementsWrite labels (take i xs) chunks
+    → All (λ (p : Placed). ¬ (bad ≡ Some (statement_line p))) (take i xs) → IsOutOfRange labels bad x
+    → IsFirst statement_line (IsOutOfRange labels bad) xs (statement_line x)
 first_here labels bad xs i x chunks within is writes entry out =
-    subst (λ (p : Placed). IsFirst line_of (IsOutOfRange labels bad) xs (line_of p)) (sym is)
+    subst (λ (p : Placed). IsFirst statement_line (IsOutOfRange labels bad) xs (statement_line p)) (sym is)
     (first_bad labels bad xs i x chunks within writes entry (subst (IsOutOfRange labels bad) is
     out))
 
 pub Writes_here : (labels : Labels) (xs : List Placed) (i : ℕ) (x : Placed)
     (chunks : List PlacedBytes) (bytes : List ℕ)
-    → i < length xs → x ≡ get_or xs i x → Writes labels (take i xs) chunks
-    → Gives labels x.place x.part.content bytes
-    → Writes labels (take (i + 1) xs) (chunks ++ chunk_at x.place bytes ∷ [])
+    → i < length xs → x ≡ get_or xs i x → StatementsWrite labels (take i xs) chunks
+    → StatementGives labels x.place x.part.content bytes
+    → StatementsWrite labels (take (i + 1) xs) (chunks ++ chunk_at x.place bytes ∷ [])
 Writes_here labels xs i x chunks bytes within is writes gives =
-    subst (λ (p : Placed). Writes labels (take (i + 1) xs) (chunks ++ chunk_at p.place bytes ∷ []))
+    subst (λ (p : Placed). StatementsWrite labels (take (i + 1) xs) (chunks ++ chunk_at p.place bytes ∷ []))
     (sym is)
     (Writes_more labels xs i x chunks bytes within writes
-    (subst (λ (p : Placed). Gives labels p.place p.part.content bytes) is gives))
+    (subst (λ (p : Placed). StatementGives labels p.place p.part.content bytes) is gives))
 
 -- a line that is told to be another is it
 pub same_line : (bad : Option ℕ) (line : ℕ) → option_eq eqb bad (Some line) ≡ true → bad ≡ Some line

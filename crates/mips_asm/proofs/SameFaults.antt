@@ -8,7 +8,7 @@ use Rattle.mips_asm.specs.declared.fault.AsmFault.{AsmFault}
 use Rattle.mips_asm.specs.declared.fault.AsmFault.TheVariants.{Syntax, Duplicate, TooLong, Overlap, UnknownName, Range, NoMemory}
 use Rattle.mips_asm.specs.declared.placed.Placed.{Placed}
 use Rattle.mips_asm.specs.Layout.{layout}
-use Rattle.mips_asm.specs.Passes.{duplicate_line, line_of, overlap_line, too_long_line, unknown_line}
+use Rattle.mips_asm.specs.Passes.{duplicate_line, overlap_line, statement_line, too_long_line, unknown_line}
 use Rattle.mips_asm.specs.Sources.{IsFirst, IsOutOfRange, IsPartsFault, IsPlacedFault, bad_entry_of, labels_of}
 
 -- ---- the first bad element
@@ -67,12 +67,12 @@ Stage-same kind found Later a b later (inr p) (inr q) = later p.1 q.1
 abbrev RangeFault : List Placed → AsmFault → Type 0
 RangeFault placed a =
     (n : ℕ) × (a ≡ Range n)
-    × IsFirst line_of (IsOutOfRange (labels_of placed) (bad_entry_of placed)) placed n
+    × IsFirst statement_line (IsOutOfRange (labels_of placed) (bad_entry_of placed)) placed n
 
 RangeFault-same : (placed : List Placed) (a b : AsmFault) → RangeFault placed a
     → RangeFault placed b → a ≡ b
 RangeFault-same placed a b p q =
-    p.1 ∙ ap Range (IsFirst-same line_of (IsOutOfRange (labels_of placed) (bad_entry_of placed))
+    p.1 ∙ ap Range (IsFirst-same statement_line (IsOutOfRange (labels_of placed) (bad_entry_of placed))
     placed p.0 q.0 p.2 q.2) ∙ sym q.1
 
 -- a name of no label, or a later fault

@@ -10,10 +10,10 @@ use Rattle.mips_instruction.specs.declared.instruction.Ins.{Ins}
 use Rattle.asm_source.specs.declared.content.Content.{Content}
 use Rattle.asm_source.specs.declared.content.Content.TheVariants.{Label, Words, Bytes, Ascii, Space, Align, Org, Entry, LoadNumber, LoadAddress, Instruction}
 use Rattle.mips_asm.specs.declared.placed.Placed.{Placed}
-use Rattle.mips_asm.specs.Encoding.{AreWords, Gives, IsCode}
+use Rattle.mips_asm.specs.Encoding.{AreWords, IsCode, StatementGives}
 use Rattle.mips_asm.specs.Images.{IsWritten, PlacedBytes}
 use Rattle.mips_asm.specs.Passes.{Labels}
-use Rattle.mips_asm.specs.Sources.{IsPlacedImage, Writes, labels_of}
+use Rattle.mips_asm.specs.Sources.{IsPlacedImage, StatementsWrite, labels_of}
 
 -- two values of one option are the same
 pub one_value : {A : Type 0} (o : Option A) (a b : A) → o ≡ Some a → o ≡ Some b → a ≡ b
@@ -35,7 +35,7 @@ IsCode-same place made a b p q =
 
 -- a statement writes its bytes and no others
 Gives-same : (labels : Labels) (place : ℕ) (content : Content) (a b : List ℕ)
-    → Gives labels place content a → Gives labels place content b → a ≡ b
+    → StatementGives labels place content a → StatementGives labels place content b → a ≡ b
 Gives-same labels place (Label name) a b p q = p ∙ sym q
 Gives-same labels place (Words vs) a b p q = one_value _ a b p.1 q.1
 Gives-same labels place (Bytes ns) a b p q = one_value _ a b p q
@@ -56,7 +56,7 @@ chunks-same place a b front rest one more = λ i. record { place = place; bytes 
 
 -- the statements write their chunks and no others
 Writes-same : (labels : Labels) (placed : List Placed) (a b : List PlacedBytes)
-    → Writes labels placed a → Writes labels placed b → a ≡ b
+    → StatementsWrite labels placed a → StatementsWrite labels placed b → a ≡ b
 Writes-same labels [] a b p q = p ∙ sym q
 Writes-same labels (x ∷ placed) a b p q =
     p.3

@@ -13,8 +13,8 @@ use Rattle.asm_source.specs.declared.argument.Value.{Value}
 use Rattle.asm_source.specs.declared.content.Content.{Content}
 use Rattle.asm_source.specs.declared.content.Content.TheVariants.{Label, Words, Bytes, Ascii, Space, Align, Org, Entry, LoadNumber, LoadAddress, Instruction}
 use Rattle.asm_syntax.specs.Forms.{map_some}
-use Rattle.mips_asm.specs.Encoding.{AreWords, Gives, IsCode, byte_value, halves, instruction_at, join_some, load_address, load_number, number_of, one_instruction, twos_complement, word_value}
-use Rattle.mips_asm.specs.Layout.{in_range, padding, size_of}
+use Rattle.mips_asm.specs.Encoding.{AreWords, IsCode, StatementGives, byte_value, instruction_at, join_some, load_address, load_halves, load_number, one_instruction, twos_complement, value_number, word_value}
+use Rattle.mips_asm.specs.Layout.{in_range, padding, statement_size}
 use Rattle.mips_asm.specs.Passes.{Labels}
 
 -- a word has four bytes
@@ -63,7 +63,7 @@ word_value-length : (labels : Labels) (v : Value) (bytes : List ℕ)
     → word_value labels v ≡ Some bytes → length bytes ≡ 4
 unfolding word_value
 word_value-length labels v bytes read =
-    steps _ (number_of labels v) bytes read (λ n number given.
+    steps _ (value_number labels v) bytes read (λ n number given.
     sym (ap length (guarded (in_range 2147483648 4294967295 n)
     (to_be_bytes w32 (twos_complement 32 n)) bytes given)) ∙ length-word (twos_complement 32 n))
 
@@ -96,8 +96,8 @@ large true m h k = h
 large false m h k = k
 
 load_number-length : (place r : ℕ) (n : Integer) (is : List Ins) → load_number r n ≡ Some is
-    → 4 * length is ≡ size_of place (LoadNumber r n)
-unfolding load_number size_of
+    → 4 * length is ≡ statement_size place (LoadNumber r n)
+unfolding load_number statement_size
 load_number-length place r n is read =
     elim (cases_Bool (in_range 32768 32767 n)) [
       | inl signed ↦ rw (small_signed n.negative n.magnitude signed)
@@ -110,7 +110,7 @@ load_number-length place r n is read =
         | inr most ↦ rw (large n.negative n.magnitude more most)
             (ap (λ (k : ℕ). 4 * k)
             (sym (ap length (guarded (in_range 2147483648 4294967295 n)
-            (halves r (twos_complement 32 n)) is (rw (more, most) at read)))))
+            (load_halves r (twos_complement 32 n)) is (rw (more, most) at read)))))
       ]
     ]
 
@@ -119,7 +119,7 @@ load_address-length : (labels : Labels) (r : ℕ) (name : List ℕ) (is : List I
 unfolding load_address
 load_address-length labels r name is read =
     steps _ (labels name) is read (λ place known given.
-    sym (ap length (guarded _ (halves r place) is given)))
+    sym (ap length (guarded _ (load_halves r place) is given)))
 
 alone-length : (made : Option Ins) (is : List Ins) → option_map one_instruction made ≡ Some is
     → length is ≡ 1
@@ -129,8 +129,8 @@ alone-length made is read =
 
 -- what a statement writes has its size
 pub Gives-size : (labels : Labels) (place : ℕ) (content : Content) (bytes : List ℕ)
-    → Gives labels place content bytes → length bytes ≡ size_of place content
-unfolding size_of
+    → StatementGives labels place content bytes → length bytes ≡ statement_size place content
+unfolding statement_size
 Gives-size labels place (Label name) bytes given = ap length given
 Gives-size labels place (Words vs) bytes given =
     join_some-length (word_value labels) (word_value-length labels) vs bytes given.1

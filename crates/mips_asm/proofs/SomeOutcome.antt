@@ -15,12 +15,12 @@ use Rattle.asm_syntax.specs.Lines.{source_of}
 use Rattle.mips_asm.specs.declared.fault.AsmFault.{AsmFault}
 use Rattle.mips_asm.specs.declared.fault.AsmFault.TheVariants.{Syntax, Duplicate, TooLong, Overlap, UnknownName, Range}
 use Rattle.mips_asm.specs.declared.placed.Placed.{Placed}
-use Rattle.mips_asm.specs.Encoding.{Gives, number_of, unsigned_below}
+use Rattle.mips_asm.specs.Encoding.{StatementGives, unsigned_below, value_number}
 use Rattle.mips_asm.specs.Images.{PlacedBytes, IsWritten, byte_over, chunks_end}
 use Rattle.mips_asm.specs.Laws.{ImageOrFault}
-use Rattle.mips_asm.specs.Layout.{IsSized, end_of, in_range, is_too_long, last_end, layout, limit}
-use Rattle.mips_asm.specs.Passes.{Labels, duplicate_line, line_of, overlap_line, too_long_line, unknown_line}
-use Rattle.mips_asm.specs.Sources.{IsFaultOf, IsFirst, IsImageOf, IsOutOfRange, IsPlacedFault, IsPlacedImage, Writes, bad_entry, bad_entry_of, entry_by, entry_in, labels_of, last_entry}
+use Rattle.mips_asm.specs.Layout.{IsSized, in_range, is_too_long, last_end, layout, limit, statement_end}
+use Rattle.mips_asm.specs.Passes.{Labels, duplicate_line, overlap_line, statement_line, too_long_line, unknown_line}
+use Rattle.mips_asm.specs.Sources.{IsFaultOf, IsFirst, IsImageOf, IsOutOfRange, IsPlacedFault, IsPlacedImage, StatementsWrite, bad_entry, bad_entry_of, entry_by, entry_value, labels_of, last_entry}
 use Rattle.mips_asm.proofs.AssemblyLaws.{no_bad_entry, placed_fault}
 use Rattle.mips_asm.proofs.BytesLaws.{ends-same, layout-sized}
 use Rattle.mips_asm.proofs.GivesLaws.{Gives-found}
@@ -30,14 +30,14 @@ use Rattle.mips_asm.proofs.ImageLaws.{chunk_at}
 
 -- the line is none of those of the last `.entry` that is bad
 abbrev OtherLine : Option ℕ → Placed → Type 0
-OtherLine bad p = ¬ (bad ≡ Some (line_of p))
+OtherLine bad p = ¬ (bad ≡ Some (statement_line p))
 
 -- all statements write bytes and none stands in the bad line, or there is a first that is out of
 -- its range
 abbrev WritesOrNot : Labels → Option ℕ → List Placed → Type 0
 WritesOrNot labels bad placed =
-    ((chunks : List PlacedBytes) × Writes labels placed chunks × All (OtherLine bad) placed)
-    ⊎ ((n : ℕ) × IsFirst line_of (IsOutOfRange labels bad) placed n)
+    ((chunks : List PlacedBytes) × StatementsWrite labels placed chunks × All (OtherLine bad) placed)
+    ⊎ ((n : ℕ) × IsFirst statement_line (IsOutOfRange labels bad) placed n)
 
 -- the bad line is this one, or another
 line_decided : (bad : Option ℕ) (line : ℕ) → (bad ≡ Some line) ⊎ (¬ (bad ≡ Some line))
@@ -51,7 +51,7 @@ line_decided (Some n) line = elim (cases_eq n line) [
 out_first : (labels : Labels) (bad : Option ℕ) (x : Placed) (placed : List Placed)
     → IsOutOfRange labels bad x → WritesOrNot labels bad (x ∷ placed)
 out_first labels bad x placed out = inr (
-  line_of x,
+  statement_line x,
   record {
     before = [];
     first = x;
@@ -65,7 +65,7 @@ out_first labels bad x placed out = inr (
 
 -- the first of them writes bytes, and stands in no bad line
 good_first : (labels : Labels) (bad : Option ℕ) (x : Placed) (placed : List Placed) (own : List ℕ)
-    → Gives labels x.place x.part.content own → OtherLine bad x
+    → StatementGives labels x.place x.part.content own → OtherLine bad x
     → WritesOrNot labels bad placed → WritesOrNot labels bad (x ∷ placed)
 good_first labels bad x placed own gives other (inl more) =
     inl (
@@ -93,7 +93,7 @@ good_first labels bad x placed own gives other (inr more) =
 writes_or_not : (labels : Labels) (bad : Option ℕ) (placed : List Placed)
     → WritesOrNot labels bad placed
 writes_or_not labels bad [] = inl ([], refl, All-nil (OtherLine bad))
-writes_or_not labels bad (x ∷ placed) = elim (line_decided bad (line_of x)) [
+writes_or_not labels bad (x ∷ placed) = elim (line_decided bad (statement_line x)) [
   | inl here ↦ out_first labels bad x placed (inr here)
   | inr other ↦ elim (Gives-found labels x.place x.part.content) [
     | inr nothing ↦ out_first labels bad x placed (inl nothing)
@@ -113,7 +113,7 @@ held_entry (Some entry) line is = (entry, refl)
 entry_said : (labels : Labels) (last : Option Placed) → bad_entry labels last ≡ None
     → (entry : ℕ) × (entry_by labels last ≡ Some entry)
 entry_said labels None good = (0, refl)
-entry_said labels (Some p) good = held_entry (entry_in labels p.part.content) (line_of p) good
+entry_said labels (Some p) good = held_entry (entry_value labels p.part.content) (statement_line p) good
 
 -- an entry is a multiple of 4 below 2^20
 abbrev IsEntry : ℕ → Type 0
@@ -125,9 +125,9 @@ below_limit true magnitude is = omega (arith, leb-true magnitude 0 is)
 below_limit false magnitude is = omega (arith, leb-true magnitude 1048575 is)
 
 entry_in-entry : (labels : Labels) (content : Content) (entry : ℕ)
-    → entry_in labels content ≡ Some entry → IsEntry entry
+    → entry_value labels content ≡ Some entry → IsEntry entry
 entry_in-entry labels (Entry v) entry is =
-    steps _ (number_of labels v) entry is (λ n number is.
+    steps _ (value_number labels v) entry is (λ n number is.
     steps _ (unsigned_below 1048575 n) entry is (λ address given is.
     let low = cond_some (in_range 0 1048575 n) n.magnitude address given in
     let whole = cond_some (eqb (address % 4) 0) address entry is in
@@ -170,7 +170,7 @@ bytes_of-written chunks = record {
 }
 
 -- what isn't too long ends within the limit
-not_long-end : (x : Placed) → is_too_long x ≡ false → end_of x ≤ limit
+not_long-end : (x : Placed) → is_too_long x ≡ false → statement_end x ≤ limit
 not_long-end x short = grind (arith, nat_tests)
 
 -- one that isn't found, and none behind it
@@ -185,7 +185,7 @@ unfolding last_end
 not_long-last_end [] short = omega arith
 not_long-last_end (x ∷ placed) short =
     let parts = first_none (is_too_long x) x (find is_too_long placed) short in
-    let here : end_of x ≤ limit = not_long-end x parts.0 in
+    let here : statement_end x ≤ limit = not_long-end x parts.0 in
     let more : last_end placed ≤ limit = not_long-last_end placed parts.1 in
     omega arith
 
@@ -207,7 +207,7 @@ placed_image_of : (placed : List Placed) (chunks : List PlacedBytes) (entry : �
     → All IsSized placed → last_end placed ≤ limit → overlap_line placed ≡ None
     → unknown_line (labels_of placed) placed ≡ None
     → entry_by (labels_of placed) (last_entry placed) ≡ Some entry
-    → Writes (labels_of placed) placed chunks → (image : PlainImage) × IsPlacedImage placed image
+    → StatementsWrite (labels_of placed) placed chunks → (image : PlainImage) × IsPlacedImage placed image
 placed_image_of placed chunks entry sized short apart known says writes =
     let written = bytes_of-written chunks in
     let is = entry_by-entry (labels_of placed) (last_entry placed) entry says in
@@ -291,7 +291,7 @@ too_long_outcome : (text : List ℕ) (parts : List Part) → source_of text ≡ 
 too_long_outcome text parts read unique (Some n) is = inr (TooLong n, (parts, read, (unique, is)))
 too_long_outcome text parts read unique None is =
     let ends = not_long-last_end (layout 0 parts)
-    (not_mapped line_of (find is_too_long (layout 0 parts)) is) in
+    (not_mapped statement_line (find is_too_long (layout 0 parts)) is) in
     placed_outcome text parts read unique is
     (overlap_outcome (layout 0 parts) (layout-sized 0 parts) ends (overlap_line (layout 0 parts))
     refl)

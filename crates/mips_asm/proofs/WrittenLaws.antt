@@ -4,8 +4,8 @@ use Rattle.std.proofs.Math.Seq.{take-append_seam}
 use Rattle.std.specs.List.{All}
 use Rattle.xom_base.specs.declared.image.PlainImage.{PlainImage}
 use Rattle.mips_asm.specs.declared.placed.Placed.{Placed}
-use Rattle.mips_asm.specs.Encoding.{Gives}
-use Rattle.mips_asm.specs.Images.{IsOver, holds}
+use Rattle.mips_asm.specs.Encoding.{StatementGives}
+use Rattle.mips_asm.specs.Images.{IsOver, piece_covers}
 use Rattle.mips_asm.specs.Layout.{IsSized, last_end}
 use Rattle.mips_asm.specs.Passes.{Labels, overlap_line, unknown_line}
 use Rattle.mips_asm.specs.Sources.{HasBytes, IsPlacedImage, StandsOver, entry_by, labels_of, last_entry}
@@ -21,13 +21,13 @@ stands_none labels bytes clear = ([], refl, λ k. clear k ∙ sym (byte_over_nil
 -- the next statement writes over what stands there
 pub stands_more : (labels : Labels) (xs : List Placed) (i : ℕ) (x : Placed) (old new : List ℕ)
     → i < length xs → x ≡ get_or xs i x → StandsOver labels (take i xs) old
-    → (own : List ℕ) × Gives labels x.place x.part.content own × IsOver x.place own old new
+    → (own : List ℕ) × StatementGives labels x.place x.part.content own × IsOver x.place own old new
     → StandsOver labels (take (i + 1) xs) new
 stands_more labels xs i x old new within is stands written = (
   stands.0 ++ chunk_at x.place written.0 ∷ [],
   Writes_here labels xs i x stands.0 written.0 within is stands.1 written.1,
   λ k. written.2 k
-      ∙ ap (cond (holds (chunk_at x.place written.0) k) (get_or written.0 (k - x.place) 0))
+      ∙ ap (cond (piece_covers (chunk_at x.place written.0) k) (get_or written.0 (k - x.place) 0))
       (stands.2 k)
       ∙ sym (byte_over-push 0 stands.0 (chunk_at x.place written.0) k),
 )

@@ -28,9 +28,9 @@ abbrev pub unsigned_number : ℕ → Integer
 unsigned_number n = record { negative = false; magnitude = n }
 
 -- what a value stands for: a number for itself, a name for the place of its label
-abbrev pub number_of : Labels → Value → Option Integer
-number_of labels (values.Number n) = Some n
-number_of labels (values.Label name) = option_map unsigned_number (labels name)
+abbrev pub value_number : Labels → Value → Option Integer
+value_number labels (values.Number n) = Some n
+value_number labels (values.Label name) = option_map unsigned_number (labels name)
 
 -- the value where the test holds
 abbrev pub where_holds : {A : Type 0} → Bool → A → Option A
@@ -56,7 +56,7 @@ word_bytes n =
     where_holds (in_range 2147483648 4294967295 n) (to_be_bytes w32 (twos_complement 32 n))
 
 unfoldable pub word_value : Labels → Value → Option (List ℕ)
-word_value labels v = number_of labels v >>= word_bytes
+word_value labels v = value_number labels v >>= word_bytes
 
 -- the byte of one value of `.byte`: from -128 to 255
 abbrev pub byte_value : Integer → Option ℕ
@@ -73,8 +73,8 @@ abbrev pub unsigned_below : ℕ → Integer → Option ℕ
 unsigned_below high n = where_holds (in_range 0 high n) n.magnitude
 
 -- the address of an instruction: from 0 to 2^32 - 1, a multiple of 4
-abbrev pub address_of : Integer → Option ℕ
-address_of n = where_holds (in_range 0 4294967295 n && (n.magnitude % 4 == 0)) n.magnitude
+abbrev pub instruction_address : Integer → Option ℕ
+instruction_address n = where_holds (in_range 0 4294967295 n && (n.magnitude % 4 == 0)) n.magnitude
 
 -- how far an address lies behind the instruction after the one at pc, modulo 2^32
 abbrev pub distance : (pc address : ℕ) → ℕ
@@ -97,8 +97,8 @@ field_of pc kinds.Shift n = option_map (λ v. operand.Shift v) (unsigned_below 3
 field_of pc kinds.Signed n = option_map (λ v. operand.Signed v) (signed_immediate n)
 field_of pc kinds.Unsigned n = option_map (λ v. operand.Unsigned v) (unsigned_below 65535 n)
 field_of pc kinds.Code n = option_map (λ v. operand.Code v) (unsigned_below 1048575 n)
-field_of pc kinds.Branch n = option_map (λ v. operand.Branch v) (address_of n >>= branch_field pc)
-field_of pc kinds.Jump n = option_map (λ v. operand.Jump v) (address_of n >>= jump_field pc)
+field_of pc kinds.Branch n = option_map (λ v. operand.Branch v) (instruction_address n >>= branch_field pc)
+field_of pc kinds.Jump n = option_map (λ v. operand.Jump v) (instruction_address n >>= jump_field pc)
 field_of pc _ n = None
 
 -- an offset from its base register
@@ -108,8 +108,8 @@ offset_field base n = option_map (λ imm. operand.Offset imm base) (signed_immed
 -- the operand of this kind that is written so, in the instruction at pc
 unfoldable pub operand_of : Labels → (pc : ℕ) → OperandKind → Argument → Option Operand
 operand_of labels pc kind (argument.Register r) = Some (operand.Register r)
-operand_of labels pc kind (argument.Value v) = number_of labels v >>= field_of pc kind
-operand_of labels pc kind (argument.Offset v r) = number_of labels v >>= offset_field r
+operand_of labels pc kind (argument.Value v) = value_number labels v >>= field_of pc kind
+operand_of labels pc kind (argument.Offset v r) = value_number labels v >>= offset_field r
 operand_of labels pc kind (argument.Text bytes) = None
 
 -- the operands of these kinds that are written so
@@ -130,8 +130,8 @@ instruction_at labels pc name arguments = do
   build_of name operands
 
 -- the upper and the lower half of a number of 32 bits into a register
-abbrev pub halves : (r n : ℕ) → List Ins
-halves r n = Lui r (n / 2 ^ 16) ∷ Ori r r (n % 2 ^ 16) ∷ []
+abbrev pub load_halves : (r n : ℕ) → List Ins
+load_halves r n = Lui r (n / 2 ^ 16) ∷ Ori r r (n % 2 ^ 16) ∷ []
 
 -- `li`: addiu from $0 for a number from -32768 to 32767, ori from $0 up to 65535, else the two
 -- halves
@@ -139,19 +139,19 @@ unfoldable pub load_number : (r : ℕ) → Integer → Option (List Ins)
 load_number r n =
     if in_range 32768 32767 n then Some (Addiu r 0 (twos_complement 16 n) ∷ [])
     else (if in_range 0 65535 n then Some (Ori r 0 n.magnitude ∷ [])
-    else (if in_range 2147483648 4294967295 n then Some (halves r (twos_complement 32 n))
+    else (if in_range 2147483648 4294967295 n then Some (load_halves r (twos_complement 32 n))
     else None))
 
 -- `la`: the two halves of a place below 2^32
 unfoldable pub load_address : Labels → (r : ℕ) → (name : List ℕ) → Option (List Ins)
 load_address labels r name = do
   place ← labels name
-  where_holds (nat_le place 4294967295) (halves r place)
+  where_holds (nat_le place 4294967295) (load_halves r place)
 
 -- What was added to a list: the whole, or not all of it where there is none.
-abbrev pub Appends : {A : Type 0} → Option (List A) → List A → Bool → List A → Type 0
-Appends found old true new = option_map (λ more. old ++ more) found ≡ Some new
-Appends found old false new = found ≡ None
+abbrev pub AppendsFound : {A : Type 0} → Option (List A) → List A → Bool → List A → Type 0
+AppendsFound found old true new = option_map (λ more. old ++ more) found ≡ Some new
+AppendsFound found old false new = found ≡ None
 
 -- What was answered of bytes that have a property: true and such bytes, or false where no bytes
 -- have it.
@@ -160,9 +160,9 @@ Tells P true bytes = P bytes
 Tells P false bytes = (all : List ℕ) → ¬ P all
 
 -- the same of bytes that come of a function
-abbrev pub Comes : Option (List ℕ) → Bool → List ℕ → Type 0
-Comes found true bytes = found ≡ Some bytes
-Comes found false bytes = found ≡ None
+abbrev pub ComesOf : Option (List ℕ) → Bool → List ℕ → Type 0
+ComesOf found true bytes = found ≡ Some bytes
+ComesOf found false bytes = found ≡ None
 
 -- each instruction has its operands in their ranges, and the bytes are their words
 abbrev pub AreWords : List Ins → List ℕ → Type 0
@@ -185,21 +185,21 @@ abbrev pub GivesWords : Labels → ℕ → List Value → List ℕ → Type 0
 GivesWords labels place vs bytes = (place % 4 ≡ 0) × (join_some (word_value labels) vs ≡ Some bytes)
 
 -- zeros up to the next multiple of 2^n, where n is at most 12
-abbrev pub IsAligned : (n place : ℕ) → List ℕ → Type 0
-IsAligned n place bytes = (n ≤ 12) × (bytes ≡ replicate (padding n place) 0)
+abbrev pub IsPadding : (n place : ℕ) → List ℕ → Type 0
+IsPadding n place bytes = (n ≤ 12) × (bytes ≡ replicate (padding n place) 0)
 
 -- The statement, at this place, writes these bytes: its values are in their ranges. (What the last
 -- `.entry` says of the entry is looked at by itself.)
-abbrev pub Gives : Labels → ℕ → Content → List ℕ → Type 0
-Gives labels place (Label name) bytes = bytes ≡ []
-Gives labels place (Words vs) bytes = GivesWords labels place vs bytes
-Gives labels place (Bytes ns) bytes = map_some byte_value ns ≡ Some bytes
-Gives labels place (Ascii text) bytes = bytes ≡ text
-Gives labels place (Space n) bytes = bytes ≡ replicate n 0
-Gives labels place (Align n) bytes = IsAligned n place bytes
-Gives labels place (Org n) bytes = bytes ≡ []
-Gives labels place (Entry v) bytes = bytes ≡ []
-Gives labels place (LoadNumber r n) bytes = IsCode place (load_number r n) bytes
-Gives labels place (LoadAddress r name) bytes = IsCode place (load_address labels r name) bytes
-Gives labels place (Instruction name arguments) bytes =
+abbrev pub StatementGives : Labels → ℕ → Content → List ℕ → Type 0
+StatementGives labels place (Label name) bytes = bytes ≡ []
+StatementGives labels place (Words vs) bytes = GivesWords labels place vs bytes
+StatementGives labels place (Bytes ns) bytes = map_some byte_value ns ≡ Some bytes
+StatementGives labels place (Ascii text) bytes = bytes ≡ text
+StatementGives labels place (Space n) bytes = bytes ≡ replicate n 0
+StatementGives labels place (Align n) bytes = IsPadding n place bytes
+StatementGives labels place (Org n) bytes = bytes ≡ []
+StatementGives labels place (Entry v) bytes = bytes ≡ []
+StatementGives labels place (LoadNumber r n) bytes = IsCode place (load_number r n) bytes
+StatementGives labels place (LoadAddress r name) bytes = IsCode place (load_address labels r name) bytes
+StatementGives labels place (Instruction name arguments) bytes =
     IsCode place (option_map one_instruction (instruction_at labels place name arguments)) bytes

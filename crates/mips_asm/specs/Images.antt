@@ -7,8 +7,8 @@ pub record PlacedBytes : Type 0 where
   pub bytes : List ℕ
 
 -- one of the bytes stands at this place
-abbrev pub holds : PlacedBytes → ℕ → Bool
-holds chunk k = nat_le chunk.place k && nat_lt k (chunk.place + length chunk.bytes)
+abbrev pub piece_covers : PlacedBytes → ℕ → Bool
+piece_covers chunk k = nat_le chunk.place k && nat_lt k (chunk.place + length chunk.bytes)
 
 -- what stands at each place once these bytes are written at a place
 abbrev pub IsOver : (place : ℕ) → (own old new : List ℕ) → Type 0
@@ -29,7 +29,7 @@ chunks_end (chunk ∷ more) = max (chunk_end chunk) (chunks_end more)
 unfoldable pub byte_over : ℕ → List PlacedBytes → ℕ → ℕ
 byte_over byte [] k = byte
 byte_over byte (chunk ∷ more) k =
-    byte_over (if holds chunk k then slice_index chunk.bytes (k - chunk.place) else byte) more k
+    byte_over (if piece_covers chunk k then slice_index chunk.bytes (k - chunk.place) else byte) more k
 
 -- these are the bytes, once the chunks are written in their order over zeros
 pub record IsWritten (chunks : List PlacedBytes) (bytes : List ℕ) : Type 0 where

@@ -5,7 +5,7 @@ use Rattle.asm_source.specs.declared.content.Part.{Part}
 use Rattle.asm_syntax.specs.Lines.{source_of}
 use Rattle.mips_asm.specs.declared.fault.AsmFault.{AsmFault}
 use Rattle.mips_asm.specs.declared.placed.Placed.{Placed}
-use Rattle.mips_asm.specs.Encoding.{Gives}
+use Rattle.mips_asm.specs.Encoding.{StatementGives}
 use Rattle.mips_asm.specs.Layout.{covers, last_end, layout}
 use Rattle.mips_asm.specs.Passes.{Labels}
 use Rattle.mips_asm.specs.Sources.{IsFaultOf, IsImageOf, labels_of}
@@ -37,7 +37,7 @@ ImageOrFault =
 -- the statement writes bytes of its own, and they stand at its place
 abbrev pub StandsAtItsPlace : Labels → List ℕ → Placed → Type 0
 StandsAtItsPlace labels bytes statement =
-    (own : List ℕ) × Gives labels statement.place statement.part.content own
+    (own : List ℕ) × StatementGives labels statement.place statement.part.content own
     × ((k : ℕ) → k < length own → slice_index bytes (statement.place + k) ≡ slice_index own k)
 
 -- The bytes are those of these statements: what each writes stands at its place, zeros stand where

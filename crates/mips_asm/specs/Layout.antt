@@ -20,31 +20,31 @@ abbrev pub padding : ℕ → ℕ → ℕ
 padding n place = if nat_le n 12 then (2 ^ n - place % 2 ^ n) % 2 ^ n else 0
 
 -- how many bytes a label or a statement writes at a place
-unfoldable pub size_of : ℕ → Content → ℕ
-size_of place (Label name) = 0
-size_of place (Words values) = 4 * length values
-size_of place (Bytes numbers) = length numbers
-size_of place (Ascii bytes) = length bytes
-size_of place (Space n) = n
-size_of place (Align n) = padding n place
-size_of place (Org n) = 0
-size_of place (Entry value) = 0
-size_of place (LoadNumber r n) = if takes_one_word n then 4 else 8
-size_of place (LoadAddress r name) = 8
-size_of place (Instruction name arguments) = 4
+unfoldable pub statement_size : ℕ → Content → ℕ
+statement_size place (Label name) = 0
+statement_size place (Words values) = 4 * length values
+statement_size place (Bytes numbers) = length numbers
+statement_size place (Ascii bytes) = length bytes
+statement_size place (Space n) = n
+statement_size place (Align n) = padding n place
+statement_size place (Org n) = 0
+statement_size place (Entry value) = 0
+statement_size place (LoadNumber r n) = if takes_one_word n then 4 else 8
+statement_size place (LoadAddress r name) = 8
+statement_size place (Instruction name arguments) = 4
 
 -- the next place behind what stands at a place
-unfoldable pub after : ℕ → Content → ℕ
-after place (Org n) = n
-after place content = place + size_of place content
+unfoldable pub place_after : ℕ → Content → ℕ
+place_after place (Org n) = n
+place_after place content = place + statement_size place content
 
 -- Each label and statement with the place at which it stands and its size. A label stands where the
 -- next statement would.
 unfoldable pub layout : ℕ → List Part → List Placed
 layout place [] = []
 layout place (part ∷ parts) =
-    record { place = place; size = size_of place part.content; part = part }
-    ∷ layout (after place part.content) parts
+    record { place = place; size = statement_size place part.content; part = part }
+    ∷ layout (place_after place part.content) parts
 
 -- the bytes that an image may have
 abbrev pub limit : ℕ
@@ -63,14 +63,14 @@ abbrev pub IsInside : Placed → Type 0
 IsInside placed = 0 < placed.size → placed.place + placed.size ≤ limit
 
 -- the place behind its last byte, or 0 where it writes none
-abbrev pub end_of : Placed → ℕ
-end_of placed = if nat_lt 0 placed.size then placed.place + placed.size else 0
+abbrev pub statement_end : Placed → ℕ
+statement_end placed = if nat_lt 0 placed.size then placed.place + placed.size else 0
 
 -- the place behind the last byte that is written, or 0 where none is
 unfoldable pub last_end : List Placed → ℕ
 last_end [] = 0
-last_end (placed ∷ more) = max (end_of placed) (last_end more)
+last_end (placed ∷ more) = max (statement_end placed) (last_end more)
 
 -- its size is that of what stands there
 abbrev pub IsSized : Placed → Type 0
-IsSized placed = placed.size ≡ size_of placed.place placed.part.content
+IsSized placed = placed.size ≡ statement_size placed.place placed.part.content

@@ -22,8 +22,8 @@ first_fault line bad before [] = None
 first_fault line bad before (x ∷ xs) =
     if bad before x then Some (line x) else first_fault line bad (before ++ x ∷ []) xs
 
-abbrev pub line_of : Placed → ℕ
-line_of placed = placed.part.line
+abbrev pub statement_line : Placed → ℕ
+statement_line placed = placed.part.line
 
 -- What a pass answers that looks for this kind of fault: the fault, where there is one. Want of
 -- memory
@@ -36,18 +36,18 @@ AnswersPass kind found (Err fault) =
 -- ---- Duplicate: a label that was named before
 
 -- the name, if it is a label
-abbrev pub label_in : Content → Option (List ℕ)
-label_in (Label name) = Some name
-label_in _ = None
+abbrev pub label_said : Content → Option (List ℕ)
+label_said (Label name) = Some name
+label_said _ = None
 
 -- it is the label of this name
 abbrev pub is_label : List ℕ → Part → Bool
-is_label name part = option_map_or (λ label. bytes_eq label name) (label_in part.content) false
+is_label name part = option_map_or (λ label. bytes_eq label name) (label_said part.content) false
 
 -- it is a label, and one of the same name stands before it
 abbrev pub repeats : List Part → Part → Bool
 repeats before part =
-    option_map_or (λ name. list_any (is_label name) before) (label_in part.content) false
+    option_map_or (λ name. list_any (is_label name) before) (label_said part.content) false
 
 -- the first line with a label that was named before
 abbrev pub duplicate_line : List Part → Option ℕ
@@ -56,7 +56,7 @@ duplicate_line parts = first_fault (λ (part : Part). part.line) repeats [] part
 -- ---- TooLong: a byte past the limit
 
 abbrev pub too_long_line : List Placed → Option ℕ
-too_long_line placed = option_map line_of (find is_too_long placed)
+too_long_line placed = option_map statement_line (find is_too_long placed)
 
 -- ---- Overlap: a place that was written before
 
@@ -70,7 +70,7 @@ abbrev pub overlaps : List Placed → Placed → Bool
 overlaps before placed = list_any (meets placed) before
 
 abbrev pub overlap_line : List Placed → Option ℕ
-overlap_line placed = first_fault line_of overlaps [] placed
+overlap_line placed = first_fault statement_line overlaps [] placed
 
 -- ---- UnknownName: a name that no label has
 
@@ -105,4 +105,4 @@ abbrev pub is_unknown : Labels → Placed → Bool
 is_unknown labels placed = content_unknown labels placed.part.content
 
 abbrev pub unknown_line : Labels → List Placed → Option ℕ
-unknown_line labels placed = option_map line_of (find (is_unknown labels) placed)
+unknown_line labels placed = option_map statement_line (find (is_unknown labels) placed)

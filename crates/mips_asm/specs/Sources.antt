@@ -10,8 +10,8 @@ use Rattle.mips_asm.specs.declared.fault.AsmFault.{AsmFault}
 use Rattle.mips_asm.specs.declared.fault.AsmFault.TheVariants.{Syntax, Duplicate, TooLong, Overlap, UnknownName, Range, NoMemory}
 use Rattle.mips_asm.specs.declared.placed.Placed.{Placed}
 use Rattle.mips_asm.specs.Layout.{layout}
-use Rattle.mips_asm.specs.Passes.{Labels, duplicate_line, line_of, overlap_line, place_of, too_long_line, unknown_line}
-use Rattle.mips_asm.specs.Encoding.{Gives, number_of, unsigned_below, where_holds}
+use Rattle.mips_asm.specs.Passes.{Labels, duplicate_line, overlap_line, place_of, statement_line, too_long_line, unknown_line}
+use Rattle.mips_asm.specs.Encoding.{StatementGives, unsigned_below, value_number, where_holds}
 use Rattle.mips_asm.specs.Images.{IsOver, IsWritten, PlacedBytes, byte_over}
 
 -- ---- the entry
@@ -20,46 +20,46 @@ abbrev pub entry_content : Content → Bool
 entry_content (Entry v) = true
 entry_content _ = false
 
-abbrev pub is_entry : Placed → Bool
-is_entry placed = entry_content placed.part.content
+abbrev pub is_entry_statement : Placed → Bool
+is_entry_statement placed = entry_content placed.part.content
 
 -- the last `.entry`, if there is one
 abbrev pub last_entry : List Placed → Option Placed
-last_entry placed = find is_entry (reverse placed)
+last_entry placed = find is_entry_statement (reverse placed)
 
 -- the address itself, where it is a multiple of 4
 abbrev pub aligned_address : ℕ → Option ℕ
 aligned_address n = where_holds (n % 4 == 0) n
 
 -- the entry that a statement says: a multiple of 4 below 2^20
-abbrev pub entry_in : Labels → Content → Option ℕ
-entry_in labels (Entry v) = do
-  n ← number_of labels v
+abbrev pub entry_value : Labels → Content → Option ℕ
+entry_value labels (Entry v) = do
+  n ← value_number labels v
   address ← unsigned_below 1048575 n
   aligned_address address
-entry_in labels _ = None
+entry_value labels _ = None
 
 -- the entry by the last `.entry`, or 0 where there is none
 abbrev pub entry_by : Labels → Option Placed → Option ℕ
 entry_by labels None = Some 0
-entry_by labels (Some placed) = entry_in labels placed.part.content
+entry_by labels (Some placed) = entry_value labels placed.part.content
 
 -- ---- Range: a value out of its range
 
 -- no bytes are what it writes
 abbrev pub GivesNothing : Labels → Placed → Type 0
 GivesNothing labels placed =
-    (bytes : List ℕ) → ¬ Gives labels placed.place placed.part.content bytes
+    (bytes : List ℕ) → ¬ StatementGives labels placed.place placed.part.content bytes
 
 -- the line of the last `.entry`, where what it says is no entry
 abbrev pub bad_entry : Labels → Option Placed → Option ℕ
 bad_entry labels None = None
 bad_entry labels (Some last) =
-    if is_none (entry_in labels last.part.content) then Some (line_of last) else None
+    if is_none (entry_value labels last.part.content) then Some (statement_line last) else None
 
 -- no bytes are what it writes, or it stands in the line of a last `.entry` that says no entry
 abbrev pub IsOutOfRange : Labels → Option ℕ → Placed → Type 0
-IsOutOfRange labels bad placed = GivesNothing labels placed ⊎ (bad ≡ Some (line_of placed))
+IsOutOfRange labels bad placed = GivesNothing labels placed ⊎ (bad ≡ Some (statement_line placed))
 
 -- the line of the first element that is bad
 pub record IsFirst {X : Type 0} (line : X → ℕ) (Bad : X → Type 0) (xs : List X) (n : ℕ) : Type
@@ -75,29 +75,29 @@ pub record IsFirst {X : Type 0} (line : X → ℕ) (Bad : X → Type 0) (xs : Li
 -- ---- sources
 
 -- what each statement writes, at its place
-abbrev pub Writes : Labels → List Placed → List PlacedBytes → Type 0
-Writes labels [] chunks = chunks ≡ []
-Writes labels (placed ∷ more) chunks =
-    (bytes : List ℕ) × (rest : List PlacedBytes) × Gives labels placed.place placed.part.content
+abbrev pub StatementsWrite : Labels → List Placed → List PlacedBytes → Type 0
+StatementsWrite labels [] chunks = chunks ≡ []
+StatementsWrite labels (placed ∷ more) chunks =
+    (bytes : List ℕ) × (rest : List PlacedBytes) × StatementGives labels placed.place placed.part.content
     bytes
-    × (chunks ≡ record { place = placed.place; bytes = bytes } ∷ rest) × Writes labels more rest
+    × (chunks ≡ record { place = placed.place; bytes = bytes } ∷ rest) × StatementsWrite labels more rest
 
 -- what the statements write stands at their places, one written over another, and zeros elsewhere
 abbrev pub StandsOver : Labels → List Placed → List ℕ → Type 0
 StandsOver labels placed bytes =
-    (chunks : List PlacedBytes) × Writes labels placed chunks
+    (chunks : List PlacedBytes) × StatementsWrite labels placed chunks
     × ((k : ℕ) → slice_index bytes k ≡ byte_over 0 chunks k)
 
 -- these are the bytes that the statements write, up to the last one
 abbrev pub HasBytes : Labels → List Placed → List ℕ → Type 0
 HasBytes labels placed bytes =
-    (chunks : List PlacedBytes) × Writes labels placed chunks × IsWritten chunks bytes
+    (chunks : List PlacedBytes) × StatementsWrite labels placed chunks × IsWritten chunks bytes
 
 -- what was answered of a statement: true where its bytes were written at its place, or false where
 -- it writes none
 abbrev pub WritesOne : Labels → Placed → List ℕ → Bool → List ℕ → Type 0
 WritesOne labels placed old true new =
-    (own : List ℕ) × Gives labels placed.place placed.part.content own
+    (own : List ℕ) × StatementGives labels placed.place placed.part.content own
     × IsOver placed.place own old new
 WritesOne labels placed old false new = GivesNothing labels placed
 
@@ -120,7 +120,7 @@ pub record IsPlacedImage (placed : List Placed) (image : PlainImage) : Type 0 wh
   pub no_unknown : unknown_line (labels_of placed) placed ≡ None
   pub entry : entry_by (labels_of placed) (last_entry placed) ≡ Some image.entry
   pub chunks : List PlacedBytes
-  pub writes : Writes (labels_of placed) placed chunks
+  pub writes : StatementsWrite (labels_of placed) placed chunks
   pub bytes : IsWritten chunks image.bytes
 
 -- What may be answered where there is no image: a fault that there is, or want of memory, which
@@ -135,7 +135,7 @@ IsPlacedFault placed (UnknownName n) =
     (overlap_line placed ≡ None) × (unknown_line (labels_of placed) placed ≡ Some n)
 IsPlacedFault placed (Range n) =
     (overlap_line placed ≡ None) × (unknown_line (labels_of placed) placed ≡ None)
-    × IsFirst line_of (IsOutOfRange (labels_of placed) (bad_entry_of placed)) placed n
+    × IsFirst statement_line (IsOutOfRange (labels_of placed) (bad_entry_of placed)) placed n
 IsPlacedFault placed NoMemory = ⊥
 IsPlacedFault placed _ = ⊥
 

@@ -1,8 +1,8 @@
 ghost use Rattle.std.specs.Prelude.{◌≡◌, ◌<◌, ◌≤◌, ◌+◌, ◌%◌, [], IfOk, option_map};
 ghost use Rattle.asm_syntax.specs.Forms.{map_some};
 ghost use Rattle.mips_asm.specs.LabelMaps.{place_in};
-ghost use Rattle.mips_asm.specs.Layout.{limit, padding, size_of};
-ghost use Rattle.mips_asm.specs.Encoding.{Comes, Gives, GivesWords, IsAligned, IsCode, Tells, byte_value, join_some, one_instruction, word_bytes, word_value};
+ghost use Rattle.mips_asm.specs.Layout.{limit, padding, statement_size};
+ghost use Rattle.mips_asm.specs.Encoding.{ComesOf, GivesWords, IsCode, IsPadding, StatementGives, Tells, byte_value, join_some, one_instruction, word_bytes, word_value};
 
 use crate::fields::{number_of, wrapped};
 use crate::instructions::{instruction_at, load_address, load_number, words};
@@ -25,9 +25,9 @@ pub fn add_bytes(
     operands: &mut Vec<Operand>,
     bytes: &mut Vec<u8>,
 ) -> Result<bool, NoMemory>
-    requires inside { 0 < size_of place content.now → place + size_of place content.now ≤ limit }
+    requires inside { 0 < statement_size place content.now → place + statement_size place content.now ≤ limit }
     requires clear { bytes.old.items ≡ [] }
-    ensures { IfOk result (λ written. Tells (Gives (place_in labels.now) place content.now) written bytes.new.items) }
+    ensures { IfOk result (λ written. Tells (StatementGives (place_in labels.now) place content.now) written bytes.new.items) }
 {
     match content {
         Content::Label(_) | Content::Org(_) | Content::Entry(_) => Ok(true),
@@ -77,7 +77,7 @@ fn add_words(
 #[tactic(auto, using(crate::proofs::JoinLaws::join_some_more, crate::proofs::JoinLaws::join_some_stops))]
 fn joined_words(labels: &Labels, values: &[Value], bytes: &mut Vec<u8>) -> Result<bool, NoMemory>
     requires { bytes.old.items ≡ [] }
-    ensures { IfOk result (λ written. Comes (join_some (word_value (place_in labels.now)) values.now) written bytes.new.items) }
+    ensures { IfOk result (λ written. ComesOf (join_some (word_value (place_in labels.now)) values.now) written bytes.new.items) }
 {
     for value in values {
         let Some(word) = word_value(labels, value) else {
@@ -109,7 +109,7 @@ fn word_bytes(number: Integer) -> Option<[u8; 4]>
 #[tactic(auto, using(asm_syntax::proofs::FormLaws::map_some_more, asm_syntax::proofs::FormLaws::map_some_stops))]
 fn joined_bytes(numbers: &[Integer], bytes: &mut Vec<u8>) -> Result<bool, NoMemory>
     requires { bytes.old.items ≡ [] }
-    ensures { IfOk result (λ written. Comes (map_some byte_value numbers.now) written bytes.new.items) }
+    ensures { IfOk result (λ written. ComesOf (map_some byte_value numbers.now) written bytes.new.items) }
 {
     for number in numbers {
         let Some(byte) = byte_value(*number) else {
@@ -133,7 +133,7 @@ fn byte_value(number: Integer) -> Option<u8>
 /// Zeros up to a multiple of 2^power, which is at most 12.
 fn align(power: u64, place: u64, bytes: &mut Vec<u8>) -> Result<bool, NoMemory>
     requires { bytes.old.items ≡ [] }
-    ensures { IfOk result (λ written. Tells (IsAligned power place) written bytes.new.items) }
+    ensures { IfOk result (λ written. Tells (IsPadding power place) written bytes.new.items) }
 {
     if power > 12 {
         return Ok(false);

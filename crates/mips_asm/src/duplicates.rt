@@ -1,5 +1,5 @@
 ghost use Rattle.std.specs.Prelude.{◌≡◌, option_map};
-ghost use Rattle.mips_asm.specs.Passes.{AnswersPass, duplicate_line, label_in};
+ghost use Rattle.mips_asm.specs.Passes.{AnswersPass, duplicate_line, label_said};
 
 use crate::AsmFault;
 use crate::labels::Labels;
@@ -24,7 +24,7 @@ pub fn no_duplicate(alloc: Global, parts: &[Part]) -> Result<(), AsmFault>
 
 /// The name, if it is a label.
 pub fn label_of(content: &Content) -> Option<&[u8]>
-    ensures { option_map (λ name. name.now) result ≡ label_in content.now }
+    ensures { option_map (λ name. name.now) result ≡ label_said content.now }
 {
     match content {
         Content::Label(name) => Some(name.as_slice()),

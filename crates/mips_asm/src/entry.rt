@@ -1,6 +1,6 @@
 ghost use Rattle.std.specs.Prelude.{◌≡◌, ◌<◌, ◌%◌, ◌^◌, Some, None, IfOk, IfSome, MatchResult, option_map};
 ghost use Rattle.mips_asm.specs.LabelMaps.{place_in};
-ghost use Rattle.mips_asm.specs.Sources.{bad_entry, entry_by, entry_content, entry_in, last_entry as last_entry_of};
+ghost use Rattle.mips_asm.specs.Sources.{bad_entry, entry_by, entry_content, entry_value, last_entry as last_entry_of};
 
 use crate::fields::{number_of, unsigned_below};
 use crate::labels::Labels;
@@ -39,7 +39,7 @@ pub fn entry(labels: &Labels, last: Option<&Placed>) -> Result<u32, u64>
 
 /// The entry that a statement says.
 fn entry_in(labels: &Labels, content: &Content) -> Option<u32>
-    ensures value { result ≡ entry_in (place_in labels.now) content.now }
+    ensures value { result ≡ entry_value (place_in labels.now) content.now }
     ensures aligned { IfSome result (λ entry. entry % 4 ≡ 0) }
     ensures private { IfSome result (λ entry. entry < 2 ^ 20) }
 {

@@ -1,6 +1,6 @@
 ghost use Rattle.std.specs.Prelude.{◌≡◌, ◌≤◌, ◌<◌, ◌%◌, ◌^◌, IfSome};
 ghost use Rattle.mips_asm.specs.LabelMaps.{place_in};
-ghost use Rattle.mips_asm.specs.Encoding.{address_of, branch_field, distance, field_of, jump_field, number_of, offset_field, operand_of, signed_immediate, twos_complement, unsigned_below};
+ghost use Rattle.mips_asm.specs.Encoding.{branch_field, distance, field_of, instruction_address, jump_field, offset_field, operand_of, signed_immediate, twos_complement, unsigned_below, value_number};
 
 use crate::labels::Labels;
 use crate::layout::in_range;
@@ -10,7 +10,7 @@ use mips_forms::{Operand, OperandKind};
 
 /// What a value stands for.
 pub fn number_of(labels: &Labels, value: &Value) -> Option<Integer>
-    ensures { result ≡ number_of (place_in labels.now) value.now }
+    ensures { result ≡ value_number (place_in labels.now) value.now }
 {
     match value {
         Value::Number(number) => Some(*number),
@@ -59,7 +59,7 @@ fn signed_immediate(number: Integer) -> Option<u16>
 
 /// The address of an instruction.
 fn address_of(number: Integer) -> Option<u32>
-    ensures { result ≡ address_of number }
+    ensures { result ≡ instruction_address number }
 {
     if !in_range(0, 0xffff_ffff, number) || number.magnitude % 4 != 0 {
         return None;

@@ -1,6 +1,6 @@
 ghost use Rattle.std.specs.Prelude.{◌≡◌, ◌<◌, ◌^◌, ◌∷◌, [], IfOk};
 ghost use Rattle.mips_asm.specs.LabelMaps.{place_in};
-ghost use Rattle.mips_asm.specs.Encoding.{Appends, AreWords, Tells, halves, instruction_at, load_address, load_number, operands_of};
+ghost use Rattle.mips_asm.specs.Encoding.{AppendsFound, AreWords, Tells, instruction_at, load_address, load_halves, load_number, operands_of};
 
 use crate::fields::{operand_of, wrapped};
 use crate::labels::Labels;
@@ -61,7 +61,7 @@ fn add_operands(
     operands: &mut Vec<Operand>,
 ) -> Result<bool, NoMemory>
     requires { pc < 2 ^ 20 }
-    ensures { IfOk result (λ all. Appends (operands_of (place_in labels.now) pc shape.now arguments.now) operands.old.items all operands.new.items) }
+    ensures { IfOk result (λ all. AppendsFound (operands_of (place_in labels.now) pc shape.now arguments.now) operands.old.items all operands.new.items) }
 {
     let [kind, shape @ ..] = shape else {
         return Ok(arguments.is_empty());
@@ -141,7 +141,7 @@ fn one(alloc: Global, ins: Ins) -> Result<List<Ins>, NoMemory>
 
 /// The upper and the lower half of a number into a register.
 fn halves(alloc: Global, register: u8, number: u32) -> Result<List<Ins>, NoMemory>
-    ensures { IfOk result (λ list. list ≡ halves register number) }
+    ensures { IfOk result (λ list. list ≡ load_halves register number) }
 {
     let upper = (number / 0x1_0000) as u16;
     let lower = (number % 0x1_0000) as u16;

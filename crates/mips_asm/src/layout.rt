@@ -1,5 +1,5 @@
 ghost use Rattle.std.specs.Prelude.{◌≡◌, ◌+◌, ◌-◌, ◌^◌, ◌<◌, ◌≤◌, ◌&&◌, nat_lt, All, IfOk, min};
-ghost use Rattle.mips_asm.specs.Layout.{after, in_range, IsInside, IsSized, layout as layout_of, limit, padding, size_of, takes_one_word};
+ghost use Rattle.mips_asm.specs.Layout.{IsInside, IsSized, in_range, layout as layout_of, limit, padding, place_after, statement_size, takes_one_word};
 ghost use Rattle.mips_asm.specs.Passes.{AnswersPass, too_long_line};
 
 use crate::AsmFault;
@@ -41,11 +41,11 @@ fn is_past(place: u64, size: u64) -> bool
 }
 
 /// The next place, behind what stands at a place and has this size.
-#[tactic(auto, unfolding(crate::specs::Layout::after))]
+#[tactic(auto, unfolding(crate::specs::Layout::place_after))]
 fn after(place: u64, size: u64, content: &Content) -> u64
-    requires size { size ≡ size_of place content.now }
+    requires size { size ≡ statement_size place content.now }
     requires inside { 0 < size → place + size ≤ limit }
-    ensures { result ≡ after place content.now }
+    ensures { result ≡ place_after place content.now }
 {
     match content {
         Content::Org(next) => *next,
@@ -54,9 +54,9 @@ fn after(place: u64, size: u64, content: &Content) -> u64
 }
 
 /// How many bytes a label or a statement writes at a place, or the largest number below that.
-#[tactic(auto, unfolding(crate::specs::Layout::size_of))]
+#[tactic(auto, unfolding(crate::specs::Layout::statement_size))]
 fn size(place: u64, content: &Content) -> u64
-    ensures { result ≡ min (size_of place content.now) (2 ^ 64 - 1) }
+    ensures { result ≡ min (statement_size place content.now) (2 ^ 64 - 1) }
 {
     match content {
         Content::Words(values) => (values.len() as u64).saturating_mul(4),

@@ -1,7 +1,7 @@
 ghost use Rattle.std.specs.Prelude.{◌≡◌, ◌+◌, ◌<◌, ◌≤◌, ◌⊎◌, ℕ, Some, All, IfOk, IfErr, OnOk, length, slice_index};
 ghost use Rattle.mips_asm.specs.LabelMaps.{place_in};
 ghost use Rattle.mips_asm.specs.Layout.{IsInside, IsSized, last_end as last_end_of, limit};
-ghost use Rattle.mips_asm.specs.Passes.{line_of};
+ghost use Rattle.mips_asm.specs.Passes.{statement_line};
 ghost use Rattle.mips_asm.specs.Sources.{HasBytes, IsFirst, IsOutOfRange, StandsOver, WritesOne};
 
 use crate::AsmFault;
@@ -27,8 +27,8 @@ pub fn written(
     requires sized { All IsSized placed.now }
     ensures found { IfOk result (HasBytes (place_in labels.now) placed.now) }
     ensures small { IfOk result (λ bytes. length bytes ≤ limit) }
-    ensures entry { IfOk result (λ bytes. All (λ p. ¬ (bad_entry ≡ Some (line_of p))) placed.now) }
-    ensures fault { IfErr result (λ fault. (fault ≡ AsmFault.NoMemory) ⊎ ((n : ℕ) × (fault ≡ AsmFault.Range n) × IsFirst line_of (IsOutOfRange (place_in labels.now) bad_entry) placed.now n)) }
+    ensures entry { IfOk result (λ bytes. All (λ p. ¬ (bad_entry ≡ Some (statement_line p))) placed.now) }
+    ensures fault { IfErr result (λ fault. (fault ≡ AsmFault.NoMemory) ⊎ ((n : ℕ) × (fault ≡ AsmFault.Range n) × IsFirst statement_line (IsOutOfRange (place_in labels.now) bad_entry) placed.now n)) }
 {
     let mut image = zeros(alloc, last_end(placed))?;
     write_all(alloc, labels, bad_entry, placed, &mut image)?;
@@ -48,8 +48,8 @@ fn write_all(
     requires whole { length image.old ≡ last_end_of placed.now }
     requires clear { (k : ℕ) → slice_index image.old k ≡ 0 }
     ensures found { OnOk result (StandsOver (place_in labels.now) placed.now image.new) }
-    ensures entry { OnOk result (All (λ p. ¬ (bad_entry ≡ Some (line_of p))) placed.now) }
-    ensures fault { IfErr result (λ fault. (fault ≡ AsmFault.NoMemory) ⊎ ((n : ℕ) × (fault ≡ AsmFault.Range n) × IsFirst line_of (IsOutOfRange (place_in labels.now) bad_entry) placed.now n)) }
+    ensures entry { OnOk result (All (λ p. ¬ (bad_entry ≡ Some (statement_line p))) placed.now) }
+    ensures fault { IfErr result (λ fault. (fault ≡ AsmFault.NoMemory) ⊎ ((n : ℕ) × (fault ≡ AsmFault.Range n) × IsFirst statement_line (IsOutOfRange (place_in labels.now) bad_entry) placed.now n)) }
 {
     let mut operands = Vec::new(alloc);
     let mut bytes = Vec::new(alloc);

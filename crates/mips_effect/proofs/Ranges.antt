@@ -16,9 +16,9 @@ use Rattle.mips_effect.specs.declared.wish.LoadKind.{LoadKind}
 use Rattle.mips_effect.specs.declared.wish.LoadKind.TheVariants as kind
 use Rattle.mips_effect.specs.declared.wish.Wish.{Wish}
 use Rattle.mips_effect.specs.declared.wish.Wish.TheVariants as wish
-use Rattle.mips_instruction.specs.Numbers.{plus_signed, after, extended}
-use Rattle.mips_effect.specs.Arithmetic.{sum, difference, divided, divided_unsigned}
-use Rattle.mips_effect.specs.Effects.{sources_of, AreCells, IsInRange, IsOpenWish, IsInOneWord, set, sets, sets_or_overflows, writes_only, wishes, loads, stores, stores_left, stores_right, is_open, size_of, at_word, act, judged, is_reserved, is_barred, effect_of, seen_at, number_of, private_bytes, Ranged, Opened}
+use Rattle.mips_instruction.specs.Numbers.{next_address, plus_signed, sign_extended}
+use Rattle.mips_effect.specs.Arithmetic.{difference, divided_unsigned, quotient_and_remainder, sum}
+use Rattle.mips_effect.specs.Effects.{AreCells, IsInOneWord, IsInRange, IsOpenWish, Opened, Ranged, act, alignment_of, at_word, effect_of, effect_or_fault, is_barred, is_open, is_reserved, loads, number_of_seen, private_bytes, seen_at, sets, sets_or_overflows, sources_of, stores, stores_left, stores_right, wishes, write_of_register, writes_only}
 
 -- a register is a cell
 cell : (reg : ℕ) → reg < 32 → reg < 34
@@ -145,7 +145,7 @@ calm mode t written pc npc cells =
     fine mode t (record { writes = written; wish = wish.Nothing; pc = pc; npc = npc }) cells
     (tt, tt) tt
 
-AreCells-set : (reg value : ℕ) → reg < 34 → AreCells (set reg value)
+AreCells-set : (reg value : ℕ) → reg < 34 → AreCells (write_of_register reg value)
 AreCells-set reg value below =
     cond_both (reg == 0) _ _ AreCells (λ _. tt)
     (λ not_zero. let e = eqb-false reg 0 not_zero in (omega arith, below))
@@ -153,7 +153,7 @@ AreCells-set reg value below =
 sets-sound : (mode : Mode) (t reg value following : ℕ) → reg < 34
     → Sound mode t (sets reg value following)
 sets-sound mode t reg value following below =
-    calm mode t (set reg value) following (after following) (AreCells-set reg value below)
+    calm mode t (write_of_register reg value) following (next_address following) (AreCells-set reg value below)
 
 sets_or_overflows-sound : (mode : Mode) (t reg : ℕ) (value : Option ℕ) (following : ℕ) → reg < 34
     → Sound mode t (sets_or_overflows reg value following)
@@ -162,14 +162,14 @@ sets_or_overflows-sound mode t reg (Some value) following below =
     sets-sound mode t reg value following below
 
 divided-sound : (mode : Mode) (t s by following : ℕ)
-    → Sound mode t (writes_only (divided s by) following)
+    → Sound mode t (writes_only (quotient_and_remainder s by) following)
 divided-sound mode t s by following =
-    calm mode t _ following (after following) (cond_both (by == 0) _ _ AreCells (λ _. tt) (λ _. tt))
+    calm mode t _ following (next_address following) (cond_both (by == 0) _ _ AreCells (λ _. tt) (λ _. tt))
 
 divided_unsigned-sound : (mode : Mode) (t s by following : ℕ)
     → Sound mode t (writes_only (divided_unsigned s by) following)
 divided_unsigned-sound mode t s by following =
-    calm mode t _ following (after following) (cond_both (by == 0) _ _ AreCells (λ _. tt) (λ _. tt))
+    calm mode t _ following (next_address following) (cond_both (by == 0) _ _ AreCells (λ _. tt) (λ _. tt))
 
 -- an open access is aligned and, of a guest, private
 open-parts : (size address : ℕ) → is_open Guest size address ≡ true
@@ -179,8 +179,8 @@ open-parts size address open_there =
     (eqb-true (address % size) 0 parts.0, ltb-true address private_bytes parts.1)
 
 -- an aligned access of so many bytes that begins in private memory lies in it
-size-inside : (how : LoadKind) (address : ℕ) → address % size_of how ≡ 0 → address < private_bytes
-    → address + size_of how ≤ private_bytes
+size-inside : (how : LoadKind) (address : ℕ) → address % alignment_of how ≡ 0 → address < private_bytes
+    → address + alignment_of how ≤ private_bytes
 size-inside kind.Byte address aligned inside = omega arith
 size-inside kind.ByteU address aligned inside = omega arith
 size-inside kind.Half address aligned inside = omega arith
@@ -192,9 +192,9 @@ size-inside kind.Right address aligned inside = omega arith
 loads-sound : (mode : Mode) (t : ℕ) (how : LoadKind) (reg address old following : ℕ) → reg < 32
     → Sound mode t (loads mode how reg address old following)
 loads-sound Guest t how reg address old following below =
-    cond_both (is_open Guest (size_of how) address) _ _ (Sound Guest t)
+    cond_both (is_open Guest (alignment_of how) address) _ _ (Sound Guest t)
     (λ open_there.
-    let parts = open-parts (size_of how) address open_there in
+    let parts = open-parts (alignment_of how) address open_there in
     let word : address - address % 4 + 4 ≤ private_bytes = let inside : address < private_bytes =
     parts.1 in omega arith in (
       record {
@@ -211,12 +211,12 @@ loads-sound Guest t how reg address old following below =
     ))
     (λ _. Address-sound Guest t)
 loads-sound Null t how reg address old following below =
-    cond_both (is_open Null (size_of how) address) _ _ (Sound Null t)
+    cond_both (is_open Null (alignment_of how) address) _ _ (Sound Null t)
     (λ open_there. (
       record {
         writes = tt;
         wish =
-            (below, eqb-true (address % size_of how) 0 open_there);
+            (below, eqb-true (address % alignment_of how) 0 open_there);
       },
       λ _. tt,
     ))
@@ -347,7 +347,7 @@ act-sound (Srav rd rt rs) mode s t d following fits own =
     sets-sound mode t rd _ following (cell _ fits.0)
 act-sound (Jr rs) mode s t d following fits own = calm mode t _ _ _ tt
 act-sound (Jalr rd rs) mode s t d following fits own =
-    calm mode t _ _ _ (AreCells-set rd (after following) (cell _ fits.0))
+    calm mode t _ _ _ (AreCells-set rd (next_address following) (cell _ fits.0))
 act-sound (Syscall code) mode s t d following fits own = fine mode t _ tt (fits, tt) tt
 act-sound (Break code) mode s t d following fits own = λ null same. cc
 act-sound (Mfhi rd) mode s t d following fits own = sets-sound mode t rd _ following (cell _ fits)
@@ -381,18 +381,18 @@ act-sound (Sltu rd rs rt) mode s t d following fits own =
 act-sound (Bltz rs imm) mode s t d following fits own = calm mode t _ _ _ tt
 act-sound (Bgez rs imm) mode s t d following fits own = calm mode t _ _ _ tt
 act-sound (Bltzal rs imm) mode s t d following fits own =
-    calm mode t _ _ _ (AreCells-set 31 (after following) (lit< tt))
+    calm mode t _ _ _ (AreCells-set 31 (next_address following) (lit< tt))
 act-sound (Bgezal rs imm) mode s t d following fits own =
-    calm mode t _ _ _ (AreCells-set 31 (after following) (lit< tt))
+    calm mode t _ _ _ (AreCells-set 31 (next_address following) (lit< tt))
 act-sound (J index) mode s t d following fits own = calm mode t _ _ _ tt
 act-sound (Jal index) mode s t d following fits own =
-    calm mode t _ _ _ (AreCells-set 31 (after following) (lit< tt))
+    calm mode t _ _ _ (AreCells-set 31 (next_address following) (lit< tt))
 act-sound (Beq rs rt imm) mode s t d following fits own = calm mode t _ _ _ tt
 act-sound (Bne rs rt imm) mode s t d following fits own = calm mode t _ _ _ tt
 act-sound (Blez rs imm) mode s t d following fits own = calm mode t _ _ _ tt
 act-sound (Bgtz rs imm) mode s t d following fits own = calm mode t _ _ _ tt
 act-sound (Addi rt rs imm) mode s t d following fits own =
-    sets_or_overflows-sound mode t rt (sum s (extended imm)) following (cell _ fits.0)
+    sets_or_overflows-sound mode t rt (sum s (sign_extended imm)) following (cell _ fits.0)
 act-sound (Addiu rt rs imm) mode s t d following fits own =
     sets-sound mode t rt _ following (cell _ fits.0)
 act-sound (Slti rt rs imm) mode s t d following fits own =
@@ -492,13 +492,13 @@ barred-sound Guest t i first second third barred null same = cc
 barred-sound Null t i first second third barred null same = cc
 
 judged-sound : (i : Ins) (mode : Mode) (first second third : Seen) (following : ℕ) → Fits i
-    → Sound mode (number_of second) (judged i mode first second third following)
+    → Sound mode (number_of_seen second) (effect_or_fault i mode first second third following)
 judged-sound i mode first second third following fits =
-    cond_both (is_reserved mode i) (Err fault.Reserved) _ (Sound mode (number_of second))
+    cond_both (is_reserved mode i) (Err fault.Reserved) _ (Sound mode (number_of_seen second))
     (λ _. λ null same. cc)
     (λ own. cond_both (is_barred mode i first second third) (Err fault.Foreign)
-    _ (Sound mode (number_of second)) (barred-sound mode (number_of second) i first second third)
-    (λ _. act-sound i mode (number_of first) (number_of second) (number_of third) following fits
+    _ (Sound mode (number_of_seen second)) (barred-sound mode (number_of_seen second) i first second third)
+    (λ _. act-sound i mode (number_of_seen first) (number_of_seen second) (number_of_seen third) following fits
     own))
 
 -- ---- What the parts say of an answer
@@ -525,17 +525,17 @@ foreign-of t (Ok e) sound same = cc
 foreign-of t (Err why) sound same = sound refl (let equal : why ≡ fault.Foreign = cc in equal)
 
 pub judged-ranged : (i : Ins) (mode : Mode) (first second third : Seen) (following : ℕ) → Fits i
-    → mode ≡ Guest → IfOk (judged i mode first second third following) Ranged
+    → mode ≡ Guest → IfOk (effect_or_fault i mode first second third following) Ranged
 judged-ranged i mode first second third following fits guest =
-    let P : Mode → Type 0 = λ m. IfOk (judged i m first second third following) Ranged in
-    subst P (sym guest) (ranged-of (number_of second) _ (judged-sound i Guest first second third
+    let P : Mode → Type 0 = λ m. IfOk (effect_or_fault i m first second third following) Ranged in
+    subst P (sym guest) (ranged-of (number_of_seen second) _ (judged-sound i Guest first second third
     following fits))
 
 pub judged-opened : (i : Ins) (mode : Mode) (first second third : Seen) (following : ℕ) → Fits i
-    → mode ≡ Null → IfOk (judged i mode first second third following) Opened
+    → mode ≡ Null → IfOk (effect_or_fault i mode first second third following) Opened
 judged-opened i mode first second third following fits null =
-    let P : Mode → Type 0 = λ m. IfOk (judged i m first second third following) Opened in
-    subst P (sym null) (opened-of (number_of second) _ (judged-sound i Null first second third
+    let P : Mode → Type 0 = λ m. IfOk (effect_or_fault i m first second third following) Opened in
+    subst P (sym null) (opened-of (number_of_seen second) _ (judged-sound i Null first second third
     following fits))
 
 pub act-word : (i : Ins) (mode : Mode) (s t d following : ℕ) → Fits i → is_reserved mode i ≡ false
@@ -544,10 +544,10 @@ act-word i mode s t d following fits own below =
     word-of mode t _ (act-sound i mode s t d following fits own) below
 
 pub judged-foreign : (i : Ins) (mode : Mode) (first second third : Seen) (following : ℕ) → Fits i
-    → mode ≡ Null → judged i mode first second third following ≢ Err fault.Foreign
+    → mode ≡ Null → effect_or_fault i mode first second third following ≢ Err fault.Foreign
 judged-foreign i mode first second third following fits null =
-    let P : Mode → Type 0 = λ m. judged i m first second third following ≢ Err fault.Foreign in
-    subst P (sym null) (foreign-of (number_of second) _ (judged-sound i Null first second third
+    let P : Mode → Type 0 = λ m. effect_or_fault i m first second third following ≢ Err fault.Foreign in
+    subst P (sym null) (foreign-of (number_of_seen second) _ (judged-sound i Null first second third
     following fits))
 
 -- the same of an effect that is told

@@ -3,10 +3,10 @@ use Rattle.std.proofs.Common.{◌≡◌, ℕ, ◌^◌, ◌<◌, ◌≤◌, ℤ, 
 use Rattle.std.proofs.lemmas.Int.{ints, to_z-of_z, fits_signed_mul}
 use Rattle.std.specs.Prelude.{unsigned_abs}
 use Rattle.std.specs.Int.{w32, w64, cast_signed, cast_unsigned}
-use Rattle.mips_instruction.specs.Numbers.{signed, reduced_64}
+use Rattle.mips_instruction.specs.Numbers.{reduced_64, signed_number}
 
 -- the signed value of a number of 32 bits
-pub signed-is : (n : ℕ) → n < 2 ^ 32 → cast_signed w32 n ≡ signed n
+pub signed-is : (n : ℕ) → n < 2 ^ 32 → cast_signed w32 n ≡ signed_number n
 signed-is n below = grind (arith, ints)
 
 -- a whole number that 64 signed bits hold, in those bits

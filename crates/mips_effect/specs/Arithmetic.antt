@@ -5,34 +5,34 @@ use Rattle.std.specs.Prelude.{ℕ, ◌+◌, ◌-◌, ◌*◌, ◌/◌, ◌%◌, 
 use Rattle.std.specs.Int.{int_div_euclid}
 use Rattle.xom_base.specs.declared.step.Writes.{Writes}
 use Rattle.xom_base.specs.declared.step.Writes.TheVariants as writes
-use Rattle.mips_instruction.specs.Numbers.{signed, reduced, reduced_64}
+use Rattle.mips_instruction.specs.Numbers.{number_modulo_word, reduced_64, signed_number}
 
 -- ---- Sums, shifts and comparisons
 
 -- the difference that wraps
 abbrev pub minus : ℕ → ℕ → ℕ
-minus s t = reduced (pos s -ℤ pos t)
+minus s t = number_modulo_word (pos s -ℤ pos t)
 
 -- a whole number, where 32 signed bits hold it
 abbrev pub in_32 : ℤ → Option ℕ
 in_32 z =
-    if int_le (pos 0 -ℤ pos (2 ^ 31)) z && int_lt z (pos (2 ^ 31)) then Some (reduced z) else None
+    if int_le (pos 0 -ℤ pos (2 ^ 31)) z && int_lt z (pos (2 ^ 31)) then Some (number_modulo_word z) else None
 
 -- the signed sum, and the signed difference
 abbrev pub sum : ℕ → ℕ → Option ℕ
-sum s t = in_32 (signed s +ℤ signed t)
+sum s t = in_32 (signed_number s +ℤ signed_number t)
 
 abbrev pub difference : ℕ → ℕ → Option ℕ
-difference s t = in_32 (signed s -ℤ signed t)
+difference s t = in_32 (signed_number s -ℤ signed_number t)
 
 -- a shift to the right that copies the sign: the signed number divided by a power of two, rounded
 -- down
 abbrev pub shifted_signed : ℕ → ℕ → ℕ
-shifted_signed t by = reduced (int_div_euclid (signed t) (pos (2 ^ by)))
+shifted_signed t by = number_modulo_word (int_div_euclid (signed_number t) (pos (2 ^ by)))
 
 -- one number is below another as signed numbers
 abbrev pub is_less : ℕ → ℕ → Bool
-is_less s t = int_lt (signed s) (signed t)
+is_less s t = int_lt (signed_number s) (signed_number t)
 
 -- 1 where it holds, else 0
 abbrev pub bit_if : Bool → ℕ
@@ -41,20 +41,20 @@ bit_if holds = if holds then 1 else 0
 -- ---- Products and quotients
 
 -- a number of 64 bits, its high half for HI and its low half for LO
-abbrev pub halves : ℕ → Writes
-halves n = writes.Pair (n / 2 ^ 32) (n % 2 ^ 32)
+abbrev pub pair_of_halves : ℕ → Writes
+pair_of_halves n = writes.Pair (n / 2 ^ 32) (n % 2 ^ 32)
 
 -- the signed product
 abbrev pub product : ℕ → ℕ → ℕ
-product s t = reduced_64 (signed s *ℤ signed t)
+product s t = reduced_64 (signed_number s *ℤ signed_number t)
 
 -- the remainder for HI and the quotient for LO, of signed numbers: the quotient goes towards zero,
 -- and the remainder has the dividend's sign.
 -- Where the divisor is 0 the manual says nothing: LO is 0 and HI the dividend.
-abbrev pub divided : ℕ → ℕ → Writes
-divided s t =
-    if t == 0 then writes.Pair s 0 else writes.Pair (reduced (int_rem (signed s) (signed t)))
-    (reduced (int_div (signed s) (signed t)))
+abbrev pub quotient_and_remainder : ℕ → ℕ → Writes
+quotient_and_remainder s t =
+    if t == 0 then writes.Pair s 0 else writes.Pair (number_modulo_word (int_rem (signed_number s) (signed_number t)))
+    (number_modulo_word (int_div (signed_number s) (signed_number t)))
 
 -- the same of unsigned numbers
 abbrev pub divided_unsigned : ℕ → ℕ → Writes
@@ -63,8 +63,8 @@ divided_unsigned s t = if t == 0 then writes.Pair s 0 else writes.Pair (s % t) (
 -- ---- Parts of words, where place 0 is a word's first byte, the highest
 
 -- the byte at a place, and the half-word that begins there
-abbrev pub byte_of : ℕ → ℕ → ℕ
-byte_of word place = word / 2 ^ (24 - 8 * place) % 2 ^ 8
+abbrev pub byte_in_word : ℕ → ℕ → ℕ
+byte_in_word word place = word / 2 ^ (24 - 8 * place) % 2 ^ 8
 
 abbrev pub half_of : ℕ → ℕ → ℕ
 half_of word place = word / 2 ^ (16 - 8 * place) % 2 ^ 16

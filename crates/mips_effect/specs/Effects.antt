@@ -21,8 +21,8 @@ use Rattle.mips_effect.specs.declared.wish.LoadKind.{LoadKind}
 use Rattle.mips_effect.specs.declared.wish.LoadKind.TheVariants as kind
 use Rattle.mips_effect.specs.declared.wish.Wish.{Wish}
 use Rattle.mips_effect.specs.declared.wish.Wish.TheVariants as wish
-use Rattle.mips_instruction.specs.Numbers.{signed_8, reduced, extended, plus_signed, target, jump_target, after}
-use Rattle.mips_effect.specs.Arithmetic.{minus, sum, difference, shifted_signed, is_less, bit_if, halves, product, divided, divided_unsigned, byte_of, half_of, left_merged, right_merged}
+use Rattle.mips_instruction.specs.Numbers.{jump_target, next_address, number_modulo_word, plus_signed, sign_extended, signed_8, target}
+use Rattle.mips_effect.specs.Arithmetic.{bit_if, byte_in_word, difference, divided_unsigned, half_of, is_less, left_merged, minus, pair_of_halves, product, quotient_and_remainder, right_merged, shifted_signed, sum}
 
 -- the bytes of private memory
 abbrev pub private_bytes : ℕ
@@ -118,9 +118,9 @@ abbrev pub seen_at : ℕ → Seen → Seen
 seen_at cell seen = if cell == 0 then Value 0 else seen
 
 -- the number that is computed with; a foreign cell of null code counts as 0
-abbrev pub number_of : Seen → ℕ
-number_of (Value v) = v
-number_of Foreign = 0
+abbrev pub number_of_seen : Seen → ℕ
+number_of_seen (Value v) = v
+number_of_seen Foreign = 0
 
 abbrev pub is_foreign : Seen → Bool
 is_foreign (Value v) = false
@@ -172,21 +172,21 @@ is_barred Guest i first second third = is_foreign first || (is_foreign second ||
 -- ---- Kinds of effect
 
 -- register reg gets the value; a write to $0 is dropped
-abbrev pub set : ℕ → ℕ → Writes
-set reg value = if reg == 0 then writes.Nothing else writes.One reg value
+abbrev pub write_of_register : ℕ → ℕ → Writes
+write_of_register reg value = if reg == 0 then writes.Nothing else writes.One reg value
 
 -- the cells are written and the wish is made, and the pair goes on
-abbrev pub goes_on : Writes → Wish → ℕ → Result Effect OwnFault
-goes_on written wished following =
-    Ok (record { writes = written; wish = wished; pc = following; npc = after following })
+abbrev pub effect_going_on : Writes → Wish → ℕ → Result Effect OwnFault
+effect_going_on written wished following =
+    Ok (record { writes = written; wish = wished; pc = following; npc = next_address following })
 
 -- only cells are written
 abbrev pub writes_only : Writes → ℕ → Result Effect OwnFault
-writes_only written following = goes_on written wish.Nothing following
+writes_only written following = effect_going_on written wish.Nothing following
 
 -- only a register is set
 abbrev pub sets : ℕ → ℕ → ℕ → Result Effect OwnFault
-sets reg value following = goes_on (set reg value) wish.Nothing following
+sets reg value following = effect_going_on (write_of_register reg value) wish.Nothing following
 
 -- a register is set to what 32 signed bits hold, or it overflows
 abbrev pub sets_or_overflows : ℕ → Option ℕ → ℕ → Result Effect OwnFault
@@ -195,7 +195,7 @@ sets_or_overflows reg (Some value) following = sets reg value following
 
 -- only a wish is made
 abbrev pub wishes : Wish → ℕ → Result Effect OwnFault
-wishes wished following = goes_on writes.Nothing wished following
+wishes wished following = effect_going_on writes.Nothing wished following
 
 -- the cells are written, and behind the instruction that follows comes this address
 abbrev pub jumps : Writes → ℕ → ℕ → Result Effect OwnFault
@@ -204,7 +204,7 @@ jumps written to following =
 
 -- where a branch goes behind the instruction that follows: to the target where it is taken
 abbrev pub way : Bool → ℕ → ℕ → ℕ
-way taken imm following = if taken then target following imm else after following
+way taken imm following = if taken then target following imm else next_address following
 
 abbrev pub branches : Bool → ℕ → ℕ → Result Effect OwnFault
 branches taken imm following = jumps writes.Nothing (way taken imm following) following
@@ -212,7 +212,7 @@ branches taken imm following = jumps writes.Nothing (way taken imm following) fo
 -- a branch with its link in $31, taken or not
 abbrev pub branches_linked : Bool → ℕ → ℕ → Result Effect OwnFault
 branches_linked taken imm following =
-    jumps (set 31 (after following)) (way taken imm following) following
+    jumps (write_of_register 31 (next_address following)) (way taken imm following) following
 
 -- an access at this address is aligned to so many bytes and, of a guest, private
 abbrev pub is_open : Mode → ℕ → ℕ → Bool
@@ -220,19 +220,19 @@ is_open Guest size address = (address % size == 0) && nat_lt address private_byt
 is_open Null size address = address % size == 0
 
 -- the bytes that an address of this kind is a multiple of
-abbrev pub size_of : LoadKind → ℕ
-size_of kind.Byte = 1
-size_of kind.ByteU = 1
-size_of kind.Half = 2
-size_of kind.HalfU = 2
-size_of kind.Word = 4
-size_of kind.Left = 1
-size_of kind.Right = 1
+abbrev pub alignment_of : LoadKind → ℕ
+alignment_of kind.Byte = 1
+alignment_of kind.ByteU = 1
+alignment_of kind.Half = 2
+alignment_of kind.HalfU = 2
+alignment_of kind.Word = 4
+alignment_of kind.Left = 1
+alignment_of kind.Right = 1
 
 -- a load into register reg, which had an old value
 abbrev pub loads : Mode → LoadKind → ℕ → ℕ → ℕ → ℕ → Result Effect OwnFault
 loads mode how reg address old following =
-    if is_open mode (size_of how) address then wishes (wish.Load reg address how old) following
+    if is_open mode (alignment_of how) address then wishes (wish.Load reg address how old) following
     else Err fault.Address
 
 -- a store of so many bytes, aligned to their count
@@ -274,16 +274,16 @@ act (Sllv rd rt rs) mode s t d following = sets rd (t * 2 ^ (s % 2 ^ 5) % 2 ^ 32
 act (Srlv rd rt rs) mode s t d following = sets rd (t / 2 ^ (s % 2 ^ 5)) following
 act (Srav rd rt rs) mode s t d following = sets rd (shifted_signed t (s % 2 ^ 5)) following
 act (Jr rs) mode s t d following = jumps writes.Nothing s following
-act (Jalr rd rs) mode s t d following = jumps (set rd (after following)) s following
+act (Jalr rd rs) mode s t d following = jumps (write_of_register rd (next_address following)) s following
 act (Syscall code) mode s t d following = wishes (wish.Call code) following
 act (Break code) mode s t d following = Err fault.Break
 act (Mfhi rd) mode s t d following = sets rd s following
 act (Mthi rs) mode s t d following = writes_only (writes.One 32 s) following
 act (Mflo rd) mode s t d following = sets rd s following
 act (Mtlo rs) mode s t d following = writes_only (writes.One 33 s) following
-act (Mult rs rt) mode s t d following = writes_only (halves (product s t)) following
-act (Multu rs rt) mode s t d following = writes_only (halves (s * t)) following
-act (Div rs rt) mode s t d following = writes_only (divided s t) following
+act (Mult rs rt) mode s t d following = writes_only (pair_of_halves (product s t)) following
+act (Multu rs rt) mode s t d following = writes_only (pair_of_halves (s * t)) following
+act (Div rs rt) mode s t d following = writes_only (quotient_and_remainder s t) following
 act (Divu rs rt) mode s t d following = writes_only (divided_unsigned s t) following
 act (Add rd rs rt) mode s t d following = sets_or_overflows rd (sum s t) following
 act (Addu rd rs rt) mode s t d following = sets rd ((s + t) % 2 ^ 32) following
@@ -301,15 +301,15 @@ act (Bltzal rs imm) mode s t d following = branches_linked (is_less s 0) imm fol
 act (Bgezal rs imm) mode s t d following = branches_linked (not (is_less s 0)) imm following
 act (J index) mode s t d following = jumps writes.Nothing (jump_target following index) following
 act (Jal index) mode s t d following =
-    jumps (set 31 (after following)) (jump_target following index) following
+    jumps (write_of_register 31 (next_address following)) (jump_target following index) following
 act (Beq rs rt imm) mode s t d following = branches (s == t) imm following
 act (Bne rs rt imm) mode s t d following = branches (not (s == t)) imm following
 act (Blez rs imm) mode s t d following = branches (not (is_less 0 s)) imm following
 act (Bgtz rs imm) mode s t d following = branches (is_less 0 s) imm following
-act (Addi rt rs imm) mode s t d following = sets_or_overflows rt (sum s (extended imm)) following
+act (Addi rt rs imm) mode s t d following = sets_or_overflows rt (sum s (sign_extended imm)) following
 act (Addiu rt rs imm) mode s t d following = sets rt (plus_signed s imm) following
-act (Slti rt rs imm) mode s t d following = sets rt (bit_if (is_less s (extended imm))) following
-act (Sltiu rt rs imm) mode s t d following = sets rt (bit_if (nat_lt s (extended imm))) following
+act (Slti rt rs imm) mode s t d following = sets rt (bit_if (is_less s (sign_extended imm))) following
+act (Sltiu rt rs imm) mode s t d following = sets rt (bit_if (nat_lt s (sign_extended imm))) following
 act (Andi rt rs imm) mode s t d following = sets rt (bit_and s imm) following
 act (Ori rt rs imm) mode s t d following = sets rt (bit_or s imm) following
 act (Xori rt rs imm) mode s t d following = sets rt (bit_xor s imm) following
@@ -351,29 +351,29 @@ act (Xarg rd) mode s t d following = wishes (wish.Ask rd asked.Arg) following
 act (Xwho rd) mode s t d following = wishes (wish.Ask rd asked.Who) following
 
 -- Reserved comes before Foreign, and Foreign before the instruction's own faults
-abbrev pub judged : Ins → Mode → Seen → Seen → Seen → ℕ → Result Effect OwnFault
-judged i mode first second third following =
+abbrev pub effect_or_fault : Ins → Mode → Seen → Seen → Seen → ℕ → Result Effect OwnFault
+effect_or_fault i mode first second third following =
     if is_reserved mode i then Err fault.Reserved
     else (if is_barred mode i first second third then Err fault.Foreign
-    else act i mode (number_of first) (number_of second) (number_of third) following)
+    else act i mode (number_of_seen first) (number_of_seen second) (number_of_seen third) following)
 
 -- the effect of an instruction on what is seen of its cells and on the pair
 unfoldable pub effect_of : Ins → Mode → Seen → Seen → Seen → ℕ → ℕ → Result Effect OwnFault
 effect_of i mode first second third pc npc =
-    judged i mode (seen_at (sources_of i).0 first) (seen_at (sources_of i).1 second)
+    effect_or_fault i mode (seen_at (sources_of i).0 first) (seen_at (sources_of i).1 second)
     (seen_at (sources_of i).2 third) npc
 
 -- ---- Loads
 
 -- the address is a multiple of what the kind wants
 abbrev pub IsAligned : LoadKind → ℕ → Type 0
-IsAligned how address = address % size_of how ≡ 0
+IsAligned how address = address % alignment_of how ≡ 0
 
 -- what a load writes, from the aligned word around its address and from what the register had
 unfoldable pub merge_of : LoadKind → ℕ → ℕ → ℕ → ℕ
-merge_of kind.Byte old address word = reduced (signed_8 (byte_of word (address % 4)))
-merge_of kind.ByteU old address word = byte_of word (address % 4)
-merge_of kind.Half old address word = extended (half_of word (address % 4))
+merge_of kind.Byte old address word = number_modulo_word (signed_8 (byte_in_word word (address % 4)))
+merge_of kind.ByteU old address word = byte_in_word word (address % 4)
+merge_of kind.Half old address word = sign_extended (half_of word (address % 4))
 merge_of kind.HalfU old address word = half_of word (address % 4)
 merge_of kind.Word old address word = word
 merge_of kind.Left old address word = left_merged old (address % 4) word
@@ -400,8 +400,8 @@ IsInOneWord other = Unit {0}
 -- a load is aligned and private, and so is the whole word around its address
 pub record IsPrivateLoad (reg address : ℕ) (how : LoadKind) : Type 0 where
   pub register : reg < 32
-  pub aligned : address % size_of how ≡ 0
-  pub private : address + size_of how ≤ private_bytes
+  pub aligned : address % alignment_of how ≡ 0
+  pub private : address + alignment_of how ≤ private_bytes
   pub word : address - address % 4 + 4 ≤ private_bytes
 
 -- a store is private, of 1 to 4 bytes, and lies within one word
@@ -444,7 +444,7 @@ pub record Ranged (e : Effect) : Type 0 where
 -- what a guest alone can
 abbrev pub IsOpenWish : Wish → Type 0
 IsOpenWish wish.Nothing = Unit {0}
-IsOpenWish (wish.Load reg address how old) = (reg < 32) × (address % size_of how ≡ 0)
+IsOpenWish (wish.Load reg address how old) = (reg < 32) × (address % alignment_of how ≡ 0)
 IsOpenWish (wish.Store address count value) = (1 ≤ count) × (count ≤ 4)
 IsOpenWish (wish.NullLoad reg address) = ⊥
 IsOpenWish (wish.NullStore address value) = ⊥

@@ -1,5 +1,5 @@
 ghost use Rattle.std.specs.Prelude.{◌≡◌, ◌<◌, ◌≤◌, ◌*◌, ◌%◌, ◌^◌};
-ghost use Rattle.mips_effect.specs.Effects.{at_word, is_open, size_of, loads, stores, stores_part, stores_left, stores_right};
+ghost use Rattle.mips_effect.specs.Effects.{alignment_of, at_word, is_open, loads, stores, stores_left, stores_part, stores_right};
 
 use crate::effects::Effect;
 use crate::kinds::wishes;
@@ -144,7 +144,7 @@ fn is_open(mode: Mode, size: u8, address: u32) -> bool
 
 /// What an address of this kind is a multiple of.
 fn size(kind: LoadKind) -> u8
-    ensures value { result ≡ size_of kind }
+    ensures value { result ≡ alignment_of kind }
     ensures some { 0 < result }
 {
     match kind {

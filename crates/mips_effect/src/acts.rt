@@ -1,6 +1,6 @@
 ghost use Rattle.std.specs.Prelude.{◌≡◌, ◌≢◌, IfOk, Err};
 ghost use Rattle.mips_instruction.specs.Words.{Fits};
-ghost use Rattle.mips_effect.specs.Effects.{effect_of, IsInOneWord, Opened, Ranged, act, judged, seen_at, number_of, is_foreign, is_guest_form, is_kernel_form, is_reserved, is_barred};
+ghost use Rattle.mips_effect.specs.Effects.{IsInOneWord, Opened, Ranged, act, effect_of, effect_or_fault, is_barred, is_foreign, is_guest_form, is_kernel_form, is_reserved, number_of_seen, seen_at};
 
 use crate::accesses::{
     loads, low_bytes, null_loads, null_stores, stores, stores_left, stores_right,
@@ -73,7 +73,7 @@ fn judged(
     following: u32,
 ) -> Result<Effect, OwnFault>
     requires { Fits ins }
-    ensures value { result ≡ judged ins mode first second third following }
+    ensures value { result ≡ effect_or_fault ins mode first second third following }
     ensures word { IfOk result (λ e. IsInOneWord e.wish) }
 {
     if is_reserved(mode, ins) {
@@ -160,7 +160,7 @@ fn is_foreign(seen: Seen) -> bool
 
 /// What is computed with.
 fn number_of(seen: Seen) -> u32
-    ensures { result ≡ number_of seen }
+    ensures { result ≡ number_of_seen seen }
 {
     match seen {
         Seen::Value(value) => value,

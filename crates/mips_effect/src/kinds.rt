@@ -1,5 +1,5 @@
 ghost use Rattle.std.specs.Prelude.{◌≡◌};
-ghost use Rattle.mips_effect.specs.Effects.{set, goes_on, writes_only, sets, sets_or_overflows, wishes, jumps, way, branches, branches_linked};
+ghost use Rattle.mips_effect.specs.Effects.{branches, branches_linked, effect_going_on, jumps, sets, sets_or_overflows, way, wishes, write_of_register, writes_only};
 
 use crate::effects::Effect;
 use crate::sums::{after, target};
@@ -80,7 +80,7 @@ pub fn branches_linked(taken: bool, imm: u16, following: u32) -> Result<Effect, 
 
 /// The write of a register, where one to $0 is dropped.
 pub fn set(reg: u8, value: u32) -> Writes
-    ensures { result ≡ set reg value }
+    ensures { result ≡ write_of_register reg value }
 {
     if reg == 0 {
         Writes::Nothing
@@ -102,7 +102,7 @@ fn way(taken: bool, imm: u16, following: u32) -> u32
 
 /// The pair goes on.
 fn goes_on(writes: Writes, wish: Wish, following: u32) -> Result<Effect, OwnFault>
-    ensures { result ≡ goes_on writes wish following }
+    ensures { result ≡ effect_going_on writes wish following }
 {
     Ok(Effect {
         writes,

@@ -1,7 +1,7 @@
 ghost use Rattle.std.specs.Prelude.{◌≡◌, ◌<◌, ◌≤◌, ◌^◌};
 ghost use Rattle.mips_effect.specs.Effects.{IsAligned, merge_of};
-ghost use Rattle.mips_instruction.specs.Numbers.{reduced, signed_8};
-ghost use Rattle.mips_effect.specs.Arithmetic.{byte_of, half_of, left_merged, right_merged};
+ghost use Rattle.mips_instruction.specs.Numbers.{number_modulo_word, signed_8};
+ghost use Rattle.mips_effect.specs.Arithmetic.{byte_in_word, half_of, left_merged, right_merged};
 
 use crate::LoadKind;
 use crate::sums::extended;
@@ -28,7 +28,7 @@ pub fn merge(kind: LoadKind, old: u32, address: u32, word: u32) -> u32
 /// The byte of a word at a place, 0 the highest.
 fn byte(word: u32, place: u8) -> u8
     requires { place < 4 }
-    ensures { result ≡ byte_of word place }
+    ensures { result ≡ byte_in_word word place }
 {
     (word >> (24 - 8 * place) & 0xff) as u8
 }
@@ -43,7 +43,7 @@ fn half(word: u32, place: u8) -> u16
 
 /// A byte, extended by its sign.
 fn extended_byte(byte: u8) -> u32
-    ensures { result ≡ reduced (signed_8 byte) }
+    ensures { result ≡ number_modulo_word (signed_8 byte) }
 {
     i32::from(byte.cast_signed()).cast_unsigned()
 }

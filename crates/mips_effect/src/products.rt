@@ -1,12 +1,12 @@
 ghost use Rattle.std.specs.Prelude.{◌≡◌, ◌<◌, ◌*◌, int_div, int_rem};
-ghost use Rattle.mips_instruction.specs.Numbers.{reduced, signed};
-ghost use Rattle.mips_effect.specs.Arithmetic.{halves, product, divided, divided_unsigned};
+ghost use Rattle.mips_instruction.specs.Numbers.{number_modulo_word, signed_number};
+ghost use Rattle.mips_effect.specs.Arithmetic.{divided_unsigned, pair_of_halves, product, quotient_and_remainder};
 
 use xom_base::Writes;
 
 /// The high half of a number for HI, and its low half for LO.
 pub fn halves(n: u64) -> Writes
-    ensures { result ≡ halves n }
+    ensures { result ≡ pair_of_halves n }
 {
     Writes::Pair {
         hi: (n >> 32) as u32,
@@ -30,7 +30,7 @@ pub fn product_unsigned(s: u32, t: u32) -> u64
 
 /// The signed remainder for HI and the signed quotient for LO; 0 has the dividend and 0 for these.
 pub fn divided(s: u32, t: u32) -> Writes
-    ensures { result ≡ divided s t }
+    ensures { result ≡ quotient_and_remainder s t }
 {
     if t == 0 {
         return undivided(s);
@@ -64,7 +64,7 @@ fn undivided(s: u32) -> Writes
 /// The signed remainder, which has the dividend's sign.
 fn remainder(s: u32, t: u32) -> u32
     requires { 0 < t }
-    ensures { result ≡ reduced (int_rem (signed s) (signed t)) }
+    ensures { result ≡ number_modulo_word (int_rem (signed_number s) (signed_number t)) }
 {
     s.cast_signed()
         .wrapping_rem(t.cast_signed())
@@ -74,7 +74,7 @@ fn remainder(s: u32, t: u32) -> u32
 /// The signed quotient, towards zero. The least number divided by -1 is itself.
 fn quotient(s: u32, t: u32) -> u32
     requires { 0 < t }
-    ensures { result ≡ reduced (int_div (signed s) (signed t)) }
+    ensures { result ≡ number_modulo_word (int_div (signed_number s) (signed_number t)) }
 {
     s.cast_signed()
         .wrapping_div(t.cast_signed())

@@ -1,5 +1,5 @@
 ghost use Rattle.std.specs.Prelude.{◌≡◌, ◌<◌, ◌^◌};
-ghost use Rattle.mips_instruction.specs.Numbers.{plus_signed, target, jump_target, after, extended, signed};
+ghost use Rattle.mips_instruction.specs.Numbers.{jump_target, next_address, plus_signed, sign_extended, signed_number, target};
 ghost use Rattle.mips_effect.specs.Arithmetic.{minus, sum, difference, is_less, bit_if, shifted_signed};
 
 /// The sum of a number and a sign-extended immediate. It wraps.
@@ -26,14 +26,14 @@ pub fn jump_target(following: u32, index: u32) -> u32
 
 /// The address of the instruction after the one at this address.
 pub fn after(address: u32) -> u32
-    ensures { result ≡ after address }
+    ensures { result ≡ next_address address }
 {
     address.wrapping_add(4)
 }
 
 /// An immediate, extended by its sign.
 pub fn extended(imm: u16) -> u32
-    ensures { result ≡ extended imm }
+    ensures { result ≡ sign_extended imm }
 {
     i32::from(imm.cast_signed()).cast_unsigned()
 }

@@ -11,16 +11,16 @@ use Rattle.mips_forms.specs.declared.operand.Operand.{Operand}
 use Rattle.mips_forms.specs.declared.operand.Operand.TheVariants.{Register, Shift, Signed, Unsigned, Code, Branch, Jump, Offset}
 use Rattle.mips_forms.specs.declared.operand.OperandKind.{OperandKind}
 use Rattle.mips_forms.specs.declared.operand.OperandKind.TheVariants as kinds
-use Rattle.mips_forms.specs.Forms.{form_of, kind_of, IsNoMnemonic, Takes}
-use Rattle.mips_forms.specs.Builds.{Row, in_rows, rows_of, plain_rows, register_rows, two_registers_rows, three_registers_rows, sum_rows, slot_rows, shift_rows, signed_rows, unsigned_rows, upper_rows, access_rows, compare_rows, test_rows, jump_rows, coded_rows, build_of, shapes, sample_of, takes, kinds_of}
+use Rattle.mips_forms.specs.Forms.{FormTakes, IsNoMnemonic, form_of, operand_kind_of}
+use Rattle.mips_forms.specs.Builds.{Row, access_rows, build_of, coded_rows, compare_rows, in_rows, jump_rows, kinds_of, plain_rows, register_rows, rows_of_shifts, rows_with_operands, sample_of, shapes, signed_rows, slot_rows, sum_rows, takes, test_rows, three_registers_rows, two_registers_rows, unsigned_rows, upper_rows}
 use Rattle.mips_forms.specs.FormLaws.{FormsDiffer, KindsOfForms, OperandsFit}
 
 -- ---- From the instruction to its form and back
 
 -- each instruction is built of its own form
 pub built_form : (i : Ins) → build_of (form_of i).0 (form_of i).1 ≡ Some i
-unfolding rows_of plain_rows register_rows two_registers_rows three_registers_rows sum_rows
-    slot_rows shift_rows signed_rows unsigned_rows upper_rows access_rows compare_rows test_rows
+unfolding rows_with_operands plain_rows register_rows two_registers_rows three_registers_rows sum_rows
+    slot_rows rows_of_shifts signed_rows unsigned_rows upper_rows access_rows compare_rows test_rows
     jump_rows coded_rows
 built_form (Sll rd rt sa) = refl
 built_form (Srl rd rt sa) = refl
@@ -133,9 +133,9 @@ in_rows-form name operands i (row ∷ rows) all is =
     ]
 
 -- each row of the tables makes an instruction of its form
-rows_of-hold : (operands : List Operand) → AllByRecursion (Holds operands) (rows_of operands)
-unfolding rows_of plain_rows register_rows two_registers_rows three_registers_rows sum_rows
-    slot_rows shift_rows signed_rows unsigned_rows upper_rows access_rows compare_rows test_rows
+rows_of-hold : (operands : List Operand) → AllByRecursion (Holds operands) (rows_with_operands operands)
+unfolding rows_with_operands plain_rows register_rows two_registers_rows three_registers_rows sum_rows
+    slot_rows rows_of_shifts signed_rows unsigned_rows upper_rows access_rows compare_rows test_rows
     jump_rows coded_rows
 rows_of-hold [] = (refl, (refl, (refl, tt)))
 rows_of-hold (Register a ∷ []) = (
@@ -205,7 +205,7 @@ rows_of-hold _ = tt
 pub build_of-form : (name : List ℕ) (operands : List Operand) (i : Ins)
     → build_of name operands ≡ Some i → form_of i ≡ (name, operands)
 build_of-form name operands i is =
-    in_rows-form name operands i (rows_of operands) (rows_of-hold operands) is
+    in_rows-form name operands i (rows_with_operands operands) (rows_of-hold operands) is
 
 -- what has that form is built
 pub form-build_of : (name : List ℕ) (operands : List Operand) (i : Ins)
@@ -216,8 +216,8 @@ form-build_of name operands i is =
 -- ---- Which operands a mnemonic takes
 
 pub kinds_of_forms : KindsOfForms
-unfolding kinds_of rows_of plain_rows register_rows two_registers_rows three_registers_rows sum_rows
-    slot_rows shift_rows signed_rows unsigned_rows upper_rows access_rows compare_rows test_rows
+unfolding kinds_of rows_with_operands plain_rows register_rows two_registers_rows three_registers_rows sum_rows
+    slot_rows rows_of_shifts signed_rows unsigned_rows upper_rows access_rows compare_rows test_rows
     jump_rows coded_rows
 kinds_of_forms (Sll rd rt sa) = refl
 kinds_of_forms (Srl rd rt sa) = refl
@@ -312,7 +312,7 @@ find-passes test (first ∷ all) shape is =
     ]
 
 -- a sample is of its kind
-sample_of-kind : (kind : OperandKind) → kind_of (sample_of kind) ≡ kind
+sample_of-kind : (kind : OperandKind) → operand_kind_of (sample_of kind) ≡ kind
 sample_of-kind kinds.Register = refl
 sample_of-kind kinds.Shift = refl
 sample_of-kind kinds.Signed = refl
@@ -322,10 +322,10 @@ sample_of-kind kinds.Branch = refl
 sample_of-kind kinds.Jump = refl
 sample_of-kind kinds.Offset = refl
 
-kind_of-sample : (shape : List OperandKind) → map kind_of (map sample_of shape) ≡ shape
+kind_of-sample : (shape : List OperandKind) → map operand_kind_of (map sample_of shape) ≡ shape
 kind_of-sample [] = refl
 kind_of-sample (kind ∷ shape) =
-    ap (λ (first : OperandKind). first ∷ map kind_of (map sample_of shape)) (sample_of-kind kind)
+    ap (λ (first : OperandKind). first ∷ map operand_kind_of (map sample_of shape)) (sample_of-kind kind)
     ∙ ap (λ (rest : List OperandKind). kind ∷ rest) (kind_of-sample shape)
 
 -- a value that is there
@@ -335,7 +335,7 @@ some_of None there = absurd (let bad : false ≡ true = there in cc)
 
 -- the kinds of a mnemonic are those of an instruction
 pub kinds_of-Takes : (name : List ℕ) (shape : List OperandKind) → kinds_of name ≡ Some shape
-    → Takes name shape
+    → FormTakes name shape
 unfolding kinds_of
 kinds_of-Takes name shape is =
     let built = some_of (build_of name (map sample_of shape)) (find-passes (takes name) shapes shape
@@ -343,13 +343,13 @@ kinds_of-Takes name shape is =
     let form = build_of-form name (map sample_of shape) built.0 built.1 in (
       built.0,
       ap (λ (form : List ℕ × List Operand). form.0) form,
-      ap (λ (form : List ℕ × List Operand). map kind_of form.1) form ∙ kind_of-sample shape,
+      ap (λ (form : List ℕ × List Operand). map operand_kind_of form.1) form ∙ kind_of-sample shape,
     )
 
 -- a name without kinds is no mnemonic
 pub kinds_of-none : (name : List ℕ) → kinds_of name ≡ None → IsNoMnemonic name
 kinds_of-none name none i is =
-    let found : None ≡ Some (map kind_of (form_of i).1) = sym none ∙ ap kinds_of (sym is)
+    let found : None ≡ Some (map operand_kind_of (form_of i).1) = sym none ∙ ap kinds_of (sym is)
     ∙ kinds_of_forms i in
     cc
 

@@ -63,8 +63,8 @@ three_registers_rows a b c =
     ∷ sum_rows a b c
 
 -- two registers and a shift amount
-unfoldable pub shift_rows : (a b amount : ℕ) → List Row
-shift_rows a b amount =
+unfoldable pub rows_of_shifts : (a b amount : ℕ) → List Row
+rows_of_shifts a b amount =
     (codes "sll", Sll a b amount) ∷ (codes "srl", Srl a b amount) ∷ (codes "sra", Sra a b amount)
     ∷ []
 
@@ -118,25 +118,25 @@ coded_rows code =
     (codes "syscall", Syscall code) ∷ (codes "break", Break code) ∷ []
 
 -- the rows whose instructions take these operands
-unfoldable pub rows_of : List Operand → List Row
-rows_of [] = plain_rows
-rows_of (Register a ∷ []) = register_rows a
-rows_of (Register a ∷ Register b ∷ []) = two_registers_rows a b
-rows_of (Register a ∷ Register b ∷ Register c ∷ []) = three_registers_rows a b c
-rows_of (Register a ∷ Register b ∷ Shift amount ∷ []) = shift_rows a b amount
-rows_of (Register a ∷ Register b ∷ Signed imm ∷ []) = signed_rows a b imm
-rows_of (Register a ∷ Register b ∷ Unsigned imm ∷ []) = unsigned_rows a b imm
-rows_of (Register a ∷ Unsigned imm ∷ []) = upper_rows a imm
-rows_of (Register a ∷ Offset imm base ∷ []) = access_rows a imm base
-rows_of (Register a ∷ Register b ∷ Branch imm ∷ []) = compare_rows a b imm
-rows_of (Register a ∷ Branch imm ∷ []) = test_rows a imm
-rows_of (Jump index ∷ []) = jump_rows index
-rows_of (Code code ∷ []) = coded_rows code
-rows_of _ = []
+unfoldable pub rows_with_operands : List Operand → List Row
+rows_with_operands [] = plain_rows
+rows_with_operands (Register a ∷ []) = register_rows a
+rows_with_operands (Register a ∷ Register b ∷ []) = two_registers_rows a b
+rows_with_operands (Register a ∷ Register b ∷ Register c ∷ []) = three_registers_rows a b c
+rows_with_operands (Register a ∷ Register b ∷ Shift amount ∷ []) = rows_of_shifts a b amount
+rows_with_operands (Register a ∷ Register b ∷ Signed imm ∷ []) = signed_rows a b imm
+rows_with_operands (Register a ∷ Register b ∷ Unsigned imm ∷ []) = unsigned_rows a b imm
+rows_with_operands (Register a ∷ Unsigned imm ∷ []) = upper_rows a imm
+rows_with_operands (Register a ∷ Offset imm base ∷ []) = access_rows a imm base
+rows_with_operands (Register a ∷ Register b ∷ Branch imm ∷ []) = compare_rows a b imm
+rows_with_operands (Register a ∷ Branch imm ∷ []) = test_rows a imm
+rows_with_operands (Jump index ∷ []) = jump_rows index
+rows_with_operands (Code code ∷ []) = coded_rows code
+rows_with_operands _ = []
 
 -- the instruction with this mnemonic and these operands
 abbrev pub build_of : List ℕ → List Operand → Option Ins
-build_of name operands = in_rows name (rows_of operands)
+build_of name operands = in_rows name (rows_with_operands operands)
 
 -- ---- Which operands a mnemonic takes
 

@@ -98,15 +98,15 @@ form_of (Xarg rd) = (codes "xarg", Register rd ∷ [])
 form_of (Xwho rd) = (codes "xwho", Register rd ∷ [])
 
 -- the kind of an operand
-abbrev pub kind_of : Operand → OperandKind
-kind_of (Register reg) = kinds.Register
-kind_of (Shift amount) = kinds.Shift
-kind_of (Signed imm) = kinds.Signed
-kind_of (Unsigned imm) = kinds.Unsigned
-kind_of (Code code) = kinds.Code
-kind_of (Branch imm) = kinds.Branch
-kind_of (Jump index) = kinds.Jump
-kind_of (Offset imm base) = kinds.Offset
+abbrev pub operand_kind_of : Operand → OperandKind
+operand_kind_of (Register reg) = kinds.Register
+operand_kind_of (Shift amount) = kinds.Shift
+operand_kind_of (Signed imm) = kinds.Signed
+operand_kind_of (Unsigned imm) = kinds.Unsigned
+operand_kind_of (Code code) = kinds.Code
+operand_kind_of (Branch imm) = kinds.Branch
+operand_kind_of (Jump index) = kinds.Jump
+operand_kind_of (Offset imm base) = kinds.Offset
 
 -- the operand fits its field
 abbrev pub InRange : Operand → Type 0
@@ -129,12 +129,12 @@ abbrev pub IsNoMnemonic : List ℕ → Type 0
 IsNoMnemonic name = (i : Ins) → (form_of i).0 ≢ name
 
 -- an instruction with this mnemonic has operands of these kinds
-abbrev pub Takes : List ℕ → List OperandKind → Type 0
-Takes name shape = (i : Ins) × ((form_of i).0 ≡ name) × (map kind_of (form_of i).1 ≡ shape)
+abbrev pub FormTakes : List ℕ → List OperandKind → Type 0
+FormTakes name shape = (i : Ins) × ((form_of i).0 ≡ name) × (map operand_kind_of (form_of i).1 ≡ shape)
 
 -- the operands as a list, in the order of the text
-abbrev pub listed : Operands → List Operand
-listed Empty = []
-listed (One a) = a ∷ []
-listed (Two a b) = a ∷ b ∷ []
-listed (Three a b c) = a ∷ b ∷ c ∷ []
+abbrev pub operand_list : Operands → List Operand
+operand_list Empty = []
+operand_list (One a) = a ∷ []
+operand_list (Two a b) = a ∷ b ∷ []
+operand_list (Three a b c) = a ∷ b ∷ c ∷ []

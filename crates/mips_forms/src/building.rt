@@ -1,7 +1,7 @@
 ghost use Rattle.std.specs.Prelude.{◌≡◌, ◌↔◌, ◌∷◌, [], MatchOption, false};
 ghost use Rattle.std.specs.Str.{bytes_eq};
-ghost use Rattle.mips_forms.specs.Forms.{form_of, Takes, IsNoMnemonic};
-ghost use Rattle.mips_forms.specs.Builds.{build_of, kinds_of, in_rows, plain_rows, register_rows, two_registers_rows, three_registers_rows, sum_rows, slot_rows, shift_rows, signed_rows, unsigned_rows, upper_rows, access_rows, compare_rows, test_rows, jump_rows, coded_rows};
+ghost use Rattle.mips_forms.specs.Forms.{FormTakes, IsNoMnemonic, form_of};
+ghost use Rattle.mips_forms.specs.Builds.{access_rows, build_of, coded_rows, compare_rows, in_rows, jump_rows, kinds_of, plain_rows, register_rows, rows_of_shifts, signed_rows, slot_rows, sum_rows, test_rows, three_registers_rows, two_registers_rows, unsigned_rows, upper_rows};
 
 use crate::OperandKind::{Branch, Code, Jump, Offset, Register, Shift, Signed, Unsigned};
 use crate::{Operand, OperandKind};
@@ -19,14 +19,14 @@ pub fn build(name: &[u8], operands: &[Operand]) -> Option<Ins>
 /// The kinds of the operands that a mnemonic takes, in the order of the text, and None where no
 /// instruction has that mnemonic.
 pub fn kinds(name: &[u8]) -> Option<&'static [OperandKind]>
-    ensures exact { MatchOption result (IsNoMnemonic name.now) (λ shape. Takes name.now shape.now) }
+    ensures exact { MatchOption result (IsNoMnemonic name.now) (λ shape. FormTakes name.now shape.now) }
     ensures value { MatchOption result (kinds_of name.now ≡ None) (λ shape. kinds_of name.now ≡ Some shape.now) }
 {
     found_kinds(name)
 }
 
 /// The kinds of the tables in which this mnemonic stands.
-#[tactic(auto, unfolding(crate::specs::Builds::kinds_of, crate::specs::Builds::rows_of))]
+#[tactic(auto, unfolding(crate::specs::Builds::kinds_of, crate::specs::Builds::rows_with_operands))]
 fn found_kinds(name: &[u8]) -> Option<&'static [OperandKind]>
     ensures { MatchOption result (kinds_of name.now ≡ None) (λ shape. kinds_of name.now ≡ Some shape.now) }
 {
@@ -62,7 +62,7 @@ fn found_kinds(name: &[u8]) -> Option<&'static [OperandKind]>
 }
 
 /// The row with this mnemonic among those of these operands.
-#[tactic(auto, unfolding(crate::specs::Builds::rows_of))]
+#[tactic(auto, unfolding(crate::specs::Builds::rows_with_operands))]
 fn found(name: &[u8], operands: &[Operand]) -> Option<Ins>
     ensures { result ≡ build_of name.now operands.now }
 {
@@ -249,9 +249,9 @@ fn slot(name: &[u8], rs: u8, rt: u8, rd: u8) -> Option<Ins>
 }
 
 /// Two registers and a shift amount.
-#[tactic(auto, unfolding(crate::specs::Builds::shift_rows))]
+#[tactic(auto, unfolding(crate::specs::Builds::rows_of_shifts))]
 fn shift(name: &[u8], rd: u8, rt: u8, sa: u8) -> Option<Ins>
-    ensures { result ≡ in_rows name.now (shift_rows rd rt sa) }
+    ensures { result ≡ in_rows name.now (rows_of_shifts rd rt sa) }
 {
     if is(name, b"sll") {
         Some(Ins::Sll { rd, rt, sa })

@@ -1,5 +1,5 @@
 ghost use Rattle.std.specs.Prelude.{◌≡◌, [], ◌∷◌};
-ghost use Rattle.mips_forms.specs.Forms.{form_of, listed};
+ghost use Rattle.mips_forms.specs.Forms.{form_of, operand_list};
 
 use crate::{Operand, Operands};
 use mips_instruction::Ins;
@@ -16,7 +16,7 @@ pub struct TextForm {
 /// The mnemonic of an instruction, and its operands in the order of the text. The operands are not
 /// looked at: one that doesn't fit its field is handed on as it is.
 pub fn form(ins: Ins) -> TextForm
-    ensures { form_of ins ≡ (result.name.now, listed result.operands) }
+    ensures { form_of ins ≡ (result.name.now, operand_list result.operands) }
 {
     match ins {
         Ins::Sll { rd, rt, sa } => shift("sll", rd, rt, sa),
@@ -104,7 +104,7 @@ pub fn form(ins: Ins) -> TextForm
 /// No operand.
 fn plain(name: &'static str) -> TextForm
     ensures name { result.name.now ≡ name.now }
-    ensures operands { listed result.operands ≡ [] }
+    ensures operands { operand_list result.operands ≡ [] }
 {
     TextForm {
         name,
@@ -115,7 +115,7 @@ fn plain(name: &'static str) -> TextForm
 /// One register.
 fn register(name: &'static str, a: u8) -> TextForm
     ensures name { result.name.now ≡ name.now }
-    ensures operands { listed result.operands ≡ Operand.Register a ∷ [] }
+    ensures operands { operand_list result.operands ≡ Operand.Register a ∷ [] }
 {
     TextForm {
         name,
@@ -126,7 +126,7 @@ fn register(name: &'static str, a: u8) -> TextForm
 /// Two registers.
 fn two_registers(name: &'static str, a: u8, b: u8) -> TextForm
     ensures name { result.name.now ≡ name.now }
-    ensures operands { listed result.operands ≡ Operand.Register a ∷ Operand.Register b ∷ [] }
+    ensures operands { operand_list result.operands ≡ Operand.Register a ∷ Operand.Register b ∷ [] }
 {
     TextForm {
         name,
@@ -137,7 +137,7 @@ fn two_registers(name: &'static str, a: u8, b: u8) -> TextForm
 /// Three registers.
 fn three_registers(name: &'static str, a: u8, b: u8, c: u8) -> TextForm
     ensures name { result.name.now ≡ name.now }
-    ensures operands { listed result.operands ≡ Operand.Register a ∷ Operand.Register b ∷ Operand.Register c ∷ [] }
+    ensures operands { operand_list result.operands ≡ Operand.Register a ∷ Operand.Register b ∷ Operand.Register c ∷ [] }
 {
     TextForm {
         name,
@@ -152,7 +152,7 @@ fn three_registers(name: &'static str, a: u8, b: u8, c: u8) -> TextForm
 /// Two registers and a shift amount.
 fn shift(name: &'static str, a: u8, b: u8, amount: u8) -> TextForm
     ensures name { result.name.now ≡ name.now }
-    ensures operands { listed result.operands ≡ Operand.Register a ∷ Operand.Register b ∷ Operand.Shift amount ∷ [] }
+    ensures operands { operand_list result.operands ≡ Operand.Register a ∷ Operand.Register b ∷ Operand.Shift amount ∷ [] }
 {
     TextForm {
         name,
@@ -167,7 +167,7 @@ fn shift(name: &'static str, a: u8, b: u8, amount: u8) -> TextForm
 /// Two registers and an immediate with its sign.
 fn signed(name: &'static str, a: u8, b: u8, imm: u16) -> TextForm
     ensures name { result.name.now ≡ name.now }
-    ensures operands { listed result.operands ≡ Operand.Register a ∷ Operand.Register b ∷ Operand.Signed imm ∷ [] }
+    ensures operands { operand_list result.operands ≡ Operand.Register a ∷ Operand.Register b ∷ Operand.Signed imm ∷ [] }
 {
     TextForm {
         name,
@@ -182,7 +182,7 @@ fn signed(name: &'static str, a: u8, b: u8, imm: u16) -> TextForm
 /// Two registers and an immediate without a sign.
 fn unsigned(name: &'static str, a: u8, b: u8, imm: u16) -> TextForm
     ensures name { result.name.now ≡ name.now }
-    ensures operands { listed result.operands ≡ Operand.Register a ∷ Operand.Register b ∷ Operand.Unsigned imm ∷ [] }
+    ensures operands { operand_list result.operands ≡ Operand.Register a ∷ Operand.Register b ∷ Operand.Unsigned imm ∷ [] }
 {
     TextForm {
         name,
@@ -197,7 +197,7 @@ fn unsigned(name: &'static str, a: u8, b: u8, imm: u16) -> TextForm
 /// A register and an immediate without a sign.
 fn upper(name: &'static str, a: u8, imm: u16) -> TextForm
     ensures name { result.name.now ≡ name.now }
-    ensures operands { listed result.operands ≡ Operand.Register a ∷ Operand.Unsigned imm ∷ [] }
+    ensures operands { operand_list result.operands ≡ Operand.Register a ∷ Operand.Unsigned imm ∷ [] }
 {
     TextForm {
         name,
@@ -208,7 +208,7 @@ fn upper(name: &'static str, a: u8, imm: u16) -> TextForm
 /// A register, and an offset from a base register.
 fn access(name: &'static str, a: u8, imm: u16, base: u8) -> TextForm
     ensures name { result.name.now ≡ name.now }
-    ensures operands { listed result.operands ≡ Operand.Register a ∷ Operand.Offset imm base ∷ [] }
+    ensures operands { operand_list result.operands ≡ Operand.Register a ∷ Operand.Offset imm base ∷ [] }
 {
     TextForm {
         name,
@@ -219,7 +219,7 @@ fn access(name: &'static str, a: u8, imm: u16, base: u8) -> TextForm
 /// Two registers and a branch target.
 fn compare(name: &'static str, a: u8, b: u8, imm: u16) -> TextForm
     ensures name { result.name.now ≡ name.now }
-    ensures operands { listed result.operands ≡ Operand.Register a ∷ Operand.Register b ∷ Operand.Branch imm ∷ [] }
+    ensures operands { operand_list result.operands ≡ Operand.Register a ∷ Operand.Register b ∷ Operand.Branch imm ∷ [] }
 {
     TextForm {
         name,
@@ -234,7 +234,7 @@ fn compare(name: &'static str, a: u8, b: u8, imm: u16) -> TextForm
 /// A register and a branch target.
 fn test(name: &'static str, a: u8, imm: u16) -> TextForm
     ensures name { result.name.now ≡ name.now }
-    ensures operands { listed result.operands ≡ Operand.Register a ∷ Operand.Branch imm ∷ [] }
+    ensures operands { operand_list result.operands ≡ Operand.Register a ∷ Operand.Branch imm ∷ [] }
 {
     TextForm {
         name,
@@ -245,7 +245,7 @@ fn test(name: &'static str, a: u8, imm: u16) -> TextForm
 /// A jump target.
 fn jump(name: &'static str, index: u32) -> TextForm
     ensures name { result.name.now ≡ name.now }
-    ensures operands { listed result.operands ≡ Operand.Jump index ∷ [] }
+    ensures operands { operand_list result.operands ≡ Operand.Jump index ∷ [] }
 {
     TextForm {
         name,
@@ -256,7 +256,7 @@ fn jump(name: &'static str, index: u32) -> TextForm
 /// A code.
 fn coded(name: &'static str, code: u32) -> TextForm
     ensures name { result.name.now ≡ name.now }
-    ensures operands { listed result.operands ≡ Operand.Code code ∷ [] }
+    ensures operands { operand_list result.operands ≡ Operand.Code code ∷ [] }
 {
     TextForm {
         name,

@@ -226,47 +226,47 @@ function_of w = w % 2 ^ 6
 abbrev pub imm_of : ℕ → ℕ
 imm_of w = w % 2 ^ 16
 
-abbrev pub code_of : ℕ → ℕ
-code_of w = w / 2 ^ 6 % 2 ^ 20
+abbrev pub code_field : ℕ → ℕ
+code_field w = w / 2 ^ 6 % 2 ^ 20
 
-abbrev pub index_of : ℕ → ℕ
-index_of w = w % 2 ^ 26
+abbrev pub index_field : ℕ → ℕ
+index_field w = w % 2 ^ 26
 
 -- a row of the table, where the fields that it doesn't name are zero
-abbrev pub row : Bool → Ins → Option Ins
-row clear i = if clear then Some i else None
+abbrev pub row_if_clear : Bool → Ins → Option Ins
+row_if_clear clear i = if clear then Some i else None
 
 -- SPECIAL, by function
 unfoldable pub special_of : (rs rt rd sa function code : ℕ) → Option Ins
 special_of rs rt rd sa function code =
-    if function == 0 then row (rs == 0) (Sll rd rt sa)
-    else (if function == 2 then row (rs == 0) (Srl rd rt sa)
-    else (if function == 3 then row (rs == 0) (Sra rd rt sa)
-    else (if function == 4 then row (sa == 0) (Sllv rd rt rs)
-    else (if function == 6 then row (sa == 0) (Srlv rd rt rs)
-    else (if function == 7 then row (sa == 0) (Srav rd rt rs)
-    else (if function == 8 then row (rt == 0 && (rd == 0 && sa == 0)) (Jr rs)
-    else (if function == 9 then row (rt == 0 && sa == 0) (Jalr rd rs)
+    if function == 0 then row_if_clear (rs == 0) (Sll rd rt sa)
+    else (if function == 2 then row_if_clear (rs == 0) (Srl rd rt sa)
+    else (if function == 3 then row_if_clear (rs == 0) (Sra rd rt sa)
+    else (if function == 4 then row_if_clear (sa == 0) (Sllv rd rt rs)
+    else (if function == 6 then row_if_clear (sa == 0) (Srlv rd rt rs)
+    else (if function == 7 then row_if_clear (sa == 0) (Srav rd rt rs)
+    else (if function == 8 then row_if_clear (rt == 0 && (rd == 0 && sa == 0)) (Jr rs)
+    else (if function == 9 then row_if_clear (rt == 0 && sa == 0) (Jalr rd rs)
     else (if function == 12 then Some (Syscall code)
     else (if function == 13 then Some (Break code)
-    else (if function == 16 then row (rs == 0 && (rt == 0 && sa == 0)) (Mfhi rd)
-    else (if function == 17 then row (rt == 0 && (rd == 0 && sa == 0)) (Mthi rs)
-    else (if function == 18 then row (rs == 0 && (rt == 0 && sa == 0)) (Mflo rd)
-    else (if function == 19 then row (rt == 0 && (rd == 0 && sa == 0)) (Mtlo rs)
-    else (if function == 24 then row (rd == 0 && sa == 0) (Mult rs rt)
-    else (if function == 25 then row (rd == 0 && sa == 0) (Multu rs rt)
-    else (if function == 26 then row (rd == 0 && sa == 0) (Div rs rt)
-    else (if function == 27 then row (rd == 0 && sa == 0) (Divu rs rt)
-    else (if function == 32 then row (sa == 0) (Add rd rs rt)
-    else (if function == 33 then row (sa == 0) (Addu rd rs rt)
-    else (if function == 34 then row (sa == 0) (Sub rd rs rt)
-    else (if function == 35 then row (sa == 0) (Subu rd rs rt)
-    else (if function == 36 then row (sa == 0) (And rd rs rt)
-    else (if function == 37 then row (sa == 0) (Or rd rs rt)
-    else (if function == 38 then row (sa == 0) (Xor rd rs rt)
-    else (if function == 39 then row (sa == 0) (Nor rd rs rt)
-    else (if function == 42 then row (sa == 0) (Slt rd rs rt)
-    else (if function == 43 then row (sa == 0) (Sltu rd rs rt)
+    else (if function == 16 then row_if_clear (rs == 0 && (rt == 0 && sa == 0)) (Mfhi rd)
+    else (if function == 17 then row_if_clear (rt == 0 && (rd == 0 && sa == 0)) (Mthi rs)
+    else (if function == 18 then row_if_clear (rs == 0 && (rt == 0 && sa == 0)) (Mflo rd)
+    else (if function == 19 then row_if_clear (rt == 0 && (rd == 0 && sa == 0)) (Mtlo rs)
+    else (if function == 24 then row_if_clear (rd == 0 && sa == 0) (Mult rs rt)
+    else (if function == 25 then row_if_clear (rd == 0 && sa == 0) (Multu rs rt)
+    else (if function == 26 then row_if_clear (rd == 0 && sa == 0) (Div rs rt)
+    else (if function == 27 then row_if_clear (rd == 0 && sa == 0) (Divu rs rt)
+    else (if function == 32 then row_if_clear (sa == 0) (Add rd rs rt)
+    else (if function == 33 then row_if_clear (sa == 0) (Addu rd rs rt)
+    else (if function == 34 then row_if_clear (sa == 0) (Sub rd rs rt)
+    else (if function == 35 then row_if_clear (sa == 0) (Subu rd rs rt)
+    else (if function == 36 then row_if_clear (sa == 0) (And rd rs rt)
+    else (if function == 37 then row_if_clear (sa == 0) (Or rd rs rt)
+    else (if function == 38 then row_if_clear (sa == 0) (Xor rd rs rt)
+    else (if function == 39 then row_if_clear (sa == 0) (Nor rd rs rt)
+    else (if function == 42 then row_if_clear (sa == 0) (Slt rd rs rt)
+    else (if function == 43 then row_if_clear (sa == 0) (Sltu rd rs rt)
     else None)))))))))))))))))))))))))))
 
 -- REGIMM, by rt
@@ -281,26 +281,26 @@ branch_of rs rt imm =
 -- COP2, by function
 unfoldable pub compartment_of : (rs rt rd sa function : ℕ) → Option Ins
 compartment_of rs rt rd sa function =
-    if function == 1 then row (not (rs == 0) && (rt == 0 && (rd == 0 && sa == 0))) (Xmvtn rs)
-    else (if function == 2 then row (not (rd == 0) && (not (rs == 0) && (rt == 0 && sa == 0)))
+    if function == 1 then row_if_clear (not (rs == 0) && (rt == 0 && (rd == 0 && sa == 0))) (Xmvtn rs)
+    else (if function == 2 then row_if_clear (not (rd == 0) && (not (rs == 0) && (rt == 0 && sa == 0)))
     (Xmvfn rd rs)
-    else (if function == 3 then row (rs == 0 && (rt == 0 && (rd == 0 && sa == 0))) Xexit
-    else (if function == 4 then row (rt == 0 && (rd == 0 && sa == 0)) (Xhand rs)
-    else (if function == 5 then row (rs == 0 && (rt == 0 && (rd == 0 && sa == 0))) Xsigret
-    else (if function == 16 then row (sa == 0) (Xinstall rs rt rd)
-    else (if function == 17 then row (rt == 0 && (rd == 0 && sa == 0)) (Xenter rs)
-    else (if function == 18 then row (rd == 0 && sa == 0) (Xresume rs rt)
-    else (if function == 19 then row (sa == 0) (Xsave rs rt rd)
-    else (if function == 20 then row (sa == 0) (Xrestore rs rt rd)
-    else (if function == 21 then row (sa == 0) (Xmap rs rt rd)
-    else (if function == 22 then row (rd == 0 && sa == 0) (Xunmap rs rt)
-    else (if function == 24 then row (rt == 0 && (rd == 0 && sa == 0)) (Xkill rs)
-    else (if function == 25 then row (rt == 0 && (rd == 0 && sa == 0)) (Xout rs)
-    else (if function == 26 then row (rs == 0 && (rt == 0 && (rd == 0 && sa == 0))) Xhalt
-    else (if function == 27 then row (rs == 0 && (rt == 0 && sa == 0)) (Xstat rd)
-    else (if function == 28 then row (rs == 0 && (rt == 0 && sa == 0)) (Xcause rd)
-    else (if function == 29 then row (rs == 0 && (rt == 0 && sa == 0)) (Xarg rd)
-    else (if function == 30 then row (rs == 0 && (rt == 0 && sa == 0)) (Xwho rd)
+    else (if function == 3 then row_if_clear (rs == 0 && (rt == 0 && (rd == 0 && sa == 0))) Xexit
+    else (if function == 4 then row_if_clear (rt == 0 && (rd == 0 && sa == 0)) (Xhand rs)
+    else (if function == 5 then row_if_clear (rs == 0 && (rt == 0 && (rd == 0 && sa == 0))) Xsigret
+    else (if function == 16 then row_if_clear (sa == 0) (Xinstall rs rt rd)
+    else (if function == 17 then row_if_clear (rt == 0 && (rd == 0 && sa == 0)) (Xenter rs)
+    else (if function == 18 then row_if_clear (rd == 0 && sa == 0) (Xresume rs rt)
+    else (if function == 19 then row_if_clear (sa == 0) (Xsave rs rt rd)
+    else (if function == 20 then row_if_clear (sa == 0) (Xrestore rs rt rd)
+    else (if function == 21 then row_if_clear (sa == 0) (Xmap rs rt rd)
+    else (if function == 22 then row_if_clear (rd == 0 && sa == 0) (Xunmap rs rt)
+    else (if function == 24 then row_if_clear (rt == 0 && (rd == 0 && sa == 0)) (Xkill rs)
+    else (if function == 25 then row_if_clear (rt == 0 && (rd == 0 && sa == 0)) (Xout rs)
+    else (if function == 26 then row_if_clear (rs == 0 && (rt == 0 && (rd == 0 && sa == 0))) Xhalt
+    else (if function == 27 then row_if_clear (rs == 0 && (rt == 0 && sa == 0)) (Xstat rd)
+    else (if function == 28 then row_if_clear (rs == 0 && (rt == 0 && sa == 0)) (Xcause rd)
+    else (if function == 29 then row_if_clear (rs == 0 && (rt == 0 && sa == 0)) (Xarg rd)
+    else (if function == 30 then row_if_clear (rs == 0 && (rt == 0 && sa == 0)) (Xwho rd)
     else None))))))))))))))))))
 
 -- the words with an immediate, by op
@@ -308,8 +308,8 @@ unfoldable pub immediate_of : (op rs rt imm : ℕ) → Option Ins
 immediate_of op rs rt imm =
     if op == 4 then Some (Beq rs rt imm)
     else (if op == 5 then Some (Bne rs rt imm)
-    else (if op == 6 then row (rt == 0) (Blez rs imm)
-    else (if op == 7 then row (rt == 0) (Bgtz rs imm)
+    else (if op == 6 then row_if_clear (rt == 0) (Blez rs imm)
+    else (if op == 7 then row_if_clear (rt == 0) (Bgtz rs imm)
     else (if op == 8 then Some (Addi rt rs imm)
     else (if op == 9 then Some (Addiu rt rs imm)
     else (if op == 10 then Some (Slti rt rs imm)
@@ -317,7 +317,7 @@ immediate_of op rs rt imm =
     else (if op == 12 then Some (Andi rt rs imm)
     else (if op == 13 then Some (Ori rt rs imm)
     else (if op == 14 then Some (Xori rt rs imm)
-    else (if op == 15 then row (rs == 0) (Lui rt imm)
+    else (if op == 15 then row_if_clear (rs == 0) (Lui rt imm)
     else (if op == 32 then Some (Lb rt imm rs)
     else (if op == 33 then Some (Lh rt imm rs)
     else (if op == 34 then Some (Lwl rt imm rs)
@@ -335,13 +335,13 @@ immediate_of op rs rt imm =
     else None)))))))))))))))))))))))))
 
 -- the grammar as a reading, field by field: the instruction of a word, or none
-unfoldable pub read : ℕ → Option Ins
-read w =
+unfoldable pub instruction_of_word : ℕ → Option Ins
+instruction_of_word w =
     if op_of w == 0 then special_of (rs_of w) (rt_of w) (rd_of w) (sa_of w) (function_of w)
-    (code_of w)
+    (code_field w)
     else (if op_of w == 1 then branch_of (rs_of w) (rt_of w) (imm_of w)
-    else (if op_of w == 2 then Some (J (index_of w))
-    else (if op_of w == 3 then Some (Jal (index_of w))
+    else (if op_of w == 2 then Some (J (index_field w))
+    else (if op_of w == 3 then Some (Jal (index_field w))
     else (if op_of w == 18 then compartment_of (rs_of w) (rt_of w) (rd_of w) (sa_of w)
     (function_of w)
     else immediate_of (op_of w) (rs_of w) (rt_of w) (imm_of w)))))

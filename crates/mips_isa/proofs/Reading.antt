@@ -3,15 +3,15 @@ use Rattle.std.proofs.Common.{◌≡◌, ℕ, ◌+◌, ◌^◌, ◌<◌, ◌≤�
 use Rattle.std.proofs.lemmas.Bool.{cond_both, eqb-true, eqb-false, and_parts, ne_eqb, not-true}
 use Rattle.mips_instruction.specs.declared.instruction.Ins.{Ins}
 use Rattle.mips_instruction.specs.declared.instruction.Ins.TheVariants.{Sll, Srl, Sra, Sllv, Srlv, Srav, Jr, Jalr, Syscall, Break, Mfhi, Mthi, Mflo, Mtlo, Mult, Multu, Div, Divu, Add, Addu, Sub, Subu, And, Or, Xor, Nor, Slt, Sltu, Bltz, Bgez, Bltzal, Bgezal, J, Jal, Beq, Bne, Blez, Bgtz, Addi, Addiu, Slti, Sltiu, Andi, Ori, Xori, Lui, Lb, Lh, Lwl, Lw, Lbu, Lhu, Lwr, Sb, Sh, Swl, Sw, Swr, Xlwn, Xswn, Xmvtn, Xmvfn, Xexit, Xhand, Xsigret, Xinstall, Xenter, Xresume, Xsave, Xrestore, Xmap, Xunmap, Xkill, Xout, Xhalt, Xstat, Xcause, Xarg, Xwho}
-use Rattle.mips_instruction.specs.Words.{r_word, i_word, j_word, c_word, IsMoved, Fits, Word, IsReserved, op_of, rs_of, rt_of, rd_of, sa_of, function_of, imm_of, code_of, index_of, row, read, special_of, branch_of, compartment_of, immediate_of}
+use Rattle.mips_instruction.specs.Words.{Fits, IsMoved, IsReserved, Word, branch_of, c_word, code_field, compartment_of, function_of, i_word, imm_of, immediate_of, index_field, instruction_of_word, j_word, op_of, r_word, rd_of, row_if_clear, rs_of, rt_of, sa_of, special_of}
 
 -- ---- From the instruction to its reading
 
 -- the fields of a word of three registers are its parts
 pub read-special : (w rs rt rd sa function : ℕ) → rs < 32 → rt < 32 → rd < 32 → sa < 32
     → function < 2 ^ 6 → w ≡ r_word 0 rs rt rd sa function
-    → read w ≡ special_of rs rt rd sa function (code_of w)
-unfolding read
+    → instruction_of_word w ≡ special_of rs rt rd sa function (code_field w)
+unfolding instruction_of_word
 read-special w rs rt rd sa function rs_fits rt_fits rd_fits sa_fits function_fits is =
     let op_is : op_of w ≡ 0 = omega arith in
     let rs_is : rs_of w ≡ rs = omega arith in
@@ -22,18 +22,18 @@ read-special w rs rt rd sa function rs_fits rt_fits rd_fits sa_fits function_fit
     rw (op_is, rs_is, rt_is, rd_is, sa_is, function_is) refl
 
 pub read-code : (w code function : ℕ) → code < 2 ^ 20 → function < 2 ^ 6 → w ≡ c_word code function
-    → read w ≡ special_of (rs_of w) (rt_of w) (rd_of w) (sa_of w) function code
-unfolding read
+    → instruction_of_word w ≡ special_of (rs_of w) (rt_of w) (rd_of w) (sa_of w) function code
+unfolding instruction_of_word
 read-code w code function code_fits function_fits is =
     let op_is : op_of w ≡ 0 = omega arith in
-    let code_is : code_of w ≡ code = omega arith in
+    let code_is : code_field w ≡ code = omega arith in
     let function_is : function_of w ≡ function = omega arith in
     rw (op_is, code_is, function_is) refl
 
 pub read-compartment : (w rs rt rd sa function : ℕ) → rs < 32 → rt < 32 → rd < 32 → sa < 32
     → function < 2 ^ 6 → w ≡ r_word 18 rs rt rd sa function
-    → read w ≡ compartment_of rs rt rd sa function
-unfolding read
+    → instruction_of_word w ≡ compartment_of rs rt rd sa function
+unfolding instruction_of_word
 read-compartment w rs rt rd sa function rs_fits rt_fits rd_fits sa_fits function_fits is =
     let op_is : op_of w ≡ 18 = omega arith in
     let rs_is : rs_of w ≡ rs = omega arith in
@@ -44,8 +44,8 @@ read-compartment w rs rt rd sa function rs_fits rt_fits rd_fits sa_fits function
     rw (op_is, rs_is, rt_is, rd_is, sa_is, function_is) refl
 
 pub read-branch : (w rs rt imm : ℕ) → rs < 32 → rt < 32 → imm < 2 ^ 16 → w ≡ i_word 1 rs rt imm
-    → read w ≡ branch_of rs rt imm
-unfolding read
+    → instruction_of_word w ≡ branch_of rs rt imm
+unfolding instruction_of_word
 read-branch w rs rt imm rs_fits rt_fits imm_fits is =
     let op_is : op_of w ≡ 1 = omega arith in
     let rs_is : rs_of w ≡ rs = omega arith in
@@ -53,18 +53,18 @@ read-branch w rs rt imm rs_fits rt_fits imm_fits is =
     let imm_is : imm_of w ≡ imm = omega arith in
     rw (op_is, rs_is, rt_is, imm_is) refl
 
-read-j : (w index : ℕ) → index < 2 ^ 26 → w ≡ j_word 2 index → read w ≡ Some (J index)
-unfolding read
+read-j : (w index : ℕ) → index < 2 ^ 26 → w ≡ j_word 2 index → instruction_of_word w ≡ Some (J index)
+unfolding instruction_of_word
 read-j w index index_fits is =
     let op_is : op_of w ≡ 2 = omega arith in
-    let index_is : index_of w ≡ index = omega arith in
+    let index_is : index_field w ≡ index = omega arith in
     rw (op_is, index_is) refl
 
-read-jal : (w index : ℕ) → index < 2 ^ 26 → w ≡ j_word 3 index → read w ≡ Some (Jal index)
-unfolding read
+read-jal : (w index : ℕ) → index < 2 ^ 26 → w ≡ j_word 3 index → instruction_of_word w ≡ Some (Jal index)
+unfolding instruction_of_word
 read-jal w index index_fits is =
     let op_is : op_of w ≡ 3 = omega arith in
-    let index_is : index_of w ≡ index = omega arith in
+    let index_is : index_field w ≡ index = omega arith in
     rw (op_is, index_is) refl
 
 -- an op that has no table of its own
@@ -74,8 +74,8 @@ IsPlain op =
     × ((op == 18) ≡ false)
 
 pub read-immediate : (w op rs rt imm : ℕ) → IsPlain op → rs < 32 → rt < 32 → imm < 2 ^ 16
-    → w ≡ i_word op rs rt imm → read w ≡ immediate_of op rs rt imm
-unfolding read
+    → w ≡ i_word op rs rt imm → instruction_of_word w ≡ immediate_of op rs rt imm
+unfolding instruction_of_word
 read-immediate w op rs rt imm plain rs_fits rt_fits imm_fits is =
     let op_is : op_of w ≡ op = omega arith in
     let rs_is : rs_of w ≡ rs = omega arith in
@@ -88,7 +88,7 @@ moved : (reg : ℕ) → IsMoved reg → (reg == 0) ≡ false
 moved reg is = ne_eqb reg 0 (omega arith)
 
 -- each instruction is read from its word
-pub Word-read : (i : Ins) (w : ℕ) → Word i w → read w ≡ Some i
+pub Word-read : (i : Ins) (w : ℕ) → Word i w → instruction_of_word w ≡ Some i
 unfolding special_of branch_of compartment_of immediate_of
 Word-read (Sll rd rt sa) w is =
     read-special w 0 rt rd sa 0 (lit< tt) is.fits.1 is.fits.0 is.fits.2 (lit< tt) is.word
@@ -282,9 +282,9 @@ full {w} {i} rest field k here after =
 -- a row with spare fields, and what comes after it
 line : {w : ℕ} {i : Ins} (rest : Option Ins) (field k : ℕ) (clear : Bool)
     → (field ≡ k → clear ≡ true → Word i w) → IsSound w rest
-    → IsSound w (cond (field == k) (row clear i) rest)
+    → IsSound w (cond (field == k) (row_if_clear clear i) rest)
 line {w} {i} rest field k clear here after =
-    cond_both (field == k) (row clear i) rest (IsSound w) (λ is. cond_both clear (Some i) None
+    cond_both (field == k) (row_if_clear clear i) rest (IsSound w) (λ is. cond_both clear (Some i) None
     (IsSound w) (here (eqb-true field k is)) (λ _. tt)) (λ _. after)
 
 zero : (n : ℕ) → (n == 0) ≡ true → n ≡ 0
@@ -574,12 +574,12 @@ immediate-sound w op rs rt imm rs_fits rt_fits imm_fits is =
     full _ op 58 (λ f. record { fits = (rt_fits, imm_fits, rs_fits); word = omega arith }) (
     tt))))))))))))))))))))))))))
 
-read-sound : (w : ℕ) → IsSound w (read w)
-unfolding read
+read-sound : (w : ℕ) → IsSound w (instruction_of_word w)
+unfolding instruction_of_word
 read-sound w =
     cond_both (op_of w == 0) _ _ (IsSound w)
     (λ o. let e = zero (op_of w) o in special-sound w (rs_of w) (rt_of w) (rd_of w) (sa_of w)
-    (function_of w) (omega arith) (omega arith) (omega arith) (omega arith) (code_of w)
+    (function_of w) (omega arith) (omega arith) (omega arith) (omega arith) (code_field w)
     (omega arith) (omega arith) (omega arith))
     (λ _. cond_both (op_of w == 1) _ _ (IsSound w)
     (λ o. let e = eqb-true (op_of w) 1 o in branch-sound w (rs_of w) (rt_of w) (imm_of w)
@@ -596,11 +596,11 @@ read-sound w =
     (omega arith) (omega arith))))))
 
 -- what is read from a word has that word
-pub read-Word : (i : Ins) (w : ℕ) → read w ≡ Some i → Word i w
+pub read-Word : (i : Ins) (w : ℕ) → instruction_of_word w ≡ Some i → Word i w
 read-Word i w is = let sound = read-sound w in rw is at sound
 
 -- what is read has its operands in their ranges
-pub read-Fits : (i : Ins) (w : ℕ) → read w ≡ Some i → Fits i
+pub read-Fits : (i : Ins) (w : ℕ) → instruction_of_word w ≡ Some i → Fits i
 read-Fits i w is = (read-Word i w is).fits
 
 -- an instruction has one word
@@ -608,7 +608,7 @@ pub Word-only : (i : Ins) (v w : ℕ) → Word i v → Word i w → v ≡ w
 Word-only i v w first second = first.word ∙ sym second.word
 
 -- nothing is read exactly from a reserved word
-pub read-none : (w : ℕ) → IsNone (read w) → IsReserved w
+pub read-none : (w : ℕ) → IsNone (instruction_of_word w) → IsReserved w
 read-none w none i has = let some = rw (Word-read i w has) at none in cc
 
 -- a reading that gives no instruction is none
@@ -616,5 +616,5 @@ nothing : (found : Option Ins) → ((i : Ins) → found ≡ Some i → ⊥) → 
 nothing None none = refl
 nothing (Some i) none = absurd (none i refl)
 
-pub reserved-none : (w : ℕ) → IsReserved w → read w ≡ None
-reserved-none w reserved = nothing (read w) (λ i is. reserved i (read-Word i w is))
+pub reserved-none : (w : ℕ) → IsReserved w → instruction_of_word w ≡ None
+reserved-none w reserved = nothing (instruction_of_word w) (λ i is. reserved i (read-Word i w is))

@@ -1,5 +1,5 @@
 ghost use Rattle.std.specs.Prelude.{◌≡◌, ◌↔◌, IsNone};
-ghost use Rattle.mips_instruction.specs.Words.{Word, IsReserved, read, special_of, branch_of, compartment_of, immediate_of, op_of, rs_of, rt_of, rd_of, sa_of, function_of, imm_of, code_of};
+ghost use Rattle.mips_instruction.specs.Words.{IsReserved, Word, branch_of, code_field, compartment_of, function_of, imm_of, immediate_of, instruction_of_word, op_of, rd_of, rs_of, rt_of, sa_of, special_of};
 
 use crate::fields::{code, function, imm, index, op, rd, rs, rt, sa};
 use mips_instruction::Ins;
@@ -9,14 +9,14 @@ use mips_instruction::Ins;
 pub fn decode(word: u32) -> Option<Ins>
     ensures exact { (i : Ins) → (result ≡ Some i) ↔ Word i word }
     ensures reserved { IsNone result ↔ IsReserved word }
-    ensures value { result ≡ read word }
+    ensures value { result ≡ instruction_of_word word }
 {
     read_word(word)
 }
 
-#[tactic(auto, unfolding(mips_instruction::specs::Words::read))]
+#[tactic(auto, unfolding(mips_instruction::specs::Words::instruction_of_word))]
 fn read_word(word: u32) -> Option<Ins>
-    ensures { result ≡ read word }
+    ensures { result ≡ instruction_of_word word }
 {
     match op(word) {
         0 => special(word),
@@ -30,7 +30,7 @@ fn read_word(word: u32) -> Option<Ins>
 
 #[tactic(auto, unfolding(mips_instruction::specs::Words::special_of))]
 fn special(word: u32) -> Option<Ins>
-    ensures { result ≡ special_of (rs_of word) (rt_of word) (rd_of word) (sa_of word) (function_of word) (code_of word) }
+    ensures { result ≡ special_of (rs_of word) (rt_of word) (rd_of word) (sa_of word) (function_of word) (code_field word) }
 {
     match (function(word), rs(word), rt(word), rd(word), sa(word)) {
         (0, 0, rt, rd, sa) => Some(Ins::Sll { rd, rt, sa }),

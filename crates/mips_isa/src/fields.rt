@@ -1,5 +1,5 @@
 ghost use Rattle.std.specs.Prelude.{◌≡◌};
-ghost use Rattle.mips_instruction.specs.Words.{op_of, rs_of, rt_of, rd_of, sa_of, function_of, imm_of, code_of, index_of};
+ghost use Rattle.mips_instruction.specs.Words.{code_field, function_of, imm_of, index_field, op_of, rd_of, rs_of, rt_of, sa_of};
 
 /// Bits 31 to 26.
 pub fn op(word: u32) -> u8
@@ -52,14 +52,14 @@ pub fn imm(word: u32) -> u16
 
 /// Bits 25 to 6.
 pub fn code(word: u32) -> u32
-    ensures { result ≡ code_of word }
+    ensures { result ≡ code_field word }
 {
     word >> 6 & 0xf_ffff
 }
 
 /// Bits 25 to 0.
 pub fn index(word: u32) -> u32
-    ensures { result ≡ index_of word }
+    ensures { result ≡ index_field word }
 {
     word & 0x3ff_ffff
 }

@@ -6,7 +6,7 @@ use Rattle.std.specs.Prelude.{int_le, int_lt}
 use Rattle.std.specs.Int.{w32}
 use Rattle.mips_instruction.specs.declared.instruction.Ins.{Ins}
 use Rattle.mips_instruction.specs.declared.instruction.Ins.TheVariants.{Add, Addi, Sub}
-use Rattle.mips_instruction.specs.Numbers.{signed, signed_16, reduced, extended, plus_signed}
+use Rattle.mips_instruction.specs.Numbers.{number_modulo_word, plus_signed, sign_extended, signed_16, signed_number}
 use Rattle.mips_effect.specs.declared.seen.Mode.{Mode}
 use Rattle.mips_effect.specs.Arithmetic.{in_32, minus}
 use Rattle.mips_effect.specs.Effects.{act, sets, sets_or_overflows}
@@ -34,14 +34,14 @@ least-from z is = grind (arith, ints)
 most-from : (z : ℤ) → int_lt z (pos (2 ^ 31)) ≡ true → z <ℤ pos (2 ^ 31)
 most-from z is = grind (arith, ints)
 
-in_32-held : (z : ℤ) → IsSigned32 z → in_32 z ≡ Some (reduced z)
+in_32-held : (z : ℤ) → IsSigned32 z → in_32 z ≡ Some (number_modulo_word z)
 in_32-held z held =
     cond-true (int_le least_32 z && int_lt z (pos (2 ^ 31))) _ _
     (and_from _ _ (at_least z held.least) (at_most z held.most))
 
 in_32-not_held : (z : ℤ) → ¬ IsSigned32 z → in_32 z ≡ None
 in_32-not_held z not_held =
-    cond_both (int_le least_32 z && int_lt z (pos (2 ^ 31))) (Some (reduced z)) None (λ r. r ≡ None)
+    cond_both (int_le least_32 z && int_lt z (pos (2 ^ 31))) (Some (number_modulo_word z)) None (λ r. r ≡ None)
     (λ within.
     let parts = and_parts (int_le least_32 z) (int_lt z (pos (2 ^ 31))) within in
     let held : IsSigned32 z = record { least = least-from z parts.0; most = most-from z parts.1 } in
@@ -56,7 +56,7 @@ sets_or_overflows-whole : (i : Ins) (s t reg : ℕ) (z : ℤ)
 sets_or_overflows-whole i s t reg z is =
     record {
       holds = λ held. record {
-        number = reduced z;
+        number = number_modulo_word z;
         number_bits = reduced-below z;
         sets = λ mode d following. is mode d following ∙ ap (λ o. sets_or_overflows reg o following)
             (in_32-held z held);
@@ -69,37 +69,37 @@ sets_or_overflows-whole i s t reg z is =
 pub sums_whole : SumsAreWhole
 unfolding act
 sums_whole rd rs rt imm s t s_below t_below imm_below = (
-  sets_or_overflows-whole (Add rd rs rt) s t rd (signed s +ℤ signed t) (λ mode d following. refl),
-  sets_or_overflows-whole (Sub rd rs rt) s t rd (signed s -ℤ signed t) (λ mode d following. refl),
-  sets_or_overflows-whole (Addi rt rs imm) s t rt (signed s +ℤ signed_16 imm)
-      (λ mode d following. ap (λ z. sets_or_overflows rt (in_32 (signed s +ℤ z)) following)
+  sets_or_overflows-whole (Add rd rs rt) s t rd (signed_number s +ℤ signed_number t) (λ mode d following. refl),
+  sets_or_overflows-whole (Sub rd rs rt) s t rd (signed_number s -ℤ signed_number t) (λ mode d following. refl),
+  sets_or_overflows-whole (Addi rt rs imm) s t rt (signed_number s +ℤ signed_16 imm)
+      (λ mode d following. ap (λ z. sets_or_overflows rt (in_32 (signed_number s +ℤ z)) following)
       (signed-extended imm imm_below)),
 )
 
 -- a negative number is added as its 32 bits are
 negative_added : (s n : ℕ) → s < 2 ^ 32 → n < 2 ^ 16
-    → reduced (pos s +ℤ negsuc n) ≡ (s + reduced (negsuc n)) % 2 ^ 32
+    → number_modulo_word (pos s +ℤ negsuc n) ≡ (s + number_modulo_word (negsuc n)) % 2 ^ 32
 negative_added s n s_below n_below =
     ⊎_elim
     (λ (less : s < suc n).
     let is : pos s +ℤ negsuc n ≡ negsuc (n - s) = omega (arith, ints) in
-    ap reduced is ∙ omega arith)
+    ap number_modulo_word is ∙ omega arith)
     (λ (more : suc n ≤ s).
     let is : pos s +ℤ negsuc n ≡ pos (s - suc n) = omega (arith, ints) in
-    ap reduced is ∙ omega arith)
+    ap number_modulo_word is ∙ omega arith)
     (cases_lt s (suc n))
 
 -- a signed immediate is added as its 32 bits are
 plus_extended : (s imm : ℕ) → s < 2 ^ 32 → imm < 2 ^ 16
-    → plus_signed s imm ≡ (s + extended imm) % 2 ^ 32
+    → plus_signed s imm ≡ (s + sign_extended imm) % 2 ^ 32
 plus_extended s imm s_below imm_below =
     cond_both (nat_lt imm (2 ^ 15)) (pos imm) (pos imm -ℤ pos (2 ^ 16))
-    (λ z. reduced (pos s +ℤ z) ≡ (s + reduced z) % 2 ^ 32)
+    (λ z. number_modulo_word (pos s +ℤ z) ≡ (s + number_modulo_word z) % 2 ^ 32)
     (λ low. omega arith)
     (λ high.
     let large : 2 ^ 15 ≤ imm = ltb-false imm (2 ^ 15) high in
     let is : pos imm -ℤ pos (2 ^ 16) ≡ negsuc (2 ^ 16 - suc imm) = omega (arith, ints) in
-    subst (λ z. reduced (pos s +ℤ z) ≡ (s + reduced z) % 2 ^ 32) (sym is)
+    subst (λ z. number_modulo_word (pos s +ℤ z) ≡ (s + number_modulo_word z) % 2 ^ 32) (sym is)
     (negative_added s (2 ^ 16 - suc imm) s_below (omega arith)))
 
 pub addu_adds : AdduAddsModulo
@@ -116,11 +116,11 @@ minus-plus s t s_below t_below =
     ⊎_elim
     (λ (less : s < t).
     let is : pos s -ℤ pos t ≡ negsuc (t - suc s) = omega (arith, ints) in
-    let number : minus s t ≡ 2 ^ 32 - (t - s) = ap reduced is ∙ (omega arith) in
+    let number : minus s t ≡ 2 ^ 32 - (t - s) = ap number_modulo_word is ∙ (omega arith) in
     omega (arith, number))
     (λ (more : t ≤ s).
     let is : pos s -ℤ pos t ≡ pos (s - t) = omega (arith, ints) in
-    let number : minus s t ≡ s - t = ap reduced is ∙ (omega arith) in
+    let number : minus s t ≡ s - t = ap number_modulo_word is ∙ (omega arith) in
     omega (arith, number))
     (cases_lt s t)
 

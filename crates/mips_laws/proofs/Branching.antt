@@ -4,7 +4,7 @@ use Rattle.std.proofs.lemmas.Bool.{eq-eqb, ne_eqb}
 use Rattle.std.specs.Prelude.{int_lt}
 use Rattle.mips_instruction.specs.declared.instruction.Ins.{Ins}
 use Rattle.mips_instruction.specs.declared.instruction.Ins.TheVariants.{Beq, Bgez, Bgezal, Bgtz, Blez, Bltz, Bltzal, Bne}
-use Rattle.mips_instruction.specs.Numbers.{signed}
+use Rattle.mips_instruction.specs.Numbers.{signed_number}
 use Rattle.xom_base.specs.declared.step.Writes.{Writes}
 use Rattle.mips_effect.specs.declared.seen.Mode.{Mode}
 use Rattle.mips_effect.specs.Effects.{act, jumps, way}
@@ -44,7 +44,7 @@ branches_on_equality rs rt imm s t = (
 pub branches_on_sign : BranchesOnSign
 unfolding act
 branches_on_sign rs imm s t =
-    let z : ℤ = signed s in
+    let z : ℤ = signed_number s in
     let below : z <ℤ pos 0 → int_lt z (pos 0) ≡ true = int_lt-less z (pos 0) in
     let not_below : pos 0 ≤ℤ z → int_lt z (pos 0) ≡ false = int_lt-not_less z (pos 0) in
     let above : pos 0 <ℤ z → int_lt (pos 0) z ≡ true = int_lt-less (pos 0) z in

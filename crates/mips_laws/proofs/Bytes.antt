@@ -3,7 +3,7 @@ use Rattle.std.proofs.Common.{◌≡◌, ℕ, ◌+◌, ◌-◌, ◌*◌, ◌^◌
 use Rattle.std.proofs.lemmas.Bool.{cases_lt}
 use Rattle.std.proofs.lemmas.List.{get_or_append_left, get_or-append_right, length-take-le, get_or_past, same_lists}
 use Rattle.std.proofs.lemmas.List.Elements.{All-get_or, All-append, All-take, All-drop}
-use Rattle.mips_plain.specs.Memory.{word_at, written_at}
+use Rattle.mips_plain.specs.Memory.{word_at_address, written_at}
 use Rattle.mips_plain.proofs.Stores.{length-written_at}
 
 -- each number is one of a byte
@@ -30,7 +30,7 @@ byte_read bytes address place below =
 
 -- a word is its four bytes, the first the highest
 pub word_at-is : (bytes : List ℕ) (a : ℕ)
-    → word_at bytes a ≡ slice_index bytes a * 2 ^ 24 + slice_index bytes (a + 1) * 2 ^
+    → word_at_address bytes a ≡ slice_index bytes a * 2 ^ 24 + slice_index bytes (a + 1) * 2 ^
     16 + slice_index bytes (a + 2) * 2 ^ 8 + slice_index bytes (a + 3)
 word_at-is bytes a =
     let first : slice_index (take 4 (drop a bytes)) 0 ≡ slice_index bytes a =
@@ -44,7 +44,7 @@ word_at-is bytes a =
 pub word_at-of : (bytes : List ℕ) (a b c d p q r s : ℕ) → a + 1 ≡ b → a + 2 ≡ c → a + 3 ≡ d
     → slice_index bytes a ≡ p → slice_index bytes b ≡ q → slice_index bytes c ≡ r
     → slice_index bytes d ≡ s
-    → word_at bytes a ≡ p * 2 ^ 24 + q * 2 ^ 16 + r * 2 ^ 8 + s
+    → word_at_address bytes a ≡ p * 2 ^ 24 + q * 2 ^ 16 + r * 2 ^ 8 + s
 word_at-of bytes a b c d p q r s b_is c_is d_is p_is q_is r_is s_is =
     let second : slice_index bytes (a + 1) ≡ q = ap (slice_index bytes) b_is ∙ q_is in
     let third : slice_index bytes (a + 2) ≡ r = ap (slice_index bytes) c_is ∙ r_is in
@@ -61,7 +61,7 @@ byte-below bytes i small =
     (cases_lt i (length bytes))
 
 -- a word has 32 bits
-pub word_at-below : (bytes : List ℕ) (a : ℕ) → AreBytes bytes → word_at bytes a < 2 ^ 32
+pub word_at-below : (bytes : List ℕ) (a : ℕ) → AreBytes bytes → word_at_address bytes a < 2 ^ 32
 word_at-below bytes a small =
     omega (
       arith,

@@ -5,7 +5,7 @@ use Rattle.std.proofs.lemmas.Int.{ints}
 use Rattle.std.specs.Prelude.{int_lt}
 use Rattle.mips_instruction.specs.declared.instruction.Ins.{Ins}
 use Rattle.mips_instruction.specs.declared.instruction.Ins.TheVariants.{Slt, Slti, Sltiu, Sltu}
-use Rattle.mips_instruction.specs.Numbers.{signed, signed_16, extended}
+use Rattle.mips_instruction.specs.Numbers.{sign_extended, signed_16, signed_number}
 use Rattle.mips_effect.specs.declared.seen.Mode.{Mode}
 use Rattle.mips_effect.specs.Arithmetic.{bit_if}
 use Rattle.mips_effect.specs.Effects.{act, sets}
@@ -46,9 +46,9 @@ sets_where_below i s t reg a b is =
 pub signed_comparisons : SignedComparisons
 unfolding act
 signed_comparisons rd rs rt imm s t imm_below = (
-  sets_where_less (Slt rd rs rt) s t rd (signed s) (signed t) (λ mode d following. refl),
-  sets_where_less (Slti rt rs imm) s t rt (signed s) (signed_16 imm)
-      (λ mode d following. ap (λ z. sets rt (bit_if (int_lt (signed s) z)) following)
+  sets_where_less (Slt rd rs rt) s t rd (signed_number s) (signed_number t) (λ mode d following. refl),
+  sets_where_less (Slti rt rs imm) s t rt (signed_number s) (signed_16 imm)
+      (λ mode d following. ap (λ z. sets rt (bit_if (int_lt (signed_number s) z)) following)
       (signed-extended imm imm_below)),
 )
 
@@ -56,5 +56,5 @@ pub unsigned_comparisons : UnsignedComparisons
 unfolding act
 unsigned_comparisons rd rs rt imm s t = (
   sets_where_below (Sltu rd rs rt) s t rd s t (λ mode d following. refl),
-  sets_where_below (Sltiu rt rs imm) s t rt s (extended imm) (λ mode d following. refl),
+  sets_where_below (Sltiu rt rs imm) s t rt s (sign_extended imm) (λ mode d following. refl),
 )

@@ -9,8 +9,8 @@ use Rattle.std.specs.Int.{w32}
 use Rattle.mips_instruction.specs.declared.instruction.Ins.TheVariants.{Div, Divu}
 use Rattle.xom_base.specs.declared.step.Writes.{Writes}
 use Rattle.xom_base.specs.declared.step.Writes.TheVariants as writes
-use Rattle.mips_instruction.specs.Numbers.{signed, reduced}
-use Rattle.mips_effect.specs.Arithmetic.{divided, divided_unsigned}
+use Rattle.mips_instruction.specs.Numbers.{number_modulo_word, signed_number}
+use Rattle.mips_effect.specs.Arithmetic.{divided_unsigned, quotient_and_remainder}
 use Rattle.mips_effect.specs.Effects.{act, writes_only}
 use Rattle.mips_laws.specs.Acts.{WritesOnly}
 use Rattle.mips_laws.specs.Division.{HasSignOf, IsDivision, DivDivides, DivOverflowRow, DivuDivides, ZeroDivides}
@@ -71,14 +71,14 @@ is-division a d some = record {
 }
 
 -- only -2^31 and -1 are the numbers of the overflow row
-least-is : (s : ℕ) → s < 2 ^ 32 → signed s ≡ negsuc (2 ^ 31 - 1) → s ≡ 2 ^ 31
+least-is : (s : ℕ) → s < 2 ^ 32 → signed_number s ≡ negsuc (2 ^ 31 - 1) → s ≡ 2 ^ 31
 least-is s below is =
     cond_both (nat_lt s (2 ^ 31)) _ _ (λ z. z ≡ negsuc (2 ^ 31 - 1) → s ≡ 2 ^ 31)
     (λ low here. omega (arith, ints, here))
     (λ high here. omega (arith, ints, here))
     is
 
-minus_one-is : (t : ℕ) → t < 2 ^ 32 → signed t ≡ negsuc 0 → t ≡ 2 ^ 32 - 1
+minus_one-is : (t : ℕ) → t < 2 ^ 32 → signed_number t ≡ negsuc 0 → t ≡ 2 ^ 32 - 1
 minus_one-is t below is =
     cond_both (nat_lt t (2 ^ 31)) _ _ (λ z. z ≡ negsuc 0 → t ≡ 2 ^ 32 - 1)
     (λ low here. omega (arith, ints, here))
@@ -87,11 +87,11 @@ minus_one-is t below is =
 
 -- what is written where the divisor isn't 0
 divided-is : (s t : ℕ) → t ≢ 0
-    → divided s t ≡ writes.Pair (reduced (int_rem (signed s) (signed t)))
-    (reduced (int_div (signed s) (signed t)))
+    → quotient_and_remainder s t ≡ writes.Pair (number_modulo_word (int_rem (signed_number s) (signed_number t)))
+    (number_modulo_word (int_div (signed_number s) (signed_number t)))
 divided-is s t some = cond-false (t == 0) _ _ (ne_eqb t 0 some)
 
-div-writes : (rs rt s t : ℕ) (written : Writes) → divided s t ≡ written
+div-writes : (rs rt s t : ℕ) (written : Writes) → quotient_and_remainder s t ≡ written
     → WritesOnly (Div rs rt) s t written
 unfolding act
 div-writes rs rt s t written is mode d following = ap (λ w. writes_only w following) is
@@ -103,32 +103,32 @@ divu-writes rs rt s t written is mode d following = ap (λ w. writes_only w foll
 
 pub div_divides : DivDivides
 div_divides rs rt s t s_below t_below some other =
-    let q : ℤ = int_div (signed s) (signed t) in
-    let r : ℤ = int_rem (signed s) (signed t) in
+    let q : ℤ = int_div (signed_number s) (signed_number t) in
+    let r : ℤ = int_rem (signed_number s) (signed_number t) in
     let s_fits = signed-fits s s_below in
-    let q_is : signed (reduced q) ≡ q = signed-reduced q (quotient-fits (signed s) (signed t) s_fits
+    let q_is : signed_number (number_modulo_word q) ≡ q = signed-reduced q (quotient-fits (signed_number s) (signed_number t) s_fits
     (λ least minus_one. other (record {
       least = least-is s s_below least;
       minus_one =
           minus_one-is t t_below minus_one;
     }))) in
-    let r_is : signed (reduced r) ≡ r =
-    signed-reduced r (remainder-fits (signed s) (signed t) s_fits) in
-    let whole : IsDivision (signed s) (signed t) q r = is-division (signed s) (signed t)
+    let r_is : signed_number (number_modulo_word r) ≡ r =
+    signed-reduced r (remainder-fits (signed_number s) (signed_number t) s_fits) in
+    let whole : IsDivision (signed_number s) (signed_number t) q r = is-division (signed_number s) (signed_number t)
     (signed-size t t_below some) in
     record {
-      hi = reduced r;
-      lo = reduced q;
+      hi = number_modulo_word r;
+      lo = number_modulo_word q;
       hi_bits = reduced-below r;
       lo_bits = reduced-below q;
       writes = div-writes rs rt s t _ (divided-is s t some);
-      division = subst (λ lo. IsDivision (signed s) (signed t) lo (signed (reduced r))) (sym q_is)
-          (subst (IsDivision (signed s) (signed t) q) (sym r_is) whole);
+      division = subst (λ lo. IsDivision (signed_number s) (signed_number t) lo (signed_number (number_modulo_word r))) (sym q_is)
+          (subst (IsDivision (signed_number s) (signed_number t) q) (sym r_is) whole);
     }
 
 pub div_overflow_row : DivOverflowRow
 div_overflow_row rs rt s t row =
-    let is : divided s t ≡ writes.Pair 0 s = rw (row.least, row.minus_one) refl in
+    let is : quotient_and_remainder s t ≡ writes.Pair 0 s = rw (row.least, row.minus_one) refl in
     div-writes rs rt s t _ is
 
 pub divu_divides : DivuDivides

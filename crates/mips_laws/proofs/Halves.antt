@@ -5,7 +5,7 @@ use Rattle.mips_instruction.specs.Numbers.{plus_signed}
 use Rattle.mips_effect.specs.declared.wish.LoadKind.TheVariants as kind
 use Rattle.mips_effect.specs.Arithmetic.{left_merged, right_merged}
 use Rattle.mips_effect.specs.Effects.{act, merge_of}
-use Rattle.mips_plain.specs.Memory.{word_at, private_size}
+use Rattle.mips_plain.specs.Memory.{private_size, word_at_address}
 use Rattle.mips_laws.specs.Accesses.{LoadsOnly}
 use Rattle.mips_laws.specs.Unaligned.{WordsAreBigEndian, HalvesLoadTheWord, LwLoadsTheWord}
 use Rattle.mips_laws.proofs.Bytes.{AreBytes, by_four, word_at-is, word_at-of, word_at-below, byte-below}
@@ -34,15 +34,15 @@ straddled-bytes a b c d e f g h high low a_small b_small c_small d_small e_small
 
 -- the words at places 1 to 3 of a word of memory
 words_between : (bytes : List ℕ) (base : ℕ) → AreBytes bytes
-    → (straddled (word_at bytes base) (word_at bytes (base + 4)) 1 ≡ word_at bytes (base + 1))
-    × (straddled (word_at bytes base) (word_at bytes (base + 4)) 2 ≡ word_at bytes (base + 2))
-    × (straddled (word_at bytes base) (word_at bytes (base + 4)) 3 ≡ word_at bytes (base + 3))
+    → (straddled (word_at_address bytes base) (word_at_address bytes (base + 4)) 1 ≡ word_at_address bytes (base + 1))
+    × (straddled (word_at_address bytes base) (word_at_address bytes (base + 4)) 2 ≡ word_at_address bytes (base + 2))
+    × (straddled (word_at_address bytes base) (word_at_address bytes (base + 4)) 3 ≡ word_at_address bytes (base + 3))
 words_between bytes base small =
     let b = λ (i : ℕ). slice_index bytes (base + i) in
     let second = word_at-of bytes (base + 4) (base + 5) (base + 6) (base + 7) _ _ _ _ (omega arith)
     (omega arith) (omega arith) refl refl refl refl in
     let parts = straddled-bytes (slice_index bytes base) (b 1) (b 2) (b 3) (b 4) (b 5) (b 6) (b 7)
-    (word_at bytes base) (word_at bytes (base + 4))
+    (word_at_address bytes base) (word_at_address bytes (base + 4))
     (byte-below bytes base small) (byte-below bytes (base + 1) small)
     (byte-below bytes (base + 2) small) (byte-below bytes (base + 3) small)
     (byte-below bytes (base + 4) small) (byte-below bytes (base + 5) small)
@@ -82,24 +82,24 @@ parts-3 old high low small = (omega arith, omega arith)
 
 -- what LWL at an address makes of a register, and LWR at the word's last byte
 abbrev by_left : List ℕ → (address old : ℕ) → ℕ
-by_left bytes address old = left_merged old (address % 4) (word_at bytes (address - address % 4))
+by_left bytes address old = left_merged old (address % 4) (word_at_address bytes (address - address % 4))
 
 abbrev by_right : List ℕ → (last old : ℕ) → ℕ
-by_right bytes last old = right_merged old (last % 4) (word_at bytes (last - last % 4))
+by_right bytes last old = right_merged old (last % 4) (word_at_address bytes (last - last % 4))
 
 -- both together, where the places and the words have names
 abbrev Both : List ℕ → (address old : ℕ) → Type 0
 Both bytes address old =
-    (by_right bytes (address + 3) (by_left bytes address old) ≡ word_at bytes address)
-    × (by_left bytes address (by_right bytes (address + 3) old) ≡ word_at bytes address)
+    (by_right bytes (address + 3) (by_left bytes address old) ≡ word_at_address bytes address)
+    × (by_left bytes address (by_right bytes (address + 3) old) ≡ word_at_address bytes address)
 
 both-at : (bytes : List ℕ) (address old place last_place base last_base : ℕ) → address % 4 ≡ place
     → (address + 3) % 4 ≡ last_place
     → address - place ≡ base → address + 3 - last_place ≡ last_base
-    → (right_merged (left_merged old place (word_at bytes base)) last_place
-    (word_at bytes last_base) ≡ word_at bytes address)
-    × (left_merged (right_merged old last_place (word_at bytes last_base)) place
-    (word_at bytes base) ≡ word_at bytes address)
+    → (right_merged (left_merged old place (word_at_address bytes base)) last_place
+    (word_at_address bytes last_base) ≡ word_at_address bytes address)
+    × (left_merged (right_merged old last_place (word_at_address bytes last_base)) place
+    (word_at_address bytes base) ≡ word_at_address bytes address)
     → Both bytes address old
 both-at bytes address old place last_place base last_base place_is last_is base_is last_base_is
     both =
@@ -109,9 +109,9 @@ both-at bytes address old place last_place base last_base place_is last_is base_
 
 -- a pair of facts about one word, at another name of its address
 named : (bytes : List ℕ) (x y word at address : ℕ) → at ≡ address → (x ≡ word) × (y ≡ word)
-    → word ≡ word_at bytes at → (x ≡ word_at bytes address) × (y ≡ word_at bytes address)
+    → word ≡ word_at_address bytes at → (x ≡ word_at_address bytes address) × (y ≡ word_at_address bytes address)
 named bytes x y word at address is both word_is =
-    let there : word ≡ word_at bytes address = word_is ∙ ap (word_at bytes) is in
+    let there : word ≡ word_at_address bytes address = word_is ∙ ap (word_at_address bytes) is in
     (both.0 ∙ there, both.1 ∙ there)
 
 -- the four places
@@ -122,20 +122,20 @@ both bytes address old small =
     let between = words_between bytes base small in
     by_four (address % 4) (omega arith)
     (λ place. both-at bytes address old 0 3 address address place (omega (arith, place))
-    (omega arith) (omega arith) (whole old (word_at bytes address)
+    (omega arith) (omega arith) (whole old (word_at_address bytes address)
     (word_at-below bytes address small)))
     (λ place. both-at bytes address old 1 0 base (base + 4) place (omega (arith, place))
     (omega (arith, place)) (omega (arith, place))
     (named bytes _ _ _ (base + 1) address (omega (arith, place))
-    (parts-1 old (word_at bytes base) (word_at bytes (base + 4)) low) between.0))
+    (parts-1 old (word_at_address bytes base) (word_at_address bytes (base + 4)) low) between.0))
     (λ place. both-at bytes address old 2 1 base (base + 4) place (omega (arith, place))
     (omega (arith, place)) (omega (arith, place))
     (named bytes _ _ _ (base + 2) address (omega (arith, place))
-    (parts-2 old (word_at bytes base) (word_at bytes (base + 4)) low) between.1))
+    (parts-2 old (word_at_address bytes base) (word_at_address bytes (base + 4)) low) between.1))
     (λ place. both-at bytes address old 3 2 base (base + 4) place (omega (arith, place))
     (omega (arith, place)) (omega (arith, place))
     (named bytes _ _ _ (base + 3) address (omega (arith, place))
-    (parts-3 old (word_at bytes base) (word_at bytes (base + 4)) low) between.2))
+    (parts-3 old (word_at_address bytes base) (word_at_address bytes (base + 4)) low) between.2))
 
 -- ---- The instructions
 
@@ -180,5 +180,5 @@ unfolding act merge_of
 lw_loads_the_word bytes rt rs imm s old inside aligned pc d following =
     let address : ℕ = plus_signed s imm in
     let base : address - address % 4 ≡ address = omega (arith, aligned) in
-    load_step bytes kind.Word rt address address old (word_at bytes address) refl
-    (opened 4 address aligned (omega (arith, inside))) (ap (word_at bytes) base) pc following
+    load_step bytes kind.Word rt address address old (word_at_address bytes address) refl
+    (opened 4 address aligned (omega (arith, inside))) (ap (word_at_address bytes) base) pc following

@@ -3,7 +3,7 @@ use Rattle.std.proofs.Common.{ℕ, ◌*◌, ◌/◌, ◌%◌, ◌^◌, ◌<◌, 
 use Rattle.std.proofs.lemmas.Int.{fits_signed_mul}
 use Rattle.std.proofs.lemmas.Nat.{mul-lt}
 use Rattle.std.specs.Int.{w64}
-use Rattle.mips_instruction.specs.Numbers.{signed, reduced_64}
+use Rattle.mips_instruction.specs.Numbers.{reduced_64, signed_number}
 use Rattle.mips_effect.specs.Effects.{act}
 use Rattle.mips_laws.specs.Products.{signed_64, MultMultiplies, MultuMultiplies}
 use Rattle.mips_laws.proofs.Whole.{signed-fits, reduced_64-below, signed_64-reduced, unsigned_abs-fits}
@@ -18,8 +18,8 @@ low-below n = omega arith
 pub mult_multiplies : MultMultiplies
 unfolding act
 mult_multiplies rs rt s t s_below t_below =
-    let x : ℤ = signed s in
-    let y : ℤ = signed t in
+    let x : ℤ = signed_number s in
+    let y : ℤ = signed_number t in
     let x_small = unsigned_abs-fits x (signed-fits s s_below) in
     let y_small = unsigned_abs-fits y (signed-fits t t_below) in
     let fits : FitsSigned w64 (x *ℤ y) = fits_signed_mul w64 x y (2 ^ 31) (2 ^ 31) x_small y_small

@@ -3,11 +3,11 @@ use Rattle.std.proofs.Common.{◌≡◌, ℕ, ◌+◌, ◌-◌, ◌*◌, ◌/◌
 use Rattle.std.proofs.lemmas.List.Elements.{All-nil, All-cons}
 use Rattle.xom_base.specs.declared.step.Stored.TheVariants as stored
 use Rattle.mips_instruction.specs.declared.instruction.Ins.TheVariants.{Lwl, Lwr, Sb, Sh}
-use Rattle.mips_instruction.specs.Numbers.{plus_signed, signed_8, signed_16, reduced, extended}
+use Rattle.mips_instruction.specs.Numbers.{number_modulo_word, plus_signed, sign_extended, signed_16, signed_8}
 use Rattle.mips_effect.specs.declared.wish.LoadKind.TheVariants as kind
-use Rattle.mips_effect.specs.Arithmetic.{byte_of, half_of}
+use Rattle.mips_effect.specs.Arithmetic.{byte_in_word, half_of}
 use Rattle.mips_effect.specs.Effects.{act, merge_of}
-use Rattle.mips_plain.specs.Memory.{private_size, word_at, low_bytes, written_at}
+use Rattle.mips_plain.specs.Memory.{low_bytes, private_size, word_at_address, written_at}
 use Rattle.mips_laws.specs.Accesses.{IsMemory, StoresOnly}
 use Rattle.mips_laws.specs.ReadBack.{WordsAreReadBack, HalvesAreReadBack, BytesAreReadBack, UnalignedWordsAreReadBack}
 use Rattle.mips_laws.specs.Unaligned.{LoadsByTwo, WrittenWordsAreAlone}
@@ -22,7 +22,7 @@ use Rattle.mips_laws.proofs.Whole.{reduced-below, signed-byte, signed-extended}
 
 byte_of-is : (w a b c d : ℕ) → a < 256 → b < 256 → c < 256 → d < 256
     → w ≡ a * 2 ^ 24 + b * 2 ^ 16 + c * 2 ^ 8 + d
-    → (byte_of w 0 ≡ a) × (byte_of w 1 ≡ b) × (byte_of w 2 ≡ c) × (byte_of w 3 ≡ d)
+    → (byte_in_word w 0 ≡ a) × (byte_in_word w 1 ≡ b) × (byte_in_word w 2 ≡ c) × (byte_in_word w 3 ≡ d)
 byte_of-is w a b c d a_small b_small c_small d_small is =
     (omega arith, omega arith, omega arith, omega arith)
 
@@ -33,32 +33,32 @@ half_of-is w a b c d a_small b_small c_small d_small is = (omega arith, omega ar
 
 -- the byte at an address, of the word around it
 byte_loaded : (bytes : List ℕ) (address : ℕ) → AreBytes bytes
-    → byte_of (word_at bytes (address - address % 4)) (address % 4) ≡ slice_index bytes address
+    → byte_in_word (word_at_address bytes (address - address % 4)) (address % 4) ≡ slice_index bytes address
 byte_loaded bytes address small =
     let base : ℕ = address - address % 4 in
-    let word : ℕ = word_at bytes base in
+    let word : ℕ = word_at_address bytes base in
     let parts = byte_of-is word (slice_index bytes base) (slice_index bytes (base + 1))
     (slice_index bytes (base + 2)) (slice_index bytes (base + 3))
     (byte-below bytes base small) (byte-below bytes (base + 1) small)
     (byte-below bytes (base + 2) small) (byte-below bytes (base + 3) small)
     (word_at-is bytes base) in
     by_four (address % 4) (omega arith)
-    (λ place. let at : base ≡ address = omega (arith, place) in ap (byte_of word) place ∙ parts.0
+    (λ place. let at : base ≡ address = omega (arith, place) in ap (byte_in_word word) place ∙ parts.0
     ∙ ap (slice_index bytes) at)
-    (λ place. let at : base + 1 ≡ address = omega (arith, place) in ap (byte_of word) place
+    (λ place. let at : base + 1 ≡ address = omega (arith, place) in ap (byte_in_word word) place
     ∙ parts.1 ∙ ap (slice_index bytes) at)
-    (λ place. let at : base + 2 ≡ address = omega (arith, place) in ap (byte_of word) place
+    (λ place. let at : base + 2 ≡ address = omega (arith, place) in ap (byte_in_word word) place
     ∙ parts.2 ∙ ap (slice_index bytes) at)
-    (λ place. let at : base + 3 ≡ address = omega (arith, place) in ap (byte_of word) place
+    (λ place. let at : base + 3 ≡ address = omega (arith, place) in ap (byte_in_word word) place
     ∙ parts.3 ∙ ap (slice_index bytes) at)
 
 -- the two bytes at an even address
 half_loaded : (bytes : List ℕ) (address next p q : ℕ) → AreBytes bytes → address % 2 ≡ 0
     → address + 1 ≡ next → slice_index bytes address ≡ p → slice_index bytes next ≡ q
-    → half_of (word_at bytes (address - address % 4)) (address % 4) ≡ p * 2 ^ 8 + q
+    → half_of (word_at_address bytes (address - address % 4)) (address % 4) ≡ p * 2 ^ 8 + q
 half_loaded bytes address next p q small even follows p_is q_is =
     let base : ℕ = address - address % 4 in
-    let word : ℕ = word_at bytes base in
+    let word : ℕ = word_at_address bytes base in
     let parts = half_of-is word (slice_index bytes base) (slice_index bytes (base + 1))
     (slice_index bytes (base + 2)) (slice_index bytes (base + 3))
     (byte-below bytes base small) (byte-below bytes (base + 1) small)
@@ -90,7 +90,7 @@ byte-All : (n : ℕ) (bytes : List ℕ) → AreBytes bytes → AreBytes (n % 256
 byte-All n bytes small = All-cons (λ b. b < 2 ^ 8) (n % 256) bytes (omega arith) small
 
 word_written : (bytes : List ℕ) (address t : ℕ) → address ≤ length bytes → t < 2 ^ 32
-    → word_at (written_at bytes address (low_bytes 4 t)) address ≡ t
+    → word_at_address (written_at bytes address (low_bytes 4 t)) address ≡ t
 word_written bytes address t room below =
     let new : List ℕ = written_at bytes address (low_bytes 4 t) in
     let first : slice_index new address ≡ t / 2 ^ 24 % 256 = written-inside bytes (low_bytes 4 t)
@@ -106,7 +106,7 @@ word_written bytes address t room below =
 
 half_written : (bytes : List ℕ) (address v : ℕ) → address ≤ length bytes → AreBytes bytes
     → address % 2 ≡ 0 → v < 2 ^ 16
-    → half_of (word_at (written_at bytes address (low_bytes 2 v)) (address - address % 4))
+    → half_of (word_at_address (written_at bytes address (low_bytes 2 v)) (address - address % 4))
     (address % 4) ≡ v
 half_written bytes address v room small even below =
     let part : List ℕ = low_bytes 2 v in
@@ -121,7 +121,7 @@ half_written bytes address v room small even below =
 
 byte_written : (bytes : List ℕ) (address v : ℕ) → address ≤ length bytes → AreBytes bytes
     → v < 2 ^ 8
-    → byte_of (word_at (written_at bytes address (low_bytes 1 v)) (address - address % 4))
+    → byte_in_word (word_at_address (written_at bytes address (low_bytes 1 v)) (address - address % 4))
     (address % 4) ≡ v
 byte_written bytes address v room small below =
     let part : List ℕ = low_bytes 1 v in
@@ -142,7 +142,7 @@ words_are_read_back bytes rt rs imm s t reg from offset base old memory below pl
     let whole = memory.whole in
     let new : List ℕ = written_at bytes address (low_bytes 4 t) in
     let at : address - address % 4 ≡ address = omega (arith, aligned) in
-    let value : word_at new (address - address % 4) ≡ t = ap (word_at new) at ∙ word_written bytes
+    let value : word_at_address new (address - address % 4) ≡ t = ap (word_at_address new) at ∙ word_written bytes
     address t (omega (arith, inside, whole)) below in
     record {
       new = new;
@@ -162,7 +162,7 @@ halves_are_read_back bytes rt rs imm s t reg from offset base old memory place =
     let v_below : v < 2 ^ 16 = omega arith in
     let new : List ℕ = written_at bytes address (low_bytes 2 v) in
     let opens = opened 2 address aligned (omega (arith, inside)) in
-    let value : half_of (word_at new (address - address % 4)) (address % 4) ≡ v =
+    let value : half_of (word_at_address new (address - address % 4)) (address % 4) ≡ v =
     half_written bytes address v (omega (arith, inside, whole)) memory.are_bytes aligned
     v_below in
     let stores : StoresOnly bytes (Sh rt imm rs) s t new =
@@ -179,14 +179,14 @@ halves_are_read_back bytes rt rs imm s t reg from offset base old memory place =
             (plus_signed base offset) address old v place.same opens value pc following;
       },
       record {
-        number = extended v;
+        number = sign_extended v;
         number_bits = reduced-below (signed_16 v);
         reads_back = record {
           new = new;
           stores = stores;
           loads = λ pc d following. load_step new
-              kind.Half reg (plus_signed base offset) address old (extended v) place.same opens
-              (ap extended value) pc following;
+              kind.Half reg (plus_signed base offset) address old (sign_extended v) place.same opens
+              (ap sign_extended value) pc following;
         };
         number_is = signed-extended v v_below;
       },
@@ -203,7 +203,7 @@ bytes_are_read_back bytes rt rs imm s t reg from offset base old memory place =
     let v_below : v < 2 ^ 8 = omega arith in
     let new : List ℕ = written_at bytes address (low_bytes 1 v) in
     let opens = opened 1 address aligned (omega (arith, inside)) in
-    let value : byte_of (word_at new (address - address % 4)) (address % 4) ≡ v =
+    let value : byte_in_word (word_at_address new (address - address % 4)) (address % 4) ≡ v =
     byte_written bytes address v (omega (arith, inside, whole)) memory.are_bytes v_below in
     let stores : StoresOnly bytes (Sb rt imm rs) s t new =
     record {
@@ -219,14 +219,14 @@ bytes_are_read_back bytes rt rs imm s t reg from offset base old memory place =
             (plus_signed base offset) address old v place.same opens value pc following;
       },
       record {
-        number = reduced (signed_8 v);
+        number = number_modulo_word (signed_8 v);
         number_bits = reduced-below (signed_8 v);
         reads_back = record {
           new = new;
           stores = stores;
           loads = λ pc d following. load_step new
-              kind.Byte reg (plus_signed base offset) address old (reduced (signed_8 v)) place.same
-              opens (ap (λ b. reduced (signed_8 b)) value) pc following;
+              kind.Byte reg (plus_signed base offset) address old (number_modulo_word (signed_8 v)) place.same
+              opens (ap (λ b. number_modulo_word (signed_8 b)) value) pc following;
         };
         number_is = signed-byte v v_below;
       },
@@ -254,7 +254,7 @@ unaligned_words_are_read_back bytes rt rs first last s t reg from base_first bas
     let inside = stored_word.inside in
     let whole = memory.whole in
     let new : List ℕ = written_at bytes address (low_bytes 4 t) in
-    let value : word_at new address ≡ t = word_written bytes address t
+    let value : word_at_address new address ≡ t = word_written bytes address t
     (omega (arith, inside, whole)) below in
     record {
       new = new;

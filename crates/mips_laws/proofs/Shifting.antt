@@ -4,7 +4,7 @@ use Rattle.std.proofs.lemmas.Int.{ints}
 use Rattle.std.specs.Int.{w32, int_div_euclid}
 use Rattle.mips_instruction.specs.declared.instruction.Ins.{Ins}
 use Rattle.mips_instruction.specs.declared.instruction.Ins.TheVariants.{Sra, Srav}
-use Rattle.mips_instruction.specs.Numbers.{signed, reduced}
+use Rattle.mips_instruction.specs.Numbers.{number_modulo_word, signed_number}
 use Rattle.mips_effect.specs.declared.seen.Mode.{Mode}
 use Rattle.mips_effect.specs.Arithmetic.{shifted_signed}
 use Rattle.mips_effect.specs.Effects.{act, sets}
@@ -73,17 +73,17 @@ quotient-down (negsuc a) d some =
 sets_quotient_down : (i : Ins) (s t reg by : ℕ) → t < 2 ^ 32
     → ((mode : Mode) (d following : ℕ) → act i mode s t d following ≡ sets reg (shifted_signed t by)
     following)
-    → SetsQuotientDown i s t reg (signed t) (2 ^ by)
+    → SetsQuotientDown i s t reg (signed_number t) (2 ^ by)
 sets_quotient_down i s t reg by below is =
-    let q : ℤ = int_div_euclid (signed t) (pos (2 ^ by)) in
-    let q_is : signed (reduced q) ≡ q =
-    signed-reduced q (quotient-fits (signed t) (2 ^ by) (signed-fits t below)) in
+    let q : ℤ = int_div_euclid (signed_number t) (pos (2 ^ by)) in
+    let q_is : signed_number (number_modulo_word q) ≡ q =
+    signed-reduced q (quotient-fits (signed_number t) (2 ^ by) (signed-fits t below)) in
     record {
-      number = reduced q;
+      number = number_modulo_word q;
       number_bits = reduced-below q;
       sets = is;
-      quotient = subst (IsQuotientDown (signed t) (2 ^ by)) (sym q_is)
-          (quotient-down (signed t) (2 ^ by) (pow_pos by));
+      quotient = subst (IsQuotientDown (signed_number t) (2 ^ by)) (sym q_is)
+          (quotient-down (signed_number t) (2 ^ by) (pow_pos by));
     }
 
 pub signed_shifts : SignedShifts

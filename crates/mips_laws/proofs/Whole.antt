@@ -4,11 +4,11 @@ use Rattle.std.proofs.lemmas.Bool.{cond_both, ltb-true, ltb-false}
 use Rattle.std.proofs.lemmas.Int.{ints}
 use Rattle.std.specs.Prelude.{unsigned_abs}
 use Rattle.std.specs.Int.{w32, w64}
-use Rattle.mips_instruction.specs.Numbers.{signed, signed_8, signed_16, reduced, reduced_64, extended}
+use Rattle.mips_instruction.specs.Numbers.{number_modulo_word, reduced_64, sign_extended, signed_16, signed_8, signed_number}
 use Rattle.mips_laws.specs.Products.{signed_64}
 
 -- a number of 32 bits is held by 32 signed bits
-pub signed-fits : (n : ℕ) → n < 2 ^ 32 → FitsSigned w32 (signed n)
+pub signed-fits : (n : ℕ) → n < 2 ^ 32 → FitsSigned w32 (signed_number n)
 signed-fits n below =
     cond_both (nat_lt n (2 ^ 31)) _ _ (FitsSigned w32)
     (λ low. record { sfits = ltb-true n (2 ^ 31) low })
@@ -18,12 +18,12 @@ signed-fits n below =
     subst (FitsSigned w32) (sym is) (record { sfits = omega arith }))
 
 -- a whole number in 32 bits
-pub reduced-below : (z : ℤ) → reduced z < 2 ^ 32
+pub reduced-below : (z : ℤ) → number_modulo_word z < 2 ^ 32
 reduced-below (pos n) = omega arith
 reduced-below (negsuc n) = omega arith
 
 -- where 32 signed bits hold it, the bits stand for it
-pub signed-reduced : (z : ℤ) → FitsSigned w32 z → signed (reduced z) ≡ z
+pub signed-reduced : (z : ℤ) → FitsSigned w32 z → signed_number (number_modulo_word z) ≡ z
 signed-reduced (pos n) fits = let small : n < 2 ^ 31 = fits.sfits in grind (arith, ints)
 signed-reduced (negsuc n) fits = let small : n < 2 ^ 31 = fits.sfits in grind (arith, ints)
 
@@ -42,7 +42,7 @@ unsigned_abs-fits (pos n) fits = omega (arith, fits.sfits)
 unsigned_abs-fits (negsuc n) fits = omega (arith, fits.sfits)
 
 -- a number that isn't 0 stands for none that is 0
-pub signed-size : (n : ℕ) → n < 2 ^ 32 → (n ≡ 0 → ⊥) → 0 < unsigned_abs (signed n)
+pub signed-size : (n : ℕ) → n < 2 ^ 32 → (n ≡ 0 → ⊥) → 0 < unsigned_abs (signed_number n)
 signed-size n below not_zero =
     cond_both (nat_lt n (2 ^ 31)) _ _ (λ z. 0 < unsigned_abs z)
     (λ low. omega (arith, not_zero))
@@ -61,7 +61,7 @@ signed_16-fits n below =
     let is : pos n -ℤ pos (2 ^ 16) ≡ negsuc (2 ^ 16 - suc n) = omega (arith, ints) in
     subst (FitsSigned w32) (sym is) (record { sfits = omega arith }))
 
-pub signed-extended : (imm : ℕ) → imm < 2 ^ 16 → signed (extended imm) ≡ signed_16 imm
+pub signed-extended : (imm : ℕ) → imm < 2 ^ 16 → signed_number (sign_extended imm) ≡ signed_16 imm
 signed-extended imm below = signed-reduced (signed_16 imm) (signed_16-fits imm below)
 
 -- and so does a byte
@@ -74,5 +74,5 @@ signed_8-fits n below =
     let is : pos n -ℤ pos (2 ^ 8) ≡ negsuc (2 ^ 8 - suc n) = omega (arith, ints) in
     subst (FitsSigned w32) (sym is) (record { sfits = omega arith }))
 
-pub signed-byte : (n : ℕ) → n < 2 ^ 8 → signed (reduced (signed_8 n)) ≡ signed_8 n
+pub signed-byte : (n : ℕ) → n < 2 ^ 8 → signed_number (number_modulo_word (signed_8 n)) ≡ signed_8 n
 signed-byte n below = signed-reduced (signed_8 n) (signed_8-fits n below)

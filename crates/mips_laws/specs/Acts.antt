@@ -5,7 +5,7 @@ use Rattle.mips_instruction.specs.declared.instruction.Ins.{Ins}
 use Rattle.xom_base.specs.declared.event.OwnFault.TheVariants as fault
 use Rattle.xom_base.specs.declared.step.Writes.{Writes}
 use Rattle.mips_effect.specs.declared.seen.Mode.{Mode}
-use Rattle.mips_effect.specs.Effects.{act, set, writes_only}
+use Rattle.mips_effect.specs.Effects.{act, write_of_register, writes_only}
 
 -- it writes these cells and does nothing else, in a guest and in null code
 abbrev pub WritesOnly : Ins → ℕ → ℕ → Writes → Type 0
@@ -14,7 +14,7 @@ WritesOnly i s t written =
 
 -- it sets the register to the value and does nothing else; a write to $0 is dropped
 abbrev pub SetsOnly : Ins → ℕ → ℕ → (reg value : ℕ) → Type 0
-SetsOnly i s t reg value = WritesOnly i s t (set reg value)
+SetsOnly i s t reg value = WritesOnly i s t (write_of_register reg value)
 
 -- it faults by Overflow, and writes nothing
 abbrev pub Overflows : Ins → ℕ → ℕ → Type 0

@@ -3,7 +3,7 @@
 use Rattle.std.specs.Prelude.{ℕ, ◌^◌, ◌<◌, ◌≤◌, ℤ, ◌≤ℤ◌, ◌<ℤ◌}
 use Rattle.mips_instruction.specs.declared.instruction.Ins.{Ins}
 use Rattle.mips_instruction.specs.declared.instruction.Ins.TheVariants.{Slt, Slti, Sltiu, Sltu}
-use Rattle.mips_instruction.specs.Numbers.{signed, signed_16, extended}
+use Rattle.mips_instruction.specs.Numbers.{sign_extended, signed_16, signed_number}
 use Rattle.mips_laws.specs.Acts.{SetsOnly}
 
 -- 1 where the first is less than the second, 0 where it isn't, as signed numbers
@@ -19,11 +19,11 @@ pub record SetsWhereBelow (i : Ins) (s t reg first second : ℕ) : Type 0 where
 -- SLT and SLTI compare signed numbers, the immediate with its sign
 abbrev pub SignedComparisons : Type 0
 SignedComparisons = (rd rs rt imm s t : ℕ) → imm < 2 ^ 16
-    → SetsWhereLess (Slt rd rs rt) s t rd (signed s) (signed t)
-    × SetsWhereLess (Slti rt rs imm) s t rt (signed s) (signed_16 imm)
+    → SetsWhereLess (Slt rd rs rt) s t rd (signed_number s) (signed_number t)
+    × SetsWhereLess (Slti rt rs imm) s t rt (signed_number s) (signed_16 imm)
 
 -- SLTU and SLTIU compare unsigned numbers, the immediate extended by its sign to 32 bits first
 abbrev pub UnsignedComparisons : Type 0
 UnsignedComparisons = (rd rs rt imm s t : ℕ)
     → SetsWhereBelow (Sltu rd rs rt) s t rd s t
-    × SetsWhereBelow (Sltiu rt rs imm) s t rt s (extended imm)
+    × SetsWhereBelow (Sltiu rt rs imm) s t rt s (sign_extended imm)

@@ -5,7 +5,7 @@ use Rattle.std.specs.Prelude.{◌≡◌, ◌≢◌, ℕ, ◌-◌, ◌^◌, ◌<�
 use Rattle.mips_instruction.specs.declared.instruction.Ins.{Ins}
 use Rattle.mips_instruction.specs.declared.instruction.Ins.TheVariants.{Div, Divu}
 use Rattle.xom_base.specs.declared.step.Writes.TheVariants as writes
-use Rattle.mips_instruction.specs.Numbers.{signed}
+use Rattle.mips_instruction.specs.Numbers.{signed_number}
 use Rattle.mips_laws.specs.Acts.{WritesOnly}
 
 -- a number is zero, or has the same sign as another
@@ -38,7 +38,7 @@ pub record IsOverflowRow (s t : ℕ) : Type 0 where
 abbrev pub DivDivides : Type 0
 DivDivides =
     (rs rt s t : ℕ) → s < 2 ^ 32 → t < 2 ^ 32 → t ≢ 0 → ¬ IsOverflowRow s t
-    → Divides (Div rs rt) s t signed
+    → Divides (Div rs rt) s t signed_number
 
 -- in the overflow row it leaves the dividend as the quotient, and the remainder 0
 abbrev pub DivOverflowRow : Type 0

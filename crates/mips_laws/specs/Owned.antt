@@ -7,8 +7,8 @@ use Rattle.mips_effect.specs.declared.seen.Seen.TheVariants.{Value}
 use Rattle.mips_effect.specs.Effects.{sources_of, is_guest_form, is_kernel_form, act, effect_of}
 
 -- the value of a cell; $0 is zero
-abbrev pub value_in : (cell value : ℕ) → ℕ
-value_in cell value = if cell == 0 then 0 else value
+abbrev pub value_in_cell : (cell value : ℕ) → ℕ
+value_in_cell cell value = if cell == 0 then 0 else value
 
 -- a form of MIPS I, which guests and null code have: neither is it a guest's own, nor null code's
 -- own
@@ -20,4 +20,4 @@ pub record IsMips1 (i : Ins) : Type 0 where
 abbrev pub OwnedCellsAreActedOn : Type 0
 OwnedCellsAreActedOn = (i : Ins) (mode : Mode) (s t d pc npc : ℕ) → IsMips1 i
     → effect_of i mode (Value s) (Value t) (Value d) pc npc ≡ act i mode
-    (value_in (sources_of i).0 s) (value_in (sources_of i).1 t) (value_in (sources_of i).2 d) npc
+    (value_in_cell (sources_of i).0 s) (value_in_cell (sources_of i).1 t) (value_in_cell (sources_of i).2 d) npc

@@ -5,7 +5,7 @@ use Rattle.std.specs.Prelude.{◌≡◌, ℕ, ◌+◌, ◌*◌, ◌^◌, ◌<◌
 use Rattle.mips_instruction.specs.declared.instruction.Ins.{Ins}
 use Rattle.mips_instruction.specs.declared.instruction.Ins.TheVariants.{Mult, Multu}
 use Rattle.xom_base.specs.declared.step.Writes.TheVariants as writes
-use Rattle.mips_instruction.specs.Numbers.{signed}
+use Rattle.mips_instruction.specs.Numbers.{signed_number}
 use Rattle.mips_laws.specs.Acts.{WritesOnly}
 
 -- the number of 64 bits in HI and LO
@@ -29,7 +29,7 @@ pub record Multiplies (i : Ins) (s t : ℕ) (stands_for : ℕ → ℤ) (product 
 abbrev pub MultMultiplies : Type 0
 MultMultiplies =
     (rs rt s t : ℕ) → s < 2 ^ 32 → t < 2 ^ 32
-    → Multiplies (Mult rs rt) s t signed_64 (signed s *ℤ signed t)
+    → Multiplies (Mult rs rt) s t signed_64 (signed_number s *ℤ signed_number t)
 
 -- MULTU multiplies unsigned numbers
 abbrev pub MultuMultiplies : Type 0

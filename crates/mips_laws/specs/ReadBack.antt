@@ -5,7 +5,7 @@
 use Rattle.std.specs.Prelude.{◌≡◌, ℕ, ◌+◌, ◌%◌, ◌^◌, ◌<◌, ◌≤◌, List, ℤ}
 use Rattle.mips_instruction.specs.declared.instruction.Ins.{Ins}
 use Rattle.mips_instruction.specs.declared.instruction.Ins.TheVariants.{Lb, Lbu, Lh, Lhu, Lw, Lwl, Lwr, Sb, Sh, Sw, Swl, Swr}
-use Rattle.mips_instruction.specs.Numbers.{plus_signed, signed, signed_8, signed_16}
+use Rattle.mips_instruction.specs.Numbers.{plus_signed, signed_16, signed_8, signed_number}
 use Rattle.mips_plain.specs.Memory.{private_size}
 use Rattle.mips_laws.specs.Accesses.{IsMemory, LoadsOnly, StoresOnly}
 use Rattle.mips_laws.specs.Unaligned.{NamesWord, LoadsByTwo, StoresByTwo}
@@ -29,7 +29,7 @@ pub record ReadsBackSigned (bytes : List ℕ) (store load : Ins) (s t base old r
   pub number : ℕ
   pub number_bits : number < 2 ^ 32
   pub reads_back : ReadsBack bytes store load s t base old reg number
-  pub number_is : signed number ≡ value
+  pub number_is : signed_number number ≡ value
 
 -- SW, then LW: the whole number
 abbrev pub WordsAreReadBack : Type 0

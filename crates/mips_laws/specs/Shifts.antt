@@ -4,7 +4,7 @@
 use Rattle.std.specs.Prelude.{ℕ, ◌*◌, ◌/◌, ◌%◌, ◌^◌, ◌<◌, ℤ, pos, ◌+ℤ◌, ◌*ℤ◌, ◌≤ℤ◌, ◌<ℤ◌}
 use Rattle.mips_instruction.specs.declared.instruction.Ins.{Ins}
 use Rattle.mips_instruction.specs.declared.instruction.Ins.TheVariants.{Sll, Sllv, Sra, Srav, Srl, Srlv}
-use Rattle.mips_instruction.specs.Numbers.{signed}
+use Rattle.mips_instruction.specs.Numbers.{signed_number}
 use Rattle.mips_laws.specs.Acts.{SetsOnly}
 
 -- a quotient of a whole number by a positive one, rounded down
@@ -18,7 +18,7 @@ pub record SetsQuotientDown (i : Ins) (s t reg : ℕ) (z : ℤ) (divisor : ℕ) 
   pub number : ℕ
   pub number_bits : number < 2 ^ 32
   pub sets : SetsOnly i s t reg number
-  pub quotient : IsQuotientDown z divisor (signed number)
+  pub quotient : IsQuotientDown z divisor (signed_number number)
 
 -- SLL multiplies by 2^sa modulo 2^32, and SRL divides by it
 abbrev pub UnsignedShifts : Type 0
@@ -31,5 +31,5 @@ UnsignedShifts = (rd rt rs sa s t : ℕ)
 -- SRA divides a signed number by 2^sa, and SRAV by 2 to the power of the low five bits
 abbrev pub SignedShifts : Type 0
 SignedShifts = (rd rt rs sa s t : ℕ) → t < 2 ^ 32
-    → SetsQuotientDown (Sra rd rt sa) s t rd (signed t) (2 ^ sa)
-    × SetsQuotientDown (Srav rd rt rs) s t rd (signed t) (2 ^ (s % 32))
+    → SetsQuotientDown (Sra rd rt sa) s t rd (signed_number t) (2 ^ sa)
+    × SetsQuotientDown (Srav rd rt rs) s t rd (signed_number t) (2 ^ (s % 32))

@@ -5,13 +5,13 @@ use Rattle.std.specs.Prelude.{◌≡◌, ℕ, ◌+◌, ◌*◌, ◌%◌, ◌^◌
 use Rattle.mips_instruction.specs.declared.instruction.Ins.{Ins}
 use Rattle.mips_instruction.specs.declared.instruction.Ins.TheVariants.{Lw, Lwl, Lwr, Sw, Swl, Swr}
 use Rattle.mips_instruction.specs.Numbers.{plus_signed}
-use Rattle.mips_plain.specs.Memory.{private_size, word_at, low_bytes, written_at}
+use Rattle.mips_plain.specs.Memory.{low_bytes, private_size, word_at_address, written_at}
 use Rattle.mips_laws.specs.Accesses.{IsMemory, LoadsOnly, StoresOnly}
 
 -- the first byte of a word is its highest; behind the last byte there are zeros
 abbrev pub WordsAreBigEndian : Type 0
 WordsAreBigEndian = (bytes : List ℕ) (address : ℕ)
-    → word_at bytes address ≡ slice_index bytes address * 2 ^ 24 + slice_index bytes
+    → word_at_address bytes address ≡ slice_index bytes address * 2 ^ 24 + slice_index bytes
     (address + 1) * 2 ^ 16 + slice_index bytes (address + 2) * 2 ^ 8 + slice_index bytes
     (address + 3)
 
@@ -19,7 +19,7 @@ WordsAreBigEndian = (bytes : List ℕ) (address : ℕ)
 -- for a number
 pub record WritesWord (bytes new : List ℕ) (address number : ℕ) : Type 0 where
   pub size : length new ≡ length bytes
-  pub word : word_at new address ≡ number
+  pub word : word_at_address new address ≡ number
   pub others : (place : ℕ) → (place < address) ⊎ (address + 4 ≤ place)
       → slice_index new place ≡ slice_index bytes place
 
@@ -45,14 +45,14 @@ pub record LoadsByTwo (bytes : List ℕ) (one two : Ins) (s old reg value : ℕ)
 abbrev pub HalvesLoadTheWord : Type 0
 HalvesLoadTheWord = (bytes : List ℕ) (rt rs first last s old address : ℕ) → IsMemory bytes
     → NamesWord s first last address
-    → LoadsByTwo bytes (Lwl rt first rs) (Lwr rt last rs) s old rt (word_at bytes address)
-    × LoadsByTwo bytes (Lwr rt last rs) (Lwl rt first rs) s old rt (word_at bytes address)
+    → LoadsByTwo bytes (Lwl rt first rs) (Lwr rt last rs) s old rt (word_at_address bytes address)
+    × LoadsByTwo bytes (Lwr rt last rs) (Lwl rt first rs) s old rt (word_at_address bytes address)
 
 -- and so does LW by itself, where the address is a multiple of 4
 abbrev pub LwLoadsTheWord : Type 0
 LwLoadsTheWord = (bytes : List ℕ) (rt rs imm s old : ℕ) → plus_signed s imm + 4 ≤ private_size
     → plus_signed s imm % 4 ≡ 0
-    → LoadsOnly bytes (Lw rt imm rs) s old rt (word_at bytes (plus_signed s imm))
+    → LoadsOnly bytes (Lw rt imm rs) s old rt (word_at_address bytes (plus_signed s imm))
 
 -- two stores, one after the other, make memory so
 pub record StoresByTwo (bytes : List ℕ) (one two : Ins) (s t : ℕ) (new : List ℕ) : Type 0 where

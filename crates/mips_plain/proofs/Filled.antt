@@ -2,25 +2,25 @@
 use Rattle.std.proofs.Common.{◌≡◌, ℕ, ◌+◌, ◌-◌, ◌≤◌, ◌<◌, List, [], ◌∷◌, ◌++◌, length, take, drop, replicate, refl, sym, ◌∙◌, ap, arith, length-append}
 use Rattle.std.specs.Prelude.{slice_index}
 use Rattle.std.proofs.lemmas.List.{take-append-le, drop-append-le, append_assoc, get_or_append_left, get_or-append_right, get_or-replicate, replicate-append-replicate, length-replicate, drop_more}
-use Rattle.xom_base.specs.Padded.{filled, same_at_both}
+use Rattle.xom_base.specs.Padded.{padded_block, same_at_both}
 use Rattle.mips_plain.specs.Memory.{low_bytes, written_at}
 use Rattle.mips_plain.proofs.Stores.{length-written_at, length-low_bytes}
 
 -- a byte that is used
 pub byte_used : (size : ℕ) (bytes : List ℕ) (i : ℕ) → i < length bytes
-    → slice_index (filled size bytes) i ≡ slice_index bytes i
+    → slice_index (padded_block size bytes) i ≡ slice_index bytes i
 byte_used size bytes i used = get_or_append_left bytes (replicate (size - length bytes) 0) 0 i used
 
 -- a byte behind those
 pub byte_unused : (size : ℕ) (bytes : List ℕ) (i : ℕ) → length bytes ≤ i → i < size
-    → 0 ≡ slice_index (filled size bytes) i
+    → 0 ≡ slice_index (padded_block size bytes) i
 byte_unused size bytes i past within =
     sym (get_or-append_right bytes (replicate (size - length bytes) 0) (length bytes) i 0 refl past
     ∙ get_or-replicate (size - length bytes) (i - length bytes) 0 0 (omega arith))
 
 -- zeros behind the bytes are there already
 filled_more : (size count : ℕ) (bytes : List ℕ) → count ≤ size
-    → filled size (bytes ++ replicate (count - length bytes) 0) ≡ filled size bytes
+    → padded_block size (bytes ++ replicate (count - length bytes) 0) ≡ padded_block size bytes
 filled_more size count bytes le =
     append_assoc bytes (replicate (count - length bytes) 0)
     (replicate (size - length (bytes ++ replicate (count - length bytes) 0)) 0)
@@ -31,7 +31,7 @@ filled_more size count bytes le =
 
 -- a store within the bytes that are used, seen with the zeros behind
 pub written_filled : (size address : ℕ) (bytes part : List ℕ) → address + length part ≤ length bytes
-    → filled size (written_at bytes address part) ≡ written_at (filled size bytes) address part
+    → padded_block size (written_at bytes address part) ≡ written_at (padded_block size bytes) address part
 written_filled size address bytes part within =
     let zeros : List ℕ = replicate (size - length bytes) 0 in
     ap (λ n. written_at bytes address part ++ replicate (size - n) 0)
@@ -45,8 +45,8 @@ written_filled size address bytes part within =
 -- a store, after zeros were put behind the bytes as far as it goes
 pub stored : (size address count : ℕ) (bytes part : List ℕ) → length part ≡ count
     → address + count ≤ size
-    → filled size (written_at (bytes ++ replicate (address + count - length bytes) 0) address part)
-    ≡ written_at (filled size bytes) address part
+    → padded_block size (written_at (bytes ++ replicate (address + count - length bytes) 0) address part)
+    ≡ written_at (padded_block size bytes) address part
 stored size address count bytes part long fits =
     let more : List ℕ = bytes ++ replicate (address + count - length bytes) 0 in
     written_filled size address more part
@@ -75,8 +75,8 @@ word_bytes bytes a within =
 pub stored_as : (size address count value used : ℕ) (old more new : List ℕ) → used ≡ length old
     → more ≡ old ++ replicate (address + count - used) 0
     → new ≡ written_at more address (low_bytes count value) → count ≤ 4 → address + count ≤ size
-    → filled size new ≡ written_at (filled size old) address (low_bytes count value)
+    → padded_block size new ≡ written_at (padded_block size old) address (low_bytes count value)
 stored_as size address count value used old more new is reached put few fits =
-    ap (filled size) (put ∙ ap (λ all. written_at all address (low_bytes count value))
+    ap (padded_block size) (put ∙ ap (λ all. written_at all address (low_bytes count value))
     (reached ∙ ap (λ n. old ++ replicate (address + count - n) 0) is))
     ∙ stored size address count old (low_bytes count value) (length-low_bytes count value few) fits

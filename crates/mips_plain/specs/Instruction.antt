@@ -2,13 +2,13 @@
 -- cells.
 use Rattle.std.specs.Prelude.{ℕ, ◌-◌, ◌%◌, ◌==◌, ◌&&◌, nat_lt, nat_le, not, is_none, Bool, true, false, List, Option, Some, None, Result, Ok, Err, if◌then◌else◌}
 use Rattle.mips_instruction.specs.declared.instruction.Ins.{Ins}
-use Rattle.mips_instruction.specs.Words.{read}
+use Rattle.mips_instruction.specs.Words.{instruction_of_word}
 use Rattle.mips_effect.specs.declared.effects.Effect.{Effect}
 use Rattle.mips_effect.specs.declared.seen.Mode.TheVariants.{Guest}
 use Rattle.mips_effect.specs.declared.seen.Seen.{Seen}
 use Rattle.mips_effect.specs.declared.wish.Wish.{Wish}
 use Rattle.mips_effect.specs.declared.wish.Wish.TheVariants as wish
-use Rattle.mips_effect.specs.Effects.{sources_of, effect_of, merge_of, set}
+use Rattle.mips_effect.specs.Effects.{effect_of, merge_of, sources_of, write_of_register}
 use Rattle.xom_base.specs.declared.event.OwnFault.{OwnFault}
 use Rattle.xom_base.specs.declared.event.OwnFault.TheVariants as fault
 use Rattle.xom_base.specs.declared.step.Writes.{Writes}
@@ -18,7 +18,7 @@ use Rattle.xom_base.specs.declared.step.Received.TheVariants as received
 use Rattle.xom_base.specs.declared.step.Released.TheVariants as released
 use Rattle.xom_base.specs.declared.step.StepEnd.TheVariants as ended
 use Rattle.xom_base.specs.declared.step.Step.{Step}
-use Rattle.mips_plain.specs.Memory.{word_at, private_size}
+use Rattle.mips_plain.specs.Memory.{private_size, word_at_address}
 
 -- an instruction may stand here: at a multiple of 4 in private memory
 abbrev pub is_code : ℕ → Bool
@@ -32,7 +32,7 @@ instruction_or_fault (Some ins) = Ok ins
 -- the instruction at an address
 unfoldable pub instruction_in : List ℕ → ℕ → Result Ins OwnFault
 instruction_in bytes pc =
-    if is_code pc then instruction_or_fault (read (word_at bytes pc)) else Err fault.Address
+    if is_code pc then instruction_or_fault (instruction_of_word (word_at_address bytes pc)) else Err fault.Address
 
 -- the return from a signal goes to the pair that was kept, and is Reserved where none was; every
 -- other effect is as it is
@@ -96,7 +96,7 @@ receives_value other = false
 
 -- the word that a load is made of, the one that holds its address; 0 where nothing is loaded
 abbrev pub word_for : List ℕ → Wish → ℕ
-word_for bytes (wish.Load reg address kind old) = word_at bytes (address - address % 4)
+word_for bytes (wish.Load reg address kind old) = word_at_address bytes (address - address % 4)
 word_for bytes other = 0
 
 -- the step of a wish at a pair, of the word that it loads, where a value was received; a wish that
@@ -117,7 +117,7 @@ step_of_wish pc npc written (wish.Load reg address kind old) word got =
     record {
       pc = pc;
       npc = npc;
-      writes = set reg (merge_of kind old address word);
+      writes = write_of_register reg (merge_of kind old address word);
       stored =
           stored.Nothing;
       received = received.Nothing;
@@ -149,7 +149,7 @@ step_of_wish pc npc written (wish.Receive reg from) word got = record {
   pc = pc;
   npc = npc;
   writes =
-      set reg got;
+      write_of_register reg got;
   stored = stored.Nothing;
   received = received.Cell got;
   released =
@@ -160,7 +160,7 @@ step_of_wish pc npc written (wish.NullLoad reg address) word got =
     record {
       pc = pc;
       npc = npc;
-      writes = set reg got;
+      writes = write_of_register reg got;
       stored = stored.Nothing;
       received =
           received.Null address got;

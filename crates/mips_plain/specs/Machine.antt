@@ -1,7 +1,7 @@
 -- The plain machine: a program run alone, with nothing around it. There are no tags, keys, lines,
 -- pages or kernel in it.
 use Rattle.std.specs.Prelude.{ℕ, ◌+◌, ◌%◌, ◌^◌, ◌==◌, ◌&&◌, Bool, true, false, List, Option, Some, None, Result, Ok, Err, replicate, slice_set, slice_index_or, if◌then◌else◌}
-use Rattle.xom_base.specs.Padded.{filled}
+use Rattle.xom_base.specs.Padded.{padded_block}
 use Rattle.xom_base.specs.declared.event.OwnFault.{OwnFault}
 use Rattle.xom_base.specs.declared.image.PlainImage.{PlainImage}
 use Rattle.xom_base.specs.declared.step.Writes.{Writes}
@@ -41,15 +41,15 @@ start image = record {
   pc = image.entry;
   npc = image.entry + 4;
   bytes =
-      filled private_size image.bytes;
+      padded_block private_size image.bytes;
   handler = 0;
   kept = None;
   over = false;
 }
 
 -- the cell of a register
-abbrev pub cell_at : List PlainCell → ℕ → PlainCell
-cell_at cells reg = slice_index_or cells reg Lent
+abbrev pub plain_cell_at : List PlainCell → ℕ → PlainCell
+plain_cell_at cells reg = slice_index_or cells reg Lent
 
 -- what the program sees in a cell; $0 is zero
 abbrev pub seen_in : PlainCell → Seen
@@ -57,7 +57,7 @@ seen_in (Own value) = Value value
 seen_in Lent = Foreign
 
 abbrev pub seen_of_cell : List PlainCell → ℕ → Seen
-seen_of_cell cells reg = if reg == 0 then Value 0 else seen_in (cell_at cells reg)
+seen_of_cell cells reg = if reg == 0 then Value 0 else seen_in (plain_cell_at cells reg)
 
 -- a written cell is owned
 abbrev pub with_owned : List PlainCell → Writes → List PlainCell

@@ -13,8 +13,8 @@ abbrev pub blank_memory : List ℕ
 blank_memory = replicate private_size 0
 
 -- the word whose first byte is at the address
-abbrev pub word_at : List ℕ → ℕ → ℕ
-word_at bytes address = from_be_bytes w32 (take 4 (drop address bytes))
+abbrev pub word_at_address : List ℕ → ℕ → ℕ
+word_at_address bytes address = from_be_bytes w32 (take 4 (drop address bytes))
 
 -- memory with these bytes at the address
 abbrev pub written_at : List ℕ → ℕ → List ℕ → List ℕ

@@ -1,6 +1,6 @@
 ghost use Rattle.std.specs.Prelude.{◌≡◌, ◌&&◌, IfOk};
 ghost use Rattle.mips_instruction.specs.Words.{Fits};
-ghost use Rattle.mips_effect.specs.Effects.{Ranged, set as set_of};
+ghost use Rattle.mips_effect.specs.Effects.{Ranged, write_of_register as set_of};
 ghost use Rattle.mips_plain.specs.Instruction.{handler_after as handler_of, instruction_in, is_signal, is_signal_ready, kept_after as kept_of, signal_step as signal_step_of, step_made as made_of, with_return, word_for as word_of};
 ghost use Rattle.mips_plain.specs.Inside.{IsInside};
 

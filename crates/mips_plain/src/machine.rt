@@ -2,7 +2,7 @@ ghost use Rattle.std.specs.Prelude.{◌≡◌, ◌≤◌, ◌<◌, IfOk, length,
 ghost use Rattle.mips_effect.specs.Effects.{AreCells, Ranged};
 ghost use Rattle.mips_plain.specs.Instruction.{effect_at, instruction_in};
 ghost use Rattle.mips_plain.specs.Inside.{IsLent};
-ghost use Rattle.mips_plain.specs.Machine.{answer_to, cell_at, plain, seen_of_cell as seen_at, signal_answered, start, step_done, with_lent, with_owned};
+ghost use Rattle.mips_plain.specs.Machine.{answer_to, plain, plain_cell_at, seen_of_cell as seen_at, signal_answered, start, step_done, with_lent, with_owned};
 ghost use Rattle.mips_plain.specs.Memory.{private_size};
 
 use crate::{
@@ -77,7 +77,7 @@ impl Plain {
     pub fn cell(&self, reg: u8) -> PlainCell
         requires some { 1 ≤ reg }
         requires few { reg < 34 }
-        ensures { result ≡ cell_at self.now.cells reg }
+        ensures { result ≡ plain_cell_at self.now.cells reg }
     {
         cell_of(&self.cells, reg)
     }
@@ -185,7 +185,7 @@ impl Plain {
 fn cell_of(cells: &[PlainCell], reg: u8) -> PlainCell
     requires whole { length cells.now ≡ 34 }
     requires few { reg < 34 }
-    ensures { result ≡ cell_at cells.now reg }
+    ensures { result ≡ plain_cell_at cells.now reg }
 {
     cells[usize::from(reg)]
 }

@@ -1,6 +1,6 @@
 ghost use Rattle.std.specs.Prelude.{◌≡◌, ◌≤◌, ◌<◌, ◌+◌, ◌-◌, ◌++◌, ◌∷◌, [], IfOk, slice_index, length, replicate, vec_len, vec_capacity};
-ghost use Rattle.xom_base.specs.Padded.{filled};
-ghost use Rattle.mips_plain.specs.Memory.{blank_memory, low_bytes, private_size, word_at, written_at};
+ghost use Rattle.xom_base.specs.Padded.{padded_block};
+ghost use Rattle.mips_plain.specs.Memory.{blank_memory, low_bytes, private_size, word_at_address, written_at};
 
 use std::alloc::Global;
 use std::marker::Model;
@@ -16,12 +16,12 @@ pub struct Memory {
 
 impl Model for Memory {
     ghost use Rattle.std.specs.Prelude.{List, ℕ, ◌≤◌, length, vec_capacity};
-    ghost use Rattle.xom_base.specs.Padded.{filled};
+    ghost use Rattle.xom_base.specs.Padded.{padded_block};
     ghost use Rattle.mips_plain.specs.Memory.{private_size};
 
     ghost Value = { List ℕ };
 
-    ghost view = { λ m. filled private_size m.bytes.items };
+    ghost view = { λ m. padded_block private_size m.bytes.items };
 
     ghost invariant = { λ m. (length m.bytes.items ≤ private_size) × (private_size ≤ vec_capacity m.bytes) };
 }
@@ -42,7 +42,7 @@ impl Memory {
     /// Puts an image's bytes at address 0, and zeros behind them.
     #[tactic(auto, using(crate::proofs::Sizes::private_size_is))]
     pub fn load(&mut self, image: &PlainImage)
-        ensures { self.new ≡ filled private_size image.now.bytes }
+        ensures { self.new ≡ padded_block private_size image.now.bytes }
     {
         self.bytes.clear();
         match self.bytes.extend_from_slice(image.bytes.as_slice()) {
@@ -69,7 +69,7 @@ impl Memory {
     #[tactic(auto, using(crate::proofs::Filled::word_bytes, crate::proofs::Sizes::private_size_is))]
     pub fn word(&self, address: u32) -> u32
         requires { address + 4 ≤ private_size }
-        ensures { result ≡ word_at self.now address }
+        ensures { result ≡ word_at_address self.now address }
     {
         u32::from_be_bytes([
             self.byte(address),

@@ -5,7 +5,7 @@ use Rattle.std.proofs.lemmas.Int.{ints, int_rem_euclid_is}
 use Rattle.std.specs.Prelude.{unsigned_abs}
 use Rattle.mips_isa.proofs.Reading.{Word-read, reserved-none}
 use Rattle.mips_instruction.specs.declared.instruction.Ins.{Ins}
-use Rattle.mips_instruction.specs.Numbers.{signed_16, reduced, target, jump_target, after}
+use Rattle.mips_instruction.specs.Numbers.{jump_target, next_address, number_modulo_word, signed_16, target}
 use Rattle.mips_forms.specs.declared.operand.Operand.TheVariants.{Register, Shift, Signed, Unsigned, Code, Branch, Jump, Offset}
 use Rattle.mips_text.specs.Texts.{read_text}
 use Rattle.mips_text.specs.TextLaws.{ValuesDiffer, WordsAreListed}
@@ -41,7 +41,7 @@ signed_16-same a b a_fits b_fits same =
 target_forward : (following imm : ℕ) → signed_16 imm ≡ pos imm
     → target following imm ≡ (following + 4 * imm) % 2 ^ 32
 target_forward following imm is =
-    ap (λ (s : ℤ). reduced (pos following +ℤ s *ℤ pos 4)) is
+    ap (λ (s : ℤ). number_modulo_word (pos following +ℤ s *ℤ pos 4)) is
     ∙ ap (λ (n : ℕ). (following + n) % 2 ^ 32) (mul_comm imm 4)
 
 whole_back : (imm : ℕ) → imm < 2 ^ 16
@@ -53,8 +53,8 @@ target_back : (following imm : ℕ) → imm < 2 ^ 16 → signed_16 imm ≡ pos i
 target_back following imm fits is =
     let sum : (pos following +ℤ (pos (4 * imm) -ℤ pos (2 ^ 18))) +ℤ pos (1 * 2 ^ 32) ≡ pos
     (following + 4 * imm + (2 ^ 32 - 2 ^ 18)) = omega (arith, ints) in
-    ap (λ (s : ℤ). reduced (pos following +ℤ s *ℤ pos 4)) is
-    ∙ ap (λ (s : ℤ). reduced (pos following +ℤ s)) (whole_back imm fits)
+    ap (λ (s : ℤ). number_modulo_word (pos following +ℤ s *ℤ pos 4)) is
+    ∙ ap (λ (s : ℤ). number_modulo_word (pos following +ℤ s)) (whole_back imm fits)
     ∙ ap unsigned_abs (int_rem_euclid_is (pos following +ℤ (pos (4 * imm) -ℤ pos (2 ^ 18)))
     (pos (2 ^ 32)) (2 ^ 32) 1 (following + 4 * imm + (2 ^ 32 - 2 ^ 18)) (lit< tt) refl sum)
 
@@ -97,10 +97,10 @@ values_differ pc (Signed a) (Signed b) kinds a_fits b_fits same base =
 values_differ pc (Unsigned a) (Unsigned b) kinds a_fits b_fits same base = cc
 values_differ pc (Code a) (Code b) kinds a_fits b_fits same base = cc
 values_differ pc (Branch a) (Branch b) kinds a_fits b_fits same base =
-    let address : target (after pc) a ≡ target (after pc) b = cc in
-    ap (λ (imm : ℕ). Branch imm) (target-same (after pc) a b a_fits b_fits address)
+    let address : target (next_address pc) a ≡ target (next_address pc) b = cc in
+    ap (λ (imm : ℕ). Branch imm) (target-same (next_address pc) a b a_fits b_fits address)
 values_differ pc (Jump a) (Jump b) kinds a_fits b_fits same base =
-    let address : jump_target (after pc) a ≡ jump_target (after pc) b = cc in
+    let address : jump_target (next_address pc) a ≡ jump_target (next_address pc) b = cc in
     let index : a ≡ b = omega (arith, address) in
     ap (λ (index : ℕ). Jump index) index
 values_differ pc (Offset a s) (Offset b t) kinds a_fits b_fits same base =

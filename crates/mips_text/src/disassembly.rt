@@ -1,5 +1,5 @@
 ghost use Rattle.std.specs.Prelude.{◌≡◌, ◌++◌, ◌+◌, ◌<◌, ◌≤◌, ◌^◌, IfOk, OnOk, slice_index};
-ghost use Rattle.mips_text.specs.Texts.{listing_of, line_of, word_at as word_at_of, word_text};
+ghost use Rattle.mips_text.specs.Texts.{image_word_at as word_at_of, listing_line, listing_of, word_text};
 
 use crate::pieces::push_address;
 use crate::printing::push_instruction;
@@ -25,9 +25,9 @@ pub fn listing(alloc: Global, image: &PlainImage) -> Result<ByteList, NoMemory>
 }
 
 /// Adds the line of a word.
-#[tactic(auto, unfolding(crate::specs::Texts::line_of))]
+#[tactic(auto, unfolding(crate::specs::Texts::listing_line))]
 fn push_line(text: &mut Vec<u8>, address: u32, word: u32) -> Result<(), NoMemory>
-    ensures { OnOk result (text.new.items ≡ text.old.items ++ line_of address word) }
+    ensures { OnOk result (text.new.items ≡ text.old.items ++ listing_line address word) }
 {
     push_hex8(text, address)?;
     push_text(text, " ")?;

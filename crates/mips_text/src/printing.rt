@@ -1,8 +1,8 @@
 ghost use Rattle.std.specs.Prelude.{◌≡◌, ◌++◌, map, OnOk, IfOk, codes};
 ghost use Rattle.std.specs.List.{AllByRecursion};
 ghost use Rattle.mips_instruction.specs.Words.{Fits};
-ghost use Rattle.mips_forms.specs.Forms.{listed, InRange};
-ghost use Rattle.mips_text.specs.Texts.{text_of, operand_text, offset_text, operands_text, joined};
+ghost use Rattle.mips_forms.specs.Forms.{InRange, operand_list};
+ghost use Rattle.mips_text.specs.Texts.{comma_joined, instruction_text, offset_text, operand_text, operands_text};
 
 use crate::pieces::{push_address, push_immediate, push_register};
 use mips_effect::{after, jump_target, target};
@@ -17,7 +17,7 @@ use xom_base::{ByteList, NoMemory};
 /// hexadecimal digits.
 pub fn print(alloc: Global, ins: Ins, pc: u32) -> Result<ByteList, NoMemory>
     requires { Fits ins }
-    ensures { IfOk result (λ text. text ≡ text_of ins pc) }
+    ensures { IfOk result (λ text. text ≡ instruction_text ins pc) }
 {
     let mut text = Vec::new(alloc);
     push_instruction(&mut text, ins, pc)?;
@@ -26,10 +26,10 @@ pub fn print(alloc: Global, ins: Ins, pc: u32) -> Result<ByteList, NoMemory>
 
 /// Adds the text of the instruction at an address. Where memory runs out, a part of it may stand
 /// there already.
-#[tactic(auto, unfolding(crate::specs::Texts::text_of), using(mips_forms::proofs::FormTable::operands_fit))]
+#[tactic(auto, unfolding(crate::specs::Texts::instruction_text), using(mips_forms::proofs::FormTable::operands_fit))]
 pub fn push_instruction(text: &mut Vec<u8>, ins: Ins, pc: u32) -> Result<(), NoMemory>
     requires { Fits ins }
-    ensures { OnOk result (text.new.items ≡ text.old.items ++ text_of ins pc) }
+    ensures { OnOk result (text.new.items ≡ text.old.items ++ instruction_text ins pc) }
 {
     let form = form(ins);
     push_text(text, form.name)?;
@@ -38,8 +38,8 @@ pub fn push_instruction(text: &mut Vec<u8>, ins: Ins, pc: u32) -> Result<(), NoM
 
 /// Adds a space and the operands, or nothing where there are none.
 fn push_behind(text: &mut Vec<u8>, operands: Operands, pc: u32) -> Result<(), NoMemory>
-    requires { AllByRecursion InRange (listed operands) }
-    ensures { OnOk result (text.new.items ≡ text.old.items ++ operands_text (map (operand_text pc) (listed operands))) }
+    requires { AllByRecursion InRange (operand_list operands) }
+    ensures { OnOk result (text.new.items ≡ text.old.items ++ operands_text (map (operand_text pc) (operand_list operands))) }
 {
     match operands {
         Operands::Empty => Ok(()),

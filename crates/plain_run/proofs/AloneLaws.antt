@@ -16,15 +16,15 @@ use Rattle.mips_plain.specs.Machine.{State, is_exit, plain, start}
 use Rattle.mips_plain.proofs.Runs.{runs_follow}
 use Rattle.plain_run.specs.declared.ending.PlainEnd.{PlainEnd}
 use Rattle.plain_run.specs.declared.ending.PlainEnd.TheVariants as ending
-use Rattle.plain_run.specs.Laws.{EndsByExit, NoSignals, OneRun, Receives, RunsAlone, Stops, is_signalled, value_in, values_in}
-use Rattle.plain_run.specs.Runs.{Run, after, goes_on, next, run_from, run_of, stops, with_value}
+use Rattle.plain_run.specs.Laws.{EndsByExit, NoSignals, OneRun, Receives, RunStops, RunsAlone, is_signalled, value_from_outside, values_in}
+use Rattle.plain_run.specs.Runs.{Run, next, next_after, run_from, run_goes_on, run_of_image, stops, with_value}
 use Rattle.plain_run.proofs.RunLaws.{none_more}
 use Rattle.plain_run.proofs.Steps.{exit_is, is_over, nothing_received, over_answers, over_of_exit, unfit_receives, value_needed}
 
 -- ---- what is next
 
 after_other : (p : State) (r : PlainStep × State) (values : List ℕ) (answer : PlainStep)
-    → r.0 ≡ answer → (answer ≡ Unfit → ⊥) → after p r values ≡ record {
+    → r.0 ≡ answer → (answer ≡ Unfit → ⊥) → next_after p r values ≡ record {
       answer = answer;
       state =
           r.1;
@@ -36,13 +36,13 @@ after_other p (Unfit, q) values answer is other = absurd (other (sym is))
 after_other p (Over, q) values answer is other = cc
 
 after_value : (p : State) (r : PlainStep × State) (value : ℕ) (values : List ℕ) → r.0 ≡ Unfit
-    → after p r (value ∷ values) ≡ with_value p value values
+    → next_after p r (value ∷ values) ≡ with_value p value values
 after_value p (Did step, q) value values unfit = cc
 after_value p (Fault fault, q) value values unfit = cc
 after_value p (Unfit, q) value values unfit = refl
 after_value p (Over, q) value values unfit = cc
 
-after_none : (p : State) (r : PlainStep × State) → r.0 ≡ Unfit → (after p r []).answer ≡ Unfit
+after_none : (p : State) (r : PlainStep × State) → r.0 ≡ Unfit → (next_after p r []).answer ≡ Unfit
 after_none p (Did step, q) unfit = cc
 after_none p (Fault fault, q) unfit = cc
 after_none p (Unfit, q) unfit = refl
@@ -51,7 +51,7 @@ after_none p (Over, q) unfit = cc
 -- a step to which nothing is given, in front of the run behind it
 run_did : (count : ℕ) (p : State) (values : List ℕ) (step : Step)
     → (plain p given.Nothing).0 ≡ Did step
-    → run_from (suc count) p values ≡ goes_on (Did step) (run_from count (plain p given.Nothing).1
+    → run_from (suc count) p values ≡ run_goes_on (Did step) (run_from count (plain p given.Nothing).1
     values)
 unfolding run_from next
 run_did count p values step did =
@@ -60,12 +60,12 @@ run_did count p values step did =
 -- a step to which a value is given
 run_given : (count : ℕ) (p : State) (value : ℕ) (values : List ℕ) (step : Step)
     → (plain p (given.Value value)).0 ≡ Did step
-    → run_from (suc count) p (value ∷ values) ≡ goes_on (Did step)
+    → run_from (suc count) p (value ∷ values) ≡ run_goes_on (Did step)
     (run_from count (plain p (given.Value value)).1 values)
 unfolding run_from next
 run_given count p value values step did =
     rw (after_value p (plain p given.Nothing) value values (value_needed p value step did))
-    (ap (λ (answer : PlainStep). goes_on answer (run_from count (plain p (given.Value value)).1
+    (ap (λ (answer : PlainStep). run_goes_on answer (run_from count (plain p (given.Value value)).1
     values)) did)
 
 -- a fault is next
@@ -89,9 +89,9 @@ run_waits : (count : ℕ) (p : State) → (plain p given.Nothing).0 ≡ Unfit
 unfolding run_from next
 run_waits count p is =
     ap
-    (λ (answer : PlainStep). goes_on answer
-    (run_from count (after p (plain p given.Nothing) []).state
-    (after p (plain p given.Nothing) []).values))
+    (λ (answer : PlainStep). run_goes_on answer
+    (run_from count (next_after p (plain p given.Nothing) []).state
+    (next_after p (plain p given.Nothing) []).values))
     (after_none p (plain p given.Nothing) is)
 
 -- ---- a run is the program alone
@@ -144,7 +144,7 @@ joined (Some value) front behind = refl
 
 -- a step that was given a value received it, and no signal
 given_value : (r : Received) (value : ℕ) → given_of r ≡ given.Value value
-    → (value_in r ≡ Some value) × (is_signalled r ≡ false)
+    → (value_from_outside r ≡ Some value) × (is_signalled r ≡ false)
 given_value received.Nothing value is = absurd (cc)
 given_value (received.Cell v) value is = (cc, refl)
 given_value (received.Null address v) value is = (cc, refl)
@@ -153,24 +153,24 @@ given_value (received.Signal n) value is = absurd (cc)
 -- one more step in front
 from_step : (p : State) (count : ℕ) (values others : List ℕ) (step : Step) (run : Run)
     → (plain p (given_of step.received)).0 ≡ Did step
-    → values ≡ cons_option (value_in step.received) others → is_signalled step.received ≡ false
+    → values ≡ cons_option (value_from_outside step.received) others → is_signalled step.received ≡ false
     → From (plain p (given_of step.received)).1 count others run
-    → From p (suc count) values (goes_on (Did step) run)
+    → From p (suc count) values (run_goes_on (Did step) run)
 from_step p count values others step run did is no_signal behind = record {
   state = behind.state;
   left = behind.left;
   reaches = (did, behind.reaches);
   few = omega (arith, behind.few);
-  taken = is ∙ (ap (cons_option (value_in step.received)) behind.taken
-      ∙ joined (value_in step.received) (values_in run.steps) behind.left);
+  taken = is ∙ (ap (cons_option (value_from_outside step.received)) behind.taken
+      ∙ joined (value_from_outside step.received) (values_in run.steps) behind.left);
   unsignalled = (no_signal, behind.unsignalled);
   stops_at = stops_later run.end count step run.steps behind.state behind.left behind.stops_at;
 }
 
 from_given : (p : State) (count : ℕ) (values others : List ℕ) (g : Given) (step : Step) (run : Run)
     → given_of step.received ≡ g → (plain p g).0 ≡ Did step
-    → values ≡ cons_option (value_in step.received) others → is_signalled step.received ≡ false
-    → From (plain p g).1 count others run → From p (suc count) values (goes_on (Did step) run)
+    → values ≡ cons_option (value_from_outside step.received) others → is_signalled step.received ≡ false
+    → From (plain p g).1 count others run → From p (suc count) values (run_goes_on (Did step) run)
 from_given p count values others g step run is did taken no_signal behind =
     from_step p count values others step run (ap (λ (g : Given). (plain p g).0) is ∙ did) taken
     no_signal
@@ -192,7 +192,7 @@ from_next count p values (Did step) is behind =
     rw (run_did count p values step is)
     (from_given p count values values given.Nothing step (run_from count (plain p given.Nothing).1
     values) (ap given_of nothing) is
-    (sym (ap (λ (r : Received). cons_option (value_in r) values) nothing)) (ap is_signalled nothing)
+    (sym (ap (λ (r : Received). cons_option (value_from_outside r) values) nothing)) (ap is_signalled nothing)
     (behind (plain p given.Nothing).1 values))
 from_next count p values (Fault fault) is behind =
     rw (run_fault count p values fault is) (from_stops p (suc count) values (ending.Fault fault)
@@ -262,7 +262,7 @@ not_over image = refl
 -- the reason in the words of the law
 stops_so : (image : PlainImage) (end : PlainEnd) (count : ℕ) (steps : List Step) (p : State)
     (left : List ℕ)
-    → Reaches (start image) steps p → StopsAt end count steps p left → Stops end count steps p left
+    → Reaches (start image) steps p → StopsAt end count steps p left → RunStops end count steps p left
 stops_so image ending.Ended count steps p left reaches why =
     exit_last (start image) steps p (not_over image) reaches why
 stops_so image ending.Steps count steps p left reaches why = why
@@ -271,7 +271,7 @@ stops_so image ending.Waiting count steps p left reaches why = why
 
 so_stops : (image : PlainImage) (end : PlainEnd) (count : ℕ) (steps : List Step) (p : State)
     (left : List ℕ)
-    → Reaches (start image) steps p → Stops end count steps p left → StopsAt end count steps p left
+    → Reaches (start image) steps p → RunStops end count steps p left → StopsAt end count steps p left
 so_stops image ending.Ended count steps p left reaches why =
     last_over (start image) why.0 why.1 p
     (subst (λ (steps : List Step). Reaches (start image) steps p) why.2 reaches) why.3
@@ -286,11 +286,11 @@ runs_alone image count values =
       state = from.state;
       left = from.left;
       reaches = from.reaches;
-      follows = runs_follow (start image) (run_of image count values).steps from.state from.reaches;
+      follows = runs_follow (start image) (run_of_image image count values).steps from.state from.reaches;
       few = from.few;
       taken = from.taken;
       unsignalled = from.unsignalled;
-      stops = stops_so image (run_of image count values).end count (run_of image count values).steps
+      stops = stops_so image (run_of_image image count values).end count (run_of_image image count values).steps
           from.state from.left from.reaches from.stops_at;
     }
 
@@ -332,8 +332,8 @@ stops_sooner ending.Waiting count step steps p left h = (omega (arith, h.0), h.1
 -- one step of the run, by what it received
 one_step : (count : ℕ) (p : State) (values others : List ℕ) (step : Step) (got : Received)
     → step.received ≡ got → is_signalled got ≡ false → (plain p (given_of got)).0 ≡ Did step
-    → values ≡ cons_option (value_in got) others
-    → run_from (suc count) p values ≡ goes_on (Did step) (run_from count (plain p (given_of got)).1
+    → values ≡ cons_option (value_from_outside got) others
+    → run_from (suc count) p values ≡ run_goes_on (Did step) (run_from count (plain p (given_of got)).1
     others)
 one_step count p values others step received.Nothing is no_signal did taken =
     rw taken (run_did count p others step did)
@@ -356,8 +356,8 @@ one_from (step ∷ steps) end (suc count) p q values left reaches few taken no_s
     (values_in steps ++ left) left reaches.1 (omega arith) refl no_signals.1
     (stops_sooner end count step steps q left why) in
     sym (one_step count p values (values_in steps ++ left) step step.received refl no_signals.0
-    reaches.0 (taken ∙ sym (joined (value_in step.received) (values_in steps) left))
-    ∙ ap (goes_on (Did step)) (sym behind))
+    reaches.0 (taken ∙ sym (joined (value_from_outside step.received) (values_in steps) left))
+    ∙ ap (run_goes_on (Did step)) (sym behind))
 
 pub one_run : OneRun
 one_run image count values run alone =

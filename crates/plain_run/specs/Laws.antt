@@ -13,14 +13,14 @@ use Rattle.mips_plain.specs.Follows.{given_of, Reaches, verdict_from}
 use Rattle.mips_plain.specs.Machine.{State, plain, start}
 use Rattle.plain_run.specs.declared.ending.PlainEnd.{PlainEnd}
 use Rattle.plain_run.specs.declared.ending.PlainEnd.TheVariants as ending
-use Rattle.plain_run.specs.Runs.{Run, run_of}
+use Rattle.plain_run.specs.Runs.{Run, run_of_image}
 
 -- the value that came from outside, if one did
-abbrev pub value_in : Received → Option ℕ
-value_in received.Nothing = None
-value_in (received.Cell value) = Some value
-value_in (received.Null address value) = Some value
-value_in (received.Signal n) = None
+abbrev pub value_from_outside : Received → Option ℕ
+value_from_outside received.Nothing = None
+value_from_outside (received.Cell value) = Some value
+value_from_outside (received.Null address value) = Some value
+value_from_outside (received.Signal n) = None
 
 -- a signal came
 abbrev pub is_signalled : Received → Bool
@@ -36,7 +36,7 @@ NoSignals (step ∷ steps) = (is_signalled step.received ≡ false) × NoSignals
 
 -- the values that steps received, in their order
 abbrev pub values_in : List Step → List ℕ
-values_in steps = filter_map (λ step. value_in step.received) steps
+values_in steps = filter_map (λ step. value_from_outside step.received) steps
 
 -- the last step is that of `xexit`
 abbrev pub EndsByExit : List Step → Type 0
@@ -53,12 +53,12 @@ Receives p =
 
 -- Why a run of at most so many steps stopped, which made these steps to state p, with these values
 -- left.
-abbrev pub Stops : PlainEnd → ℕ → List Step → State → List ℕ → Type 0
-Stops ending.Ended count steps p left = EndsByExit steps
-Stops ending.Steps count steps p left = (length steps ≡ count) × (p.over ≡ false)
-Stops (ending.Fault fault) count steps p left =
+abbrev pub RunStops : PlainEnd → ℕ → List Step → State → List ℕ → Type 0
+RunStops ending.Ended count steps p left = EndsByExit steps
+RunStops ending.Steps count steps p left = (length steps ≡ count) × (p.over ≡ false)
+RunStops (ending.Fault fault) count steps p left =
     (length steps < count) × ((plain p given.Nothing).0 ≡ Fault fault)
-Stops ending.Waiting count steps p left = (length steps < count) × (left ≡ []) × Receives p
+RunStops ending.Waiting count steps p left = (length steps < count) × (left ≡ []) × Receives p
 
 -- A run is the image's program alone: its steps are those of the plain machine and so follow, all
 -- of them; they are
@@ -73,16 +73,16 @@ pub record IsAlone (image : PlainImage) (count : ℕ) (values : List ℕ) (run :
   pub few : length run.steps ≤ count
   pub taken : values ≡ values_in run.steps ++ left
   pub unsignalled : NoSignals run.steps
-  pub stops : Stops run.end count run.steps state left
+  pub stops : RunStops run.end count run.steps state left
 
 -- what is printed is the run of a program alone
 abbrev pub RunsAlone : Type 0
 RunsAlone =
     (image : PlainImage) (count : ℕ) (values : List ℕ)
-    → IsAlone image count values (run_of image count values)
+    → IsAlone image count values (run_of_image image count values)
 
 -- and there is no other
 abbrev pub OneRun : Type 0
 OneRun =
     (image : PlainImage) (count : ℕ) (values : List ℕ) (run : Run) → IsAlone image count values run
-    → run ≡ run_of image count values
+    → run ≡ run_of_image image count values

@@ -1,6 +1,6 @@
 ghost use Rattle.std.specs.Prelude.{◌≡◌, map};
 ghost use Rattle.xom_base.specs.Lines.{AnswersRead, AnswersText};
-ghost use Rattle.plain_run.specs.Received.{IsBadLine, IsReceived, received_at, value_of};
+ghost use Rattle.plain_run.specs.Received.{IsBadValueLine, IsReceivedFile, received_at, value_of_line};
 
 use std::alloc::Global;
 use step_text::hex8_in;
@@ -15,7 +15,7 @@ pub type ReceivedList = List<u32>;
 pub fn read_received(alloc: Global, text: &[u8]) -> Result<ReceivedList, TextFault>
     // What is read is in the grammar, and what is in the grammar is read, unless memory ran out. The line
     // that is answered is the first bad one.
-    ensures text { AnswersText (IsReceived text.now) (IsBadLine text.now) result }
+    ensures text { AnswersText (IsReceivedFile text.now) (IsBadValueLine text.now) result }
     ensures value { AnswersRead (received_at text.now) result }
 {
     read_values(alloc, text)
@@ -33,11 +33,11 @@ fn read_values(alloc: Global, text: &[u8]) -> Result<ReceivedList, TextFault>
 struct ValueRows;
 
 impl RowFormat for ValueRows {
-    ghost use Rattle.plain_run.specs.Received.{value_of};
+    ghost use Rattle.plain_run.specs.Received.{value_of_line};
 
     type Item = u32;
 
-    ghost said = { value_of };
+    ghost said = { value_of_line };
 
     fn read_row(&self, _: Global, words: &[&[u8]]) -> Result<Option<u32>, NoMemory> {
         Ok(value_in(words))
@@ -45,9 +45,9 @@ impl RowFormat for ValueRows {
 }
 
 /// The value that is the only word of a line.
-#[tactic(auto, unfolding(crate::specs::Received::value_of))]
+#[tactic(auto, unfolding(crate::specs::Received::value_of_line))]
 fn value_in(words: &[&[u8]]) -> Option<u32>
-    ensures { result ≡ value_of (map (λ word. word.now) words.now) }
+    ensures { result ≡ value_of_line (map (λ word. word.now) words.now) }
 {
     match words {
         [word] => hex8_in(word),

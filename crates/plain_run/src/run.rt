@@ -1,8 +1,8 @@
 ghost use Rattle.std.specs.Prelude.{◌≡◌, ◌++◌, ◌∷◌, [], List, ℕ, codes, IfOk, OnOk};
 ghost use Rattle.mips_plain.specs.Machine.{start};
-ghost use Rattle.plain_run.specs.Runs.{Next, behind, end_text, lines_text, next as next_of, run_from, run_text, step_line};
+ghost use Rattle.plain_run.specs.Runs.{Next, lines_text, next as next_of, plain_end_text, run_from, run_text, step_line, text_behind};
 ghost use Rattle.std.specs.List.{flat_map};
-ghost use Rattle.step_text.specs.StepTexts.{fault_text};
+ghost use Rattle.step_text.specs.StepTexts.{own_fault_text};
 
 use crate::PlainEnd;
 use mips_plain::{Given, Plain, PlainStep};
@@ -37,7 +37,7 @@ fn push_run(
     steps: u64,
     received: &[u32],
 ) -> Result<PlainEnd, NoMemory>
-    ensures { IfOk result (λ end. (text.new.items, end) ≡ behind text.old.items (run_from steps plain.old received.now)) }
+    ensures { IfOk result (λ end. (text.new.items, end) ≡ text_behind text.old.items (run_from steps plain.old received.now)) }
 {
     let mut left = steps;
     let mut values = received;
@@ -85,7 +85,7 @@ fn push_line(text: &mut Vec<u8>, step: &Step) -> Result<(), NoMemory>
 
 /// Adds the line of why a run stopped.
 fn push_end(text: &mut Vec<u8>, end: PlainEnd) -> Result<(), NoMemory>
-    ensures { OnOk result (text.new.items ≡ text.old.items ++ (end_text end ++ 10 ∷ [])) }
+    ensures { OnOk result (text.new.items ≡ text.old.items ++ (plain_end_text end ++ 10 ∷ [])) }
 {
     match end {
         PlainEnd::Ended => Ok(text.extend_from_slice(b"ended\n")?),
@@ -97,7 +97,7 @@ fn push_end(text: &mut Vec<u8>, end: PlainEnd) -> Result<(), NoMemory>
 
 /// Adds the line of a fault that is next.
 fn push_fault(text: &mut Vec<u8>, fault: OwnFault) -> Result<(), NoMemory>
-    ensures { OnOk result (text.new.items ≡ text.old.items ++ (codes "fault " ++ (fault_text fault ++ 10 ∷ []))) }
+    ensures { OnOk result (text.new.items ≡ text.old.items ++ (codes "fault " ++ (own_fault_text fault ++ 10 ∷ []))) }
 {
     text.extend_from_slice(b"fault ")?;
     text.extend_from_slice(fault_name(fault).as_bytes())?;

@@ -5,13 +5,13 @@ use Rattle.std.proofs.lemmas.List.{length-replicate}
 use Rattle.std.proofs.lemmas.Option.{slice_get_within}
 use Rattle.std.specs.Prelude.{All, nat_lt, slice_get}
 use Rattle.xom_seal.specs.declared.line.SealedLine.{SealedLine}
-use Rattle.line_ram.specs.Bytes.{HoldsRange, bytes_at, ciphertext_place, frame_lines, frame_size, line_size, stored, tag_place, with_line}
+use Rattle.line_ram.specs.Bytes.{HoldsRange, bytes_at, ciphertext_place, frame_lines, frame_size, line_size, ram_with_bytes, ram_with_line, tag_place}
 use Rattle.line_ram.specs.Laws.{AreApart}
 use Rattle.line_ram.proofs.Ranges.{bytes-stored_apart, bytes-stored_same, length-stored}
 use Rattle.xom_base.specs.declared.image.PlainImage.{PlainImage}
-use Rattle.cli_runs.specs.Places.{FitsAll, first_frame, frame_behind, frames_of}
+use Rattle.cli_runs.specs.Places.{FitsAll, first_frame, frame_behind, frames_of_guest}
 use Rattle.cli_runs.specs.declared.guest_image.GuestImage.{GuestImage}
-use Rattle.power_on.specs.Start.{kernel_bytes, with_guest, with_guests, with_lines}
+use Rattle.power_on.specs.Start.{kernel_bytes, ram_with_guest, with_guests, with_lines}
 use Rattle.power_on.specs.ReadAgain.{GuestsAreRead, HasRoom, IsReadAt, IsWhole, IsWholeLine, KernelIsRead, StandsAt, envelope_size}
 
 -- where a line of this number has its ciphertext and its tag, where line 0 is the first of a frame
@@ -38,43 +38,43 @@ module _ (ram : List ℕ) (frame number : ℕ) (line : SealedLine) (whole : IsWh
   fits_cipher : HoldsRange ram (cipher frame number) (length line.ct)
   fits_cipher = let low = low in omega (arith, whole.ciphertext)
 
-  once : length (stored ram (cipher frame number) line.ct) ≡ length ram
+  once : length (ram_with_bytes ram (cipher frame number) line.ct) ≡ length ram
   once = length-stored ram line.ct (cipher frame number) fits_cipher
 
-  fits_tag : HoldsRange (stored ram (cipher frame number) line.ct) (tag frame number)
+  fits_tag : HoldsRange (ram_with_bytes ram (cipher frame number) line.ct) (tag frame number)
       (length line.tag)
   fits_tag = let low = low in let once = once in omega (arith, whole.tag)
 
-  line-size : length (with_line ram (frame + number / frame_lines) (number % frame_lines) line.ct
+  line-size : length (ram_with_line ram (frame + number / frame_lines) (number % frame_lines) line.ct
       line.tag) ≡ length ram
   line-size =
-      length-stored (stored ram (cipher frame number) line.ct) line.tag (tag frame number) fits_tag
+      length-stored (ram_with_bytes ram (cipher frame number) line.ct) line.tag (tag frame number) fits_tag
       ∙ once
 
   line-missed : (other count : ℕ) → Misses frame number other count
-      → bytes_at (with_line ram (frame + number / frame_lines) (number % frame_lines) line.ct
+      → bytes_at (ram_with_line ram (frame + number / frame_lines) (number % frame_lines) line.ct
       line.tag) other count ≡ bytes_at ram other count
   line-missed other count misses =
-      bytes-stored_apart (stored ram (cipher frame number) line.ct) line.tag (tag frame number)
+      bytes-stored_apart (ram_with_bytes ram (cipher frame number) line.ct) line.tag (tag frame number)
       other count fits_tag
       (subst (λ n. AreApart (tag frame number) n other count) (sym whole.tag) misses.tag_apart)
       ∙ bytes-stored_apart ram line.ct (cipher frame number) other count fits_cipher
       (subst (λ n. AreApart (cipher frame number) n other count) (sym whole.ciphertext)
       misses.cipher_apart)
 
-  line-read : IsReadAt (with_line ram (frame + number / frame_lines) (number % frame_lines) line.ct
+  line-read : IsReadAt (ram_with_line ram (frame + number / frame_lines) (number % frame_lines) line.ct
       line.tag) frame number line
   line-read = record {
     ciphertext =
-        bytes-stored_apart (stored ram (cipher frame number) line.ct) line.tag (tag frame number)
+        bytes-stored_apart (ram_with_bytes ram (cipher frame number) line.ct) line.tag (tag frame number)
         (cipher frame number) line_size fits_tag (inr (let low = low in omega arith))
-        ∙ ap (bytes_at (stored ram (cipher frame number) line.ct) (cipher frame number))
+        ∙ ap (bytes_at (ram_with_bytes ram (cipher frame number) line.ct) (cipher frame number))
         (sym whole.ciphertext)
         ∙ bytes-stored_same ram line.ct (cipher frame number) fits_cipher;
     tag =
-        ap (bytes_at (with_line ram (frame + number / frame_lines) (number % frame_lines) line.ct
+        ap (bytes_at (ram_with_line ram (frame + number / frame_lines) (number % frame_lines) line.ct
         line.tag) (tag frame number)) (sym whole.tag)
-        ∙ bytes-stored_same (stored ram (cipher frame number) line.ct) line.tag (tag frame number)
+        ∙ bytes-stored_same (ram_with_bytes ram (cipher frame number) line.ct) line.tag (tag frame number)
         fits_tag;
   }
 
@@ -111,7 +111,7 @@ tail-whole line lines whole =
 -- RAM with the line of this number
 abbrev with_one : List ℕ → ℕ → ℕ → SealedLine → List ℕ
 with_one ram frame number line =
-    with_line ram (frame + number / frame_lines) (number % frame_lines) line.ct line.tag
+    ram_with_line ram (frame + number / frame_lines) (number % frame_lines) line.ct line.tag
 
 -- a range that no line meets is read as before
 lines-missed : (ram : List ℕ) (frame number : ℕ) (lines : List SealedLine) (other count : ℕ)
@@ -204,17 +204,17 @@ lines-size ram frame number (line ∷ lines) whole held =
 
 -- the guest lies in RAM from this frame on
 abbrev LiesIn : List ℕ → ℕ → GuestImage → Type 0
-LiesIn ram frame image = (frame + frames_of image) * frame_size ≤ length ram
+LiesIn ram frame image = (frame + frames_of_guest image) * frame_size ≤ length ram
 
 module _ (ram : List ℕ) (frame : ℕ) (image : GuestImage) (whole : IsWhole image)
     (lies : LiesIn ram frame image) where
   envelope-fits : HoldsRange ram (frame * frame_size) (length image.envelope)
   envelope-fits = omega (arith, whole.envelope)
 
-  begun-size : length (stored ram (frame * frame_size) image.envelope) ≡ length ram
+  begun-size : length (ram_with_bytes ram (frame * frame_size) image.envelope) ≡ length ram
   begun-size = length-stored ram image.envelope (frame * frame_size) envelope-fits
 
-  lines-held : HoldsAll (stored ram (frame * frame_size) image.envelope) (frame + 1) 0
+  lines-held : HoldsAll (ram_with_bytes ram (frame * frame_size) image.envelope) (frame + 1) 0
       (length image.lines)
   lines-held = let size = begun-size in omega (arith, size)
 
@@ -225,17 +225,17 @@ module _ (ram : List ℕ) (frame : ℕ) (image : GuestImage) (whole : IsWhole im
         inr (omega arith);
   }
 
-  guest-size : length (with_guest ram frame image) ≡ length ram
+  guest-size : length (ram_with_guest ram frame image) ≡ length ram
   guest-size =
-      lines-size (stored ram (frame * frame_size) image.envelope) (frame + 1) 0 image.lines
+      lines-size (ram_with_bytes ram (frame * frame_size) image.envelope) (frame + 1) 0 image.lines
       whole.lines lines-held
       ∙ begun-size
 
   -- what lies before the guest is read as before
   guest-missed : (other count : ℕ) → other + count ≤ frame * frame_size
-      → bytes_at (with_guest ram frame image) other count ≡ bytes_at ram other count
+      → bytes_at (ram_with_guest ram frame image) other count ≡ bytes_at ram other count
   guest-missed other count before =
-      lines-missed (stored ram (frame * frame_size) image.envelope) (frame + 1) 0 image.lines other
+      lines-missed (ram_with_bytes ram (frame * frame_size) image.envelope) (frame + 1) 0 image.lines other
       count whole.lines lines-held
       (λ (n : ℕ) (past : 0 ≤ n). record {
         cipher_apart = inr (omega arith);
@@ -245,24 +245,24 @@ module _ (ram : List ℕ) (frame : ℕ) (image : GuestImage) (whole : IsWhole im
       ∙ bytes-stored_apart ram image.envelope (frame * frame_size) other count envelope-fits
       (inr before)
 
-  guest-stands : StandsAt (with_guest ram frame image) frame image
+  guest-stands : StandsAt (ram_with_guest ram frame image) frame image
   guest-stands = record {
     envelope =
-        lines-missed (stored ram (frame * frame_size) image.envelope) (frame + 1) 0 image.lines
+        lines-missed (ram_with_bytes ram (frame * frame_size) image.envelope) (frame + 1) 0 image.lines
         (frame * frame_size) envelope_size whole.lines lines-held envelope-missed
-        ∙ ap (bytes_at (stored ram (frame * frame_size) image.envelope) (frame * frame_size))
+        ∙ ap (bytes_at (ram_with_bytes ram (frame * frame_size) image.envelope) (frame * frame_size))
         (sym whole.envelope)
         ∙ bytes-stored_same ram image.envelope (frame * frame_size) envelope-fits;
     lines = λ (number : ℕ) (line : SealedLine) (is : slice_get image.lines number ≡ Some line).
         let same : 0 + number ≡ number = omega arith in
-        subst (λ (n : ℕ). IsReadAt (with_guest ram frame image) (frame + 1) n line) same
-        (lines-read (stored ram (frame * frame_size) image.envelope) (frame + 1) 0 image.lines
+        subst (λ (n : ℕ). IsReadAt (ram_with_guest ram frame image) (frame + 1) n line) same
+        (lines-read (ram_with_bytes ram (frame * frame_size) image.envelope) (frame + 1) 0 image.lines
         number line whole.lines lines-held is);
   }
 
 -- a guest that stands still does where all up to its end is read as before
 stands-carried : (ram new : List ℕ) (frame : ℕ) (image : GuestImage)
-    → ((other count : ℕ) → other + count ≤ (frame + frames_of image) * frame_size
+    → ((other count : ℕ) → other + count ≤ (frame + frames_of_guest image) * frame_size
     → bytes_at new other count ≡ bytes_at ram other count)
     → StandsAt ram frame image → StandsAt new frame image
 stands-carried ram new frame image same stands = record {
@@ -289,7 +289,7 @@ tail-images image images whole =
     λ (k : ℕ) (d : GuestImage) (within : k < length images). whole (suc k) d (omega arith)
 
 lies-in : (frames : ℕ) (ram : List ℕ) (frame : ℕ) (image : GuestImage)
-    → length ram ≡ frames * frame_size → frame + frames_of image ≤ frames → LiesIn ram frame image
+    → length ram ≡ frames * frame_size → frame + frames_of_guest image ≤ frames → LiesIn ram frame image
 lies-in frames ram frame image size fits = omega arith
 
 -- what lies before the first of them is read as before
@@ -301,7 +301,7 @@ guests-missed frames ram frame [] other count size fits whole before = refl
 guests-missed frames ram frame (image ∷ images) other count size fits whole before =
     let own = head-image image images whole in
     let lies = lies-in frames ram frame image size fits.0 in
-    guests-missed frames (with_guest ram frame image) (frame + frames_of image) images other count
+    guests-missed frames (ram_with_guest ram frame image) (frame + frames_of_guest image) images other count
     (guest-size ram frame image own lies ∙ size) fits.1 (tail-images image images whole)
     (omega arith)
     ∙ guest-missed ram frame image own lies other count before
@@ -314,16 +314,16 @@ guests-stand : (frames : ℕ) (ram : List ℕ) (frame : ℕ) (before : List Gues
 guests-stand frames ram frame [] image behind size fits whole =
     let own = head-image image behind whole in
     let lies = lies-in frames ram frame image size fits.0 in
-    stands-carried (with_guest ram frame image) (with_guests (with_guest ram frame image)
-    (frame + frames_of image) behind) frame image
-    (λ (other count : ℕ) (low : other + count ≤ (frame + frames_of image) * frame_size).
-    guests-missed frames (with_guest ram frame image) (frame + frames_of image) behind other count
+    stands-carried (ram_with_guest ram frame image) (with_guests (ram_with_guest ram frame image)
+    (frame + frames_of_guest image) behind) frame image
+    (λ (other count : ℕ) (low : other + count ≤ (frame + frames_of_guest image) * frame_size).
+    guests-missed frames (ram_with_guest ram frame image) (frame + frames_of_guest image) behind other count
     (guest-size ram frame image own lies ∙ size) fits.1 (tail-images image behind whole) low)
     (guest-stands ram frame image own lies)
 guests-stand frames ram frame (first ∷ before) image behind size fits whole =
     let own = head-image first (before ++ image ∷ behind) whole in
     let lies = lies-in frames ram frame first size fits.0 in
-    guests-stand frames (with_guest ram frame first) (frame + frames_of first) before image behind
+    guests-stand frames (ram_with_guest ram frame first) (frame + frames_of_guest first) before image behind
     (guest-size ram frame first own lies ∙ size) fits.1
     (tail-images first (before ++ image ∷ behind) whole)
 
@@ -337,7 +337,7 @@ module _ (frames : ℕ) (kernel : Option PlainImage) (images : List GuestImage)
   kernel-held : HoldsRange (replicate (frames * frame_size) 0) 0 (length (kernel_bytes kernel))
   kernel-held = let size = zeros-size in let fits = room.kernel_fits in omega (arith, size, fits)
 
-  kernel-size : length (stored (replicate (frames * frame_size) 0) 0 (kernel_bytes kernel)) ≡ frames
+  kernel-size : length (ram_with_bytes (replicate (frames * frame_size) 0) 0 (kernel_bytes kernel)) ≡ frames
       * frame_size
   kernel-size =
       length-stored (replicate (frames * frame_size) 0) (kernel_bytes kernel) 0 kernel-held
@@ -346,7 +346,7 @@ module _ (frames : ℕ) (kernel : Option PlainImage) (images : List GuestImage)
 pub kernel-read : KernelIsRead
 kernel-read frames kernel images room =
     let low = room.kernel_low in
-    guests-missed frames (stored (replicate (frames * frame_size) 0) 0 (kernel_bytes kernel))
+    guests-missed frames (ram_with_bytes (replicate (frames * frame_size) 0) 0 (kernel_bytes kernel))
     first_frame images 0 (length (kernel_bytes kernel))
     (kernel-size frames kernel images room) room.guests room.whole (omega (arith, low))
     ∙ bytes-stored_same (replicate (frames * frame_size) 0) (kernel_bytes kernel) 0
@@ -354,6 +354,6 @@ kernel-read frames kernel images room =
 
 pub guests-read : GuestsAreRead
 guests-read frames kernel before image behind room =
-    guests-stand frames (stored (replicate (frames * frame_size) 0) 0 (kernel_bytes kernel))
+    guests-stand frames (ram_with_bytes (replicate (frames * frame_size) 0) 0 (kernel_bytes kernel))
     first_frame before image behind
     (kernel-size frames kernel (before ++ image ∷ behind) room) room.guests room.whole

@@ -5,8 +5,8 @@ use Rattle.replay_tree.specs.Calls.{top_level, tree}
 use Rattle.replay_tree.specs.Tree.{TreeStands}
 
 -- what its version stores answer, hash and leave
-abbrev pub shipped : Versions
-shipped = tree
+abbrev pub shipped_versions : Versions
+shipped_versions = tree
 
 -- for which numbers of the lines a store stands in a journal
 abbrev pub ShippedStands : StandsFor

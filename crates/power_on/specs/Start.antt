@@ -3,11 +3,11 @@ use Rattle.std.specs.Prelude.{ℕ, ◌+◌, ◌*◌, ◌/◌, ◌%◌, List, [],
 use Rattle.xom_base.specs.declared.image.PlainImage.{PlainImage}
 use Rattle.xom_base.specs.declared.key.Key256.{Key256}
 use Rattle.xom_seal.specs.declared.line.SealedLine.{SealedLine}
-use Rattle.line_ram.specs.Bytes.{frame_lines, frame_size, stored, with_line}
+use Rattle.line_ram.specs.Bytes.{frame_lines, frame_size, ram_with_bytes, ram_with_line}
 use Rattle.xom_versions.specs.Versions.{Versions}
 use Rattle.xom_model.specs.State.{Record, power_on}
 use Rattle.xom_machine.specs.Whole.{Whole}
-use Rattle.cli_runs.specs.Places.{first_frame, frames_of}
+use Rattle.cli_runs.specs.Places.{first_frame, frames_of_guest}
 use Rattle.cli_runs.specs.declared.guest_image.GuestImage.{GuestImage}
 
 -- ---- Guests
@@ -17,20 +17,20 @@ use Rattle.cli_runs.specs.declared.guest_image.GuestImage.{GuestImage}
 abbrev pub with_lines : List ℕ → ℕ → ℕ → List SealedLine → List ℕ
 with_lines ram frame number [] = ram
 with_lines ram frame number (line ∷ lines) =
-    with_lines (with_line ram (frame + number / frame_lines) (number % frame_lines) line.ct
+    with_lines (ram_with_line ram (frame + number / frame_lines) (number % frame_lines) line.ct
     line.tag) frame (number + 1) lines
 
 -- RAM with a guest: its envelope at the start of this frame, and its lines from the next frame on
-abbrev pub with_guest : List ℕ → ℕ → GuestImage → List ℕ
-with_guest ram frame image =
-    with_lines (stored ram (frame * frame_size) image.envelope) (frame + 1) 0 image.lines
+abbrev pub ram_with_guest : List ℕ → ℕ → GuestImage → List ℕ
+ram_with_guest ram frame image =
+    with_lines (ram_with_bytes ram (frame * frame_size) image.envelope) (frame + 1) 0 image.lines
 
 -- RAM with guests, of which the first stands in this frame, and each other one right behind the one
 -- before it
 abbrev pub with_guests : List ℕ → ℕ → List GuestImage → List ℕ
 with_guests ram frame [] = ram
 with_guests ram frame (image ∷ images) =
-    with_guests (with_guest ram frame image) (frame + frames_of image) images
+    with_guests (ram_with_guest ram frame image) (frame + frames_of_guest image) images
 
 -- ---- The kernel
 
@@ -49,7 +49,7 @@ null_entry (Some image) = image.entry
 -- so many frames of RAM: the kernel, the guests, and zeros
 abbrev pub ram_at_start : ℕ → Option PlainImage → List GuestImage → List ℕ
 ram_at_start frames kernel images =
-    with_guests (stored (replicate (frames * frame_size) 0) 0 (kernel_bytes kernel)) first_frame
+    with_guests (ram_with_bytes (replicate (frames * frame_size) 0) 0 (kernel_bytes kernel)) first_frame
     images
 
 -- the machine before the first event
@@ -60,9 +60,9 @@ first_record v machine boot frames kernel images =
 -- ---- How it is loaded
 
 -- the machine with other bytes in RAM
-abbrev pub with_bytes : Whole → List ℕ → Whole
-with_bytes m ram = record m { state = record m.state { core = record m.state.core { ram = ram } } }
+abbrev pub whole_with_ram : Whole → List ℕ → Whole
+whole_with_ram m ram = record m { state = record m.state { core = record m.state.core { ram = ram } } }
 
 -- the bytes of its RAM
-abbrev pub ram_of : Whole → List ℕ
-ram_of m = m.state.core.ram
+abbrev pub ram_of_whole : Whole → List ℕ
+ram_of_whole m = m.state.core.ram

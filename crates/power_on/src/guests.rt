@@ -1,7 +1,7 @@
 ghost use Rattle.std.specs.Prelude.{◌≡◌, ◌+◌, ◌*◌, ◌≤◌, length};
 ghost use Rattle.line_ram.specs.Bytes.{frame_size};
-ghost use Rattle.cli_runs.specs.Places.{FitsAll, first_frame, frames_of as frames_of_image};
-ghost use Rattle.power_on.specs.Start.{ram_of, with_bytes, with_guest, with_guests};
+ghost use Rattle.cli_runs.specs.Places.{FitsAll, first_frame, frames_of_guest as frames_of_image};
+ghost use Rattle.power_on.specs.Start.{ram_of_whole, ram_with_guest, whole_with_ram, with_guests};
 
 use crate::lines::put_lines;
 use crate::loading::put;
@@ -14,9 +14,9 @@ use xom_versions::VersionStore;
 pub fn put_guests<V: VersionStore>(machine: &mut Machine<V>, frames: u32, images: &[GuestImage])
     requires first { machine.old.state.events ≡ 0 }
     requires few { frames ≤ 8192 }
-    requires size { length (ram_of machine.old) ≡ frames * frame_size }
+    requires size { length (ram_of_whole machine.old) ≡ frames * frame_size }
     requires fit { FitsAll frames first_frame images.now }
-    ensures bytes { machine.new ≡ with_bytes machine.old (with_guests (ram_of machine.old) first_frame images.now) }
+    ensures bytes { machine.new ≡ whole_with_ram machine.old (with_guests (ram_of_whole machine.old) first_frame images.now) }
 {
     let mut frame = FIRST_FRAME;
     for image in images {
@@ -33,11 +33,11 @@ fn put_guest<V: VersionStore>(
 ) -> u32
     requires first { machine.old.state.events ≡ 0 }
     requires few { frames ≤ 8192 }
-    requires size { length (ram_of machine.old) ≡ frames * frame_size }
+    requires size { length (ram_of_whole machine.old) ≡ frames * frame_size }
     requires fits { frame + frames_of_image image.now ≤ frames }
     ensures behind { result ≡ frame + frames_of_image image.now }
-    ensures bytes { machine.new ≡ with_bytes machine.old (with_guest (ram_of machine.old) frame image.now) }
-    ensures size { length (ram_of machine.new) ≡ length (ram_of machine.old) }
+    ensures bytes { machine.new ≡ whole_with_ram machine.old (ram_with_guest (ram_of_whole machine.old) frame image.now) }
+    ensures size { length (ram_of_whole machine.new) ≡ length (ram_of_whole machine.old) }
 {
     put(machine, frame * LineRam::FRAME, &image.envelope);
     put_lines(machine, frame + 1, image.lines.as_slice());

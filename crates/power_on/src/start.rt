@@ -1,9 +1,9 @@
 ghost use Rattle.std.specs.Prelude.{◌≡◌, ◌≤◌, ◌*◌, ◌<◌, ◌^◌, List, IfOk, length, option_map};
 ghost use Rattle.xom_owners.specs.declared.owner.Owner.{Owner};
-ghost use Rattle.line_ram.specs.Bytes.{frame_size, stored};
+ghost use Rattle.line_ram.specs.Bytes.{frame_size, ram_with_bytes};
 ghost use Rattle.xom_model.specs.Holds.{Holds};
 ghost use Rattle.cli_runs.specs.Places.{FitsAll, first_frame};
-ghost use Rattle.power_on.specs.Start.{first_record, kernel_bytes, null_entry as null_entry_of, ram_of, with_bytes};
+ghost use Rattle.power_on.specs.Start.{first_record, kernel_bytes, null_entry as null_entry_of, ram_of_whole, whole_with_ram};
 
 use crate::guests::put_guests;
 use crate::loading::put;
@@ -61,9 +61,9 @@ fn loaded<V: VersionStore>(
 /// Puts the image of a kernel into RAM from address 0 on, if there is one.
 fn put_kernel<V: VersionStore>(machine: &mut Machine<V>, kernel: Option<&PlainImage>)
     requires first { machine.old.state.events ≡ 0 }
-    requires holds { length (kernel_bytes (option_map (λ image. image.now) kernel)) ≤ length (ram_of machine.old) }
-    ensures bytes { machine.new ≡ with_bytes machine.old (stored (ram_of machine.old) 0 (kernel_bytes (option_map (λ image. image.now) kernel.entry))) }
-    ensures size { length (ram_of machine.new) ≡ length (ram_of machine.old) }
+    requires holds { length (kernel_bytes (option_map (λ image. image.now) kernel)) ≤ length (ram_of_whole machine.old) }
+    ensures bytes { machine.new ≡ whole_with_ram machine.old (ram_with_bytes (ram_of_whole machine.old) 0 (kernel_bytes (option_map (λ image. image.now) kernel.entry))) }
+    ensures size { length (ram_of_whole machine.new) ≡ length (ram_of_whole machine.old) }
 {
     if let Some(image) = kernel {
         put(machine, 0, image.bytes.as_slice());

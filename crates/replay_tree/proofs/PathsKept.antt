@@ -4,10 +4,10 @@ use Rattle.std.proofs.lemmas.List.{length-drop, length-take-le}
 use Rattle.line_ram.specs.Bytes.{HoldsRange}
 use Rattle.line_ram.proofs.Ranges.{bytes-stored_apart}
 use Rattle.xom_versions.specs.Store.{area_size, line_limit}
-use Rattle.replay_tree.specs.Tree.{digest_of, lines_of}
-use Rattle.replay_tree.specs.Area.{block_in, block_offset, block_size, level_offset, part_size, width}
+use Rattle.replay_tree.specs.Tree.{digest_of, tree_lines}
+use Rattle.replay_tree.specs.Area.{block_in, block_offset, level_offset, part_size, tree_block_size, width}
 use Rattle.replay_tree.specs.Calls.{top_level}
-use Rattle.replay_tree.specs.Paths.{index_at, path_in, path_offset, ram_renewed, renewed, with_part}
+use Rattle.replay_tree.specs.Paths.{block_after_raise, index_at, path_in, path_offset, ram_renewed, with_part}
 use Rattle.replay_tree.specs.PartLaws.{part-fits}
 use Rattle.replay_tree.proofs.Levels.{renewed_above}
 use Rattle.replay_tree.specs.PlaceLaws.{area_length, index-within, length-block, length-ram_renewed, length-renewed, offset-grows, path-within}
@@ -22,46 +22,46 @@ index_within line level low few = index-within top_level line level low few
 
 -- a block lies in the area
 pub block_within : (level index : ℕ) → level ≤ top_level → index < width top_level level
-    → block_offset top_level level index + block_size level ≤ area_size
+    → block_offset top_level level index + tree_block_size level ≤ area_size
 unfolding level_offset
 block_within level index low few =
-    let fits = part-fits (block_size level) index (width top_level level) few in
-    let next : level_offset top_level (suc level) ≡ level_offset top_level level + block_size
+    let fits = part-fits (tree_block_size level) index (width top_level level) few in
+    let next : level_offset top_level (suc level) ≡ level_offset top_level level + tree_block_size
     level * width top_level level = refl in
     let last = offset-grows top_level (suc level) (top_level + 1) (omega arith) in
     let whole = area_fits in omega arith
 
 pub length_within : (area level index : ℕ) (ram : List ℕ) → HoldsRange ram area area_size
     → level ≤ top_level → index < width top_level level
-    → length (block_in top_level area ram level index) ≡ block_size level
+    → length (block_in top_level area ram level index) ≡ tree_block_size level
 length_within area level index ram held low few =
     let within = block_within level index low few in
-    length-take-le (block_size level) (drop (area + block_offset top_level level index) ram)
+    length-take-le (tree_block_size level) (drop (area + block_offset top_level level index) ram)
     (omega (arith, length-drop (area + block_offset top_level level index) ram))
 
 pub block_fits : (area line level : ℕ) (ram : List ℕ) → HoldsRange ram area area_size
     → line < line_limit → level ≤ top_level
-    → length (path_in top_level area ram line level) ≡ block_size level
+    → length (path_in top_level area ram line level) ≡ tree_block_size level
 block_fits area line level ram held low few =
     length-block top_level area line level ram (subst (λ size. HoldsRange ram area size)
     (sym area_fits) held) low few
 
 -- lower blocks end before the level begins
-below-level : (top line lower level : ℕ) → line < lines_of top → lower < level → level ≤ top
-    → path_offset top line lower + block_size lower ≤ level_offset top level
+below-level : (top line lower level : ℕ) → line < tree_lines top → lower < level → level ≤ top
+    → path_offset top line lower + tree_block_size lower ≤ level_offset top level
 unfolding level_offset
 below-level top line lower level low less few =
-    let fits = part-fits (block_size lower) (index_at lower line) (width top lower)
+    let fits = part-fits (tree_block_size lower) (index_at lower line) (width top lower)
     (index-within top line lower low (omega arith)) in
-    let next : level_offset top (suc lower) ≡ level_offset top lower + block_size lower * width top
+    let next : level_offset top (suc lower) ≡ level_offset top lower + tree_block_size lower * width top
     lower = refl in
     let last = offset-grows top (suc lower) level (omega arith) in
     omega arith
 
 kept-above : (top area : ℕ) (path : ℕ → List ℕ) (line number lower level : ℕ) (ram : List ℕ)
-    → HoldsRange ram area (area_length top) → line < lines_of top
+    → HoldsRange ram area (area_length top) → line < tree_lines top
     → lower < level → level ≤ top
-    → ((below : ℕ) → below ≤ lower → length (path below) ≡ block_size below)
+    → ((below : ℕ) → below ≤ lower → length (path below) ≡ tree_block_size below)
     → path_in top area (ram_renewed top area path line number lower ram) line level ≡ path_in top
     area ram line level
 unfolding ram_renewed
@@ -69,8 +69,8 @@ kept-above top area path line number zero level ram held low less few whole =
     let fits = path-within top line 0 low (omega arith) in
     let under = below-level top line 0 level low less few in
     let long = length-renewed path line number 0 whole in
-    bytes-stored_apart ram (renewed path line number 0) (area + path_offset top line 0)
-    (area + path_offset top line level) (block_size level) (omega arith) (inl (omega arith))
+    bytes-stored_apart ram (block_after_raise path line number 0) (area + path_offset top line 0)
+    (area + path_offset top line level) (tree_block_size level) (omega arith) (inl (omega arith))
 kept-above top area path line number (suc lower) level ram held low less few whole =
     let fits = path-within top line (suc lower) low (omega arith) in
     let under = below-level top line (suc lower) level low less few in
@@ -78,8 +78,8 @@ kept-above top area path line number (suc lower) level ram held low less few who
     let before = length-ram_renewed top area path line number lower ram held low (omega arith)
     (λ below small. whole below (omega arith)) in
     bytes-stored_apart (ram_renewed top area path line number lower ram)
-    (renewed path line number (suc lower)) (area + path_offset top line (suc lower))
-    (area + path_offset top line level) (block_size level) (omega arith) (inl (omega arith))
+    (block_after_raise path line number (suc lower)) (area + path_offset top line (suc lower))
+    (area + path_offset top line level) (tree_block_size level) (omega arith) (inl (omega arith))
     ∙ kept-above top area path line number lower level ram held low (omega arith) few
     (λ below small. whole below (omega arith))
 
@@ -109,9 +109,9 @@ size_kept area line number level ram held low few =
 pub renewed_next : (area line number level : ℕ) (ram now below : List ℕ)
     → HoldsRange ram area area_size → line < line_limit → 0 < level → level ≤ top_level
     → now ≡ ram_renewed top_level area (path_in top_level area ram line) line number (level - 1) ram
-    → below ≡ digest_of (level - 1) (renewed (path_in top_level area ram line) line number
+    → below ≡ digest_of (level - 1) (block_after_raise (path_in top_level area ram line) line number
     (level - 1))
-    → with_part level line (path_in top_level area now line level) below ≡ renewed
+    → with_part level line (path_in top_level area now line level) below ≡ block_after_raise
     (path_in top_level area ram line) line number level
 renewed_next area line number level ram now below held low above few is digest =
     ap (λ bytes. with_part level line (path_in top_level area bytes line level) below) is

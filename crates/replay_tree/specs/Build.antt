@@ -2,24 +2,24 @@
 use Rattle.std.specs.Prelude.{ℕ, zero, suc, ◌+◌, ◌*◌, List, [], ◌∷◌, ◌++◌}
 use Rattle.std.specs.Int.{w64, to_be_bytes}
 use Rattle.xom_versions.specs.Versions.{start_version}
-use Rattle.replay_tree.specs.Tree.{digest_of, joined, text_of}
-use Rattle.replay_tree.specs.Area.{block_in, block_size, width}
+use Rattle.replay_tree.specs.Tree.{block_text, digest_of, parts_joined}
+use Rattle.replay_tree.specs.Area.{block_in, tree_block_size, width}
 use Rattle.replay_tree.specs.Calls.{top_level}
 
 -- the start versions of the first lines
 abbrev pub versions_to : ℕ → ℕ → List ℕ
-versions_to lines n = joined (λ line. to_be_bytes w64 (start_version lines line)) n
+versions_to lines n = parts_joined (λ line. to_be_bytes w64 (start_version lines line)) n
 
 -- the digests of the first blocks that RAM has at a level, and their texts
 abbrev pub digests_in : ℕ → List ℕ → ℕ → ℕ → List ℕ
-digests_in area ram level n = joined (λ i. digest_of level (block_in top_level area ram level i)) n
+digests_in area ram level n = parts_joined (λ i. digest_of level (block_in top_level area ram level i)) n
 
 unfoldable pub texts_in : ℕ → List ℕ → ℕ → ℕ → List (List ℕ)
 texts_in area ram level zero = []
 texts_in area ram level (suc n) =
-    texts_in area ram level n ++ text_of level (block_in top_level area ram level n) ∷ []
+    texts_in area ram level n ++ block_text level (block_in top_level area ram level n) ∷ []
 
 -- how many bytes of the journal the blocks of the levels below this one use
 unfoldable pub room_below : ℕ → ℕ
 room_below zero = 0
-room_below (suc level) = room_below level + (81 + block_size level) * width top_level level
+room_below (suc level) = room_below level + (81 + tree_block_size level) * width top_level level

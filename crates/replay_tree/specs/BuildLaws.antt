@@ -5,20 +5,20 @@ use Rattle.std.proofs.Math.Nat.{pow-suc}
 use Rattle.std.proofs.lemmas.Bool.Decides.{eqb_tells}
 use Rattle.xom_base.specs.declared.entry.Entry.{Entry}
 use Rattle.xom_versions.specs.Store.{hash_entry}
-use Rattle.replay_tree.specs.Tree.{AreHashed, node, text_of}
+use Rattle.replay_tree.specs.Tree.{AreHashed, block_text, node}
 use Rattle.replay_tree.specs.Area.{level_texts, texts_up_to, width}
 use Rattle.replay_tree.specs.CheckLaws.{AreIn, in-back, in-front}
 
 -- the text of each block of a level
 block-hashed : (journal : List Entry) (numbers : ℕ → ℕ) (level count i : ℕ)
     → AreIn journal (level_texts numbers level count) → i < count
-    → Contains journal (hash_entry (text_of level (node numbers level i)))
+    → Contains journal (hash_entry (block_text level (node numbers level i)))
 unfolding level_texts AreIn
 block-hashed journal numbers level zero i within low = absurd (omega arith)
 block-hashed journal numbers level (suc n) i within low =
-    let last = text_of level (node numbers level n) in
+    let last = block_text level (node numbers level n) in
     elim (eqb_tells i n) [
-      | inl is ↦ subst (λ k. Contains journal (hash_entry (text_of level (node numbers level k))))
+      | inl is ↦ subst (λ k. Contains journal (hash_entry (block_text level (node numbers level k))))
           (sym is.1)
           (in-back journal (level_texts numbers level n) (last ∷ []) within).0
       | inr differs ↦ block-hashed journal numbers level n i

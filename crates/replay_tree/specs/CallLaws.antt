@@ -7,10 +7,10 @@ use Rattle.line_ram.specs.Bytes.{HoldsRange}
 use Rattle.xom_versions.specs.declared.store.Torn.{Torn}
 use Rattle.xom_versions.specs.Store.{NoCollision, hash_entry}
 use Rattle.xom_versions.specs.Versions.{next_version, start_version, with_hashes, with_version}
-use Rattle.replay_tree.specs.Tree.{AreHashed, TreeStands, digest_of, lines_of, node, root_of}
+use Rattle.replay_tree.specs.Tree.{AreHashed, TreeStands, digest_of, node, root_of, tree_lines}
 use Rattle.replay_tree.specs.Area.{texts_up_to, width}
 use Rattle.replay_tree.specs.Paths.{index_at, path_in}
-use Rattle.replay_tree.specs.Calls.{answer_of, in_area, new_ram, new_root, new_texts, raised_in, raised_ram_in, ram_after_raise_in, root_after_raise, texts_of_check, texts_of_raise_in, torn_in, torn_or, version_in, version_texts}
+use Rattle.replay_tree.specs.Calls.{in_area, new_ram, new_root, new_texts, raised_in, raised_ram_in, ram_after_raise_in, root_after_raise, texts_of_check, texts_of_raise_in, torn_in, torn_or, version_answer, version_at_line, version_texts}
 use Rattle.replay_tree.specs.NodeLaws.{own-number, other-number, renewed-node}
 use Rattle.replay_tree.specs.CheckLaws.{AreIn, added-are_in, checked-path, in-back, in-front, number-found, top-index}
 use Rattle.replay_tree.specs.RaiseLaws.{hashed-longer, hashed-renewed}
@@ -55,7 +55,7 @@ build-stands top entries area lines =
 
 path-on_tree : (top area : ℕ) (root : List ℕ) (journal : List Entry) (numbers : ℕ → ℕ) (line : ℕ)
     (ram : List ℕ)
-    → root ≡ root_of top numbers → AreHashed journal numbers top 0 → line < lines_of top
+    → root ≡ root_of top numbers → AreHashed journal numbers top 0 → line < tree_lines top
     → NoCollision journal
     → AreIn journal (version_texts top root area line ram) → torn_in top root area line ram ≡ None
     → (below : ℕ) → below ≤ top
@@ -69,19 +69,19 @@ path-on_tree top area root journal numbers line ram is hashed low none seen fine
 pub version-told : (top : ℕ) (area : Option ℕ) (root : List ℕ) (entries : List Entry)
     (numbers : ℕ → ℕ) (line number : ℕ) (ram : List ℕ)
     → root ≡ root_of top numbers → AreHashed entries numbers top 0 → numbers line < 2 ^ 64
-    → line < lines_of top
+    → line < tree_lines top
     → NoCollision (with_hashes entries (texts_of_check top area root line ram))
-    → answer_of top (version_in top) area root line ram ≡ Ok number → number ≡ numbers line
+    → version_answer top (version_at_line top) area root line ram ≡ Ok number → number ≡ numbers line
 version-told top None root entries numbers line number ram is hashed fits low none told =
     absurd (cc)
 version-told top (Some area) root entries numbers line number ram is hashed fits low none told =
     let texts = version_texts top root area line ram in
-    let fine = not-torn (torn_in top root area line ram) (version_in top area line ram) number
+    let fine = not-torn (torn_in top root area line ram) (version_at_line top area line ram) number
     told in
     let on = path-on_tree top area root (with_hashes entries texts) numbers line ram is
     (hashed-longer entries (map hash_entry texts) numbers top 0 hashed) low none
     (added-are_in entries texts) fine in
-    sym (answered (torn_in top root area line ram) (version_in top area line ram) number told)
+    sym (answered (torn_in top root area line ram) (version_at_line top area line ram) number told)
     ∙ number-found (path_in top area ram line) numbers line (on 0 (omega arith)) fits
 
 -- ---- Raise
@@ -102,13 +102,13 @@ pub record Raises (top : ℕ) (root : List ℕ) (journal : List Entry) (numbers 
   pub next : number ≡ next_version (numbers line)
   pub tree : root ≡ root_of top (with_version numbers line number)
   pub hashed : AreHashed journal (with_version numbers line number) top 0
-  pub fields : (at : ℕ) → at < lines_of top → with_version numbers line number at < 2 ^ 64
+  pub fields : (at : ℕ) → at < tree_lines top → with_version numbers line number at < 2 ^ 64
 
 -- with the version that is found in the leaf
 raises-found : (top area : ℕ) (root : List ℕ) (journal : List Entry) (numbers : ℕ → ℕ) (line : ℕ)
     (ram : List ℕ)
     → root ≡ root_of top numbers → AreHashed journal numbers top 0
-    → ((at : ℕ) → at < lines_of top → numbers at < 2 ^ 64) → line < lines_of top
+    → ((at : ℕ) → at < tree_lines top → numbers at < 2 ^ 64) → line < tree_lines top
     → NoCollision journal
     → AreIn journal (version_texts top root area line ram ++ new_texts top None area line ram)
     → torn_in top root area line ram ≡ None
@@ -132,15 +132,15 @@ raises-found top area root journal numbers line ram is hashed fields low none se
       hashed = subst (AreHashed journal others top) first (hashed-renewed journal path numbers line
           number top on renewals (subst (AreHashed journal numbers top) (sym first) hashed));
       fields = λ at few. with_version-fits numbers line number at
-          (next-fits (version_in top area line ram)) (fields at few);
+          (next-fits (version_at_line top area line ram)) (fields at few);
     }
 
 pub raise-told : (top : ℕ) (area : Option ℕ) (root : List ℕ) (entries : List Entry)
     (numbers : ℕ → ℕ) (line number : ℕ) (ram : List ℕ)
     → root ≡ root_of top numbers → AreHashed entries numbers top 0
-    → ((at : ℕ) → at < lines_of top → numbers at < 2 ^ 64) → line < lines_of top
+    → ((at : ℕ) → at < tree_lines top → numbers at < 2 ^ 64) → line < tree_lines top
     → NoCollision (with_hashes entries (texts_of_raise_in top area root line ram))
-    → answer_of top (raised_in top) area root line ram ≡ Ok number
+    → version_answer top (raised_in top) area root line ram ≡ Ok number
     → Raises top (root_after_raise top area root line ram)
     (with_hashes entries (texts_of_raise_in top area root line ram)) numbers line number
 raise-told top None root entries numbers line number ram is hashed fields low none told =
@@ -170,7 +170,7 @@ raise-told top (Some area) root entries numbers line number ram is hashed fields
 
 -- a torn raise leaves the root
 pub torn-root : (top : ℕ) (area : Option ℕ) (root : List ℕ) (line : ℕ) (ram : List ℕ) (fault : Torn)
-    → answer_of top (raised_in top) area root line ram ≡ Err fault
+    → version_answer top (raised_in top) area root line ram ≡ Err fault
     → root_after_raise top area root line ram ≡ root
 torn-root top None root line ram fault is = refl
 torn-root top (Some area) root line ram fault is = by_torn (torn_in top root area line ram) is
@@ -183,7 +183,7 @@ torn-root top (Some area) root line ram fault is = by_torn (torn_in top root are
 -- ---- RAM
 
 pub size-raised : (top : ℕ) (area : Option ℕ) (root : List ℕ) (line : ℕ) (ram : List ℕ)
-    → IfSome area (λ at. HoldsRange ram at (area_length top)) → line < lines_of top
+    → IfSome area (λ at. HoldsRange ram at (area_length top)) → line < tree_lines top
     → length (ram_after_raise_in top area root line ram) ≡ length ram
 size-raised top None root line ram held low = refl
 size-raised top (Some area) root line ram held low = by_torn (torn_in top root area line ram)
@@ -196,8 +196,8 @@ size-raised top (Some area) root line ram held low = by_torn (torn_in top root a
         (λ below few. length-block top area line below ram held low few)
 
 pub same-ram : (top : ℕ) (area : Option ℕ) (root other : List ℕ) (line : ℕ) (ram : List ℕ)
-    → is_ok (answer_of top (raised_in top) area root line ram) ≡ is_ok
-    (answer_of top (raised_in top) area other line ram)
+    → is_ok (version_answer top (raised_in top) area root line ram) ≡ is_ok
+    (version_answer top (raised_in top) area other line ram)
     → ram_after_raise_in top area root line ram ≡ ram_after_raise_in top area other line ram
 same-ram top None root other line ram same = refl
 same-ram top (Some area) root other line ram same = by_torn (torn_in top root area line ram)
@@ -215,7 +215,7 @@ same-ram top (Some area) root other line ram same = by_torn (torn_in top root ar
 
 -- what a raise that is answered leaves in RAM is told by area, line and RAM
 pub ram-answered : (top : ℕ) (area : Option ℕ) (root : List ℕ) (line number : ℕ) (ram : List ℕ)
-    → answer_of top (raised_in top) area root line ram ≡ Ok number
+    → version_answer top (raised_in top) area root line ram ≡ Ok number
     → ram_after_raise_in top area root line ram ≡ raised_ram_in top area line ram
 ram-answered top None root line number ram is = refl
 ram-answered top (Some area) root line number ram is =
@@ -224,7 +224,7 @@ ram-answered top (Some area) root line number ram is =
 
 -- and a torn one leaves RAM as it was
 pub ram-torn : (top : ℕ) (area : Option ℕ) (root : List ℕ) (line : ℕ) (ram : List ℕ) (fault : Torn)
-    → answer_of top (raised_in top) area root line ram ≡ Err fault
+    → version_answer top (raised_in top) area root line ram ≡ Err fault
     → ram_after_raise_in top area root line ram ≡ ram
 ram-torn top None root line ram fault is = refl
 ram-torn top (Some area) root line ram fault is = by_torn (torn_in top root area line ram) is

@@ -1,12 +1,12 @@
 -- What a version store does whose numbers lie in hostile RAM, as a tree of hashes with its root on
 -- chip.
 use Rattle.std.specs.Prelude.{ℕ, ◌++◌, List, [], Option, Some, None, Result, Ok, Err, replicate}
-use Rattle.line_ram.specs.Bytes.{stored}
+use Rattle.line_ram.specs.Bytes.{ram_with_bytes}
 use Rattle.xom_versions.specs.declared.store.Torn.{Torn}
 use Rattle.xom_versions.specs.Store.{Store}
 use Rattle.xom_versions.specs.Versions.{Raised, Versions, next_version, start_version}
 use Rattle.replay_tree.specs.Area.{area_bytes, texts_up_to}
-use Rattle.replay_tree.specs.Paths.{checked_texts, number_in, path_in, ram_renewed, renewed, renewed_texts, torn_at}
+use Rattle.replay_tree.specs.Paths.{block_after_raise, checked_texts, path_in, ram_renewed, renewed_texts, torn_at, version_in_leaf}
 use Rattle.replay_tree.specs.Tree.{digest_of, root_of}
 
 -- the level of the one block without a parent, in a tree over 32,768 lines
@@ -27,11 +27,11 @@ torn_or None answer = Ok answer
 abbrev pub torn_in : ℕ → List ℕ → ℕ → ℕ → List ℕ → Option ℕ
 torn_in top root area line ram = torn_at (path_in top area ram line) line top root
 
-abbrev pub version_in : ℕ → ℕ → ℕ → List ℕ → ℕ
-version_in top area line ram = number_in (path_in top area ram line) line
+abbrev pub version_at_line : ℕ → ℕ → ℕ → List ℕ → ℕ
+version_at_line top area line ram = version_in_leaf (path_in top area ram line) line
 
 abbrev pub raised_in : ℕ → ℕ → ℕ → List ℕ → ℕ
-raised_in top area line ram = next_version (version_in top area line ram)
+raised_in top area line ram = next_version (version_at_line top area line ram)
 
 abbrev pub version_texts : ℕ → List ℕ → ℕ → ℕ → List ℕ → List (List ℕ)
 version_texts top root area line ram = checked_texts (path_in top area ram line) line top root
@@ -45,7 +45,7 @@ new_texts top None area line ram =
 abbrev pub new_root : ℕ → Option ℕ → List ℕ → ℕ → ℕ → List ℕ → List ℕ
 new_root top (Some level) root area line ram = root
 new_root top None root area line ram =
-    digest_of top (renewed (path_in top area ram line) line (raised_in top area line ram) top)
+    digest_of top (block_after_raise (path_in top area ram line) line (raised_in top area line ram) top)
 
 abbrev pub new_ram : ℕ → Option ℕ → ℕ → ℕ → List ℕ → List ℕ
 new_ram top (Some level) area line ram = ram
@@ -54,9 +54,9 @@ new_ram top None area line ram =
 
 -- ---- Any store: one without an area is torn at the top, with nothing hashed
 
-abbrev pub answer_of : ℕ → (ℕ → ℕ → List ℕ → ℕ) → Option ℕ → List ℕ → ℕ → List ℕ → Result ℕ Torn
-answer_of top number None root line ram = Err (record { level = top })
-answer_of top number (Some area) root line ram =
+abbrev pub version_answer : ℕ → (ℕ → ℕ → List ℕ → ℕ) → Option ℕ → List ℕ → ℕ → List ℕ → Result ℕ Torn
+version_answer top number None root line ram = Err (record { level = top })
+version_answer top number (Some area) root line ram =
     torn_or (torn_in top root area line ram) (number area line ram)
 
 abbrev pub texts_of_check : ℕ → Option ℕ → List ℕ → ℕ → List ℕ → List (List ℕ)
@@ -84,12 +84,12 @@ abbrev pub tree_of : ℕ → Versions
 tree_of top = record {
   blank_store = in_area None (replicate 32 0);
   store_after_build = λ area lines ram. in_area (Some area) (root_of top (start_version lines));
-  ram_after_build = λ area lines ram. stored ram area (area_bytes top (start_version lines));
+  ram_after_build = λ area lines ram. ram_with_bytes ram area (area_bytes top (start_version lines));
   texts_of_build = λ area lines ram. texts_up_to top (start_version lines) top;
-  answer_of_version = λ store line ram. answer_of top (version_in top) store.area store.root line
+  answer_of_version = λ store line ram. version_answer top (version_at_line top) store.area store.root line
       ram;
   texts_of_version = λ store line ram. texts_of_check top store.area store.root line ram;
-  answer_of_raise = λ store line ram. answer_of top (raised_in top) store.area store.root line ram;
+  answer_of_raise = λ store line ram. version_answer top (raised_in top) store.area store.root line ram;
   store_after_raise = λ store line ram. record store {
     root = root_after_raise top store.area
         store.root line ram;

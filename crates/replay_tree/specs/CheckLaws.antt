@@ -13,8 +13,8 @@ use Rattle.std.proofs.lemmas.Slice.Eq.{bytes_eq-Decides}
 use Rattle.xom_base.specs.declared.entry.Entry.{Entry}
 use Rattle.xom_base.specs.declared.entry.Entry.TheVariants as entry
 use Rattle.xom_versions.specs.Store.{NoCollision, hash_entry}
-use Rattle.replay_tree.specs.Tree.{AreHashed, digest_of, lines_of, node, text_of}
-use Rattle.replay_tree.specs.Paths.{checked_texts, index_at, number_in, part_at, part_in, torn_at}
+use Rattle.replay_tree.specs.Tree.{AreHashed, block_text, digest_of, node, tree_lines}
+use Rattle.replay_tree.specs.Paths.{checked_texts, index_at, part_at, part_in, torn_at, version_in_leaf}
 use Rattle.replay_tree.specs.NodeLaws.{child-index, digest-part, low-part, version-part}
 
 -- ---- Texts that stand in a journal as hashed
@@ -90,7 +90,7 @@ intact-below path line level wanted fine =
 
 seen-first : (path : ℕ → List ℕ) (line : ℕ) (journal : List Entry) (level : ℕ) (wanted : List ℕ)
     → AreIn journal (checked_texts path line level wanted)
-    → Contains journal (hash_entry (text_of level (path level)))
+    → Contains journal (hash_entry (block_text level (path level)))
 unfolding checked_texts AreIn
 seen-first path line journal zero wanted seen = seen.0
 seen-first path line journal (suc level) wanted seen = seen.0
@@ -109,19 +109,19 @@ seen-below path line journal level wanted same seen =
 
 -- equal digests of hashed texts are of equal blocks
 same-block : (journal : List Entry) (level : ℕ) (block other : List ℕ) → NoCollision journal
-    → Contains journal (hash_entry (text_of level block))
-    → Contains journal (hash_entry (text_of level other))
+    → Contains journal (hash_entry (block_text level block))
+    → Contains journal (hash_entry (block_text level other))
     → digest_of level block ≡ digest_of level other → block ≡ other
 same-block journal level block other none one two same =
-    let texts : text_of level block ≡ text_of level other
+    let texts : block_text level block ≡ block_text level other
     =
-    none (text_of level block) (text_of level other) (digest_of level block) one
-    (subst (λ digest. Contains journal (entry.Hash (text_of level other) digest)) (sym same)
+    none (block_text level block) (block_text level other) (digest_of level block) one
+    (subst (λ digest. Contains journal (entry.Hash (block_text level other) digest)) (sym same)
     two) in cc
 
 hashed-first : (entries : List Entry) (numbers : ℕ → ℕ) (level i : ℕ)
     → AreHashed entries numbers level i
-    → Contains entries (hash_entry (text_of level (node numbers level i)))
+    → Contains entries (hash_entry (block_text level (node numbers level i)))
 unfolding AreHashed
 hashed-first entries numbers zero i hashed = hashed
 hashed-first entries numbers (suc level) i hashed = hashed.0
@@ -160,7 +160,7 @@ checked-path path numbers line journal (suc level) wanted none seen hashed is fi
 -- the line's version, in its leaf
 pub number-found : (path : ℕ → List ℕ) (numbers : ℕ → ℕ) (line : ℕ)
     → path 0 ≡ node numbers 0 (index_at 0 line) → numbers line < 2 ^ 64
-    → number_in path line ≡ numbers line
+    → version_in_leaf path line ≡ numbers line
 number-found path numbers line is fits =
     ap (λ block. from_be_bytes w64 (part_in 0 line block)) is ∙ ap (from_be_bytes w64)
     (version-part numbers line) ∙ from_be_bytes-to_be_bytes_8 (numbers line) fits
@@ -178,6 +178,6 @@ index-low (suc level) line n low =
     ∙ mul_assoc (8 ^ (level + 1)) 8 n in omega arith) in
     let j = index_at level line in grind arith
 
-pub top-index : (top line : ℕ) → line < lines_of top → index_at top line ≡ 0
+pub top-index : (top line : ℕ) → line < tree_lines top → index_at top line ≡ 0
 top-index top line low =
     let first : index_at top line < 1 = index-low top line 1 (omega arith) in omega arith

@@ -5,9 +5,9 @@ use Rattle.std.proofs.lemmas.Bool.Decides.{eqb_tells}
 use Rattle.sha2.proofs.Facts256.{length-sha256}
 use Rattle.line_ram.specs.Bytes.{bytes_at}
 use Rattle.xom_versions.specs.Versions.{with_version}
-use Rattle.replay_tree.specs.Tree.{digest_of, node, text_of}
-use Rattle.replay_tree.specs.Area.{block_size, part_size}
-use Rattle.replay_tree.specs.Paths.{index_at, part_at, part_in, renewed, with_part}
+use Rattle.replay_tree.specs.Tree.{block_text, digest_of, node}
+use Rattle.replay_tree.specs.Area.{part_size, tree_block_size}
+use Rattle.replay_tree.specs.Paths.{block_after_raise, index_at, part_at, part_in, with_part}
 use Rattle.replay_tree.specs.PartLaws.{apart, alike, bytes-joined, joined-same, length-joined, stored-joined, with_at}
 
 -- ---- Sizes
@@ -15,14 +15,14 @@ use Rattle.replay_tree.specs.PartLaws.{apart, alike, bytes-joined, joined-same, 
 length-version : (n : ℕ) → length (to_be_bytes w64 n) ≡ 8
 length-version n = refl
 
-pub length-node : (numbers : ℕ → ℕ) (level i : ℕ) → length (node numbers level i) ≡ block_size level
+pub length-node : (numbers : ℕ → ℕ) (level i : ℕ) → length (node numbers level i) ≡ tree_block_size level
 unfolding node part_size
 length-node numbers zero i =
     length-joined (λ k. to_be_bytes w64 (numbers (8 * i + k))) 8 8
     (λ k low. length-version (numbers (8 * i + k)))
 length-node numbers (suc level) i =
     length-joined (λ k. digest_of level (node numbers level (8 * i + k))) 32 8
-    (λ k low. length-sha256 (text_of level (node numbers level (8 * i + k))))
+    (λ k low. length-sha256 (block_text level (node numbers level (8 * i + k))))
 
 -- ---- Parts
 
@@ -39,7 +39,7 @@ pub part-above : (numbers : ℕ → ℕ) (level i k : ℕ) → k < 8
 unfolding node
 part-above numbers level i k low =
     bytes-joined (λ k. digest_of level (node numbers level (8 * i + k))) 32 8 k
-    (λ k low. length-sha256 (text_of level (node numbers level (8 * i + k)))) low
+    (λ k low. length-sha256 (block_text level (node numbers level (8 * i + k)))) low
 
 -- ---- The path of a line
 
@@ -153,9 +153,9 @@ new-above numbers line number level i is =
     let part : ℕ → List ℕ = λ k. digest_of level (node numbers level (8 * i + k)) in
     let fresh = digest_of level (node others level (index_at level line)) in
     stored-joined part 32 8 at fresh
-    (λ k low. length-sha256 (text_of level (node numbers level (8 * i + k))))
+    (λ k low. length-sha256 (block_text level (node numbers level (8 * i + k))))
     (low-part (suc level) line)
-    (length-sha256 (text_of level (node others level (index_at level line))))
+    (length-sha256 (block_text level (node others level (index_at level line))))
     ∙ joined-same (with_at part at fresh) (λ k. digest_of level (node others level (8 * i + k))) 8
     (λ k low. elim (eqb_tells k at) [
       | inl same ↦ ap (λ b. if b then fresh else part k) (alike k at same.1)
@@ -170,15 +170,15 @@ new-above numbers line number level i is =
 -- where the blocks of a path are the tree's, the new ones are those of the changed numbers
 pub renewed-node : (path : ℕ → List ℕ) (numbers : ℕ → ℕ) (line number level : ℕ)
     → ((below : ℕ) → below ≤ level → path below ≡ node numbers below (index_at below line))
-    → renewed path line number level ≡ node (with_version numbers line number) level
+    → block_after_raise path line number level ≡ node (with_version numbers line number) level
     (index_at level line)
-unfolding renewed
+unfolding block_after_raise
 renewed-node path numbers line number zero on =
     ap (λ block. with_part 0 line block (to_be_bytes w64 number)) (on 0 (omega arith))
     ∙ new-leaf numbers line number (index_at 0 line) refl
 renewed-node path numbers line number (suc level) on =
     ap (λ block. with_part (suc level) line block
-    (digest_of level (renewed path line number level))) (on (suc level) (omega arith))
+    (digest_of level (block_after_raise path line number level))) (on (suc level) (omega arith))
     ∙ ap (λ block. with_part (suc level) line (node numbers (suc level) (index_at (suc level) line))
     (digest_of level block))
     (renewed-node path numbers line number level (λ below few. on below (omega arith)))

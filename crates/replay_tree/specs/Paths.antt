@@ -2,9 +2,9 @@
 -- root down and renewed from the leaf up.
 use Rattle.std.specs.Prelude.{ℕ, zero, suc, ◌+◌, ◌*◌, ◌/◌, ◌%◌, List, [], ◌∷◌, ◌++◌, Option, Some, None, bytes_eq, if◌then◌else◌}
 use Rattle.std.specs.Int.{w64, from_be_bytes, to_be_bytes}
-use Rattle.line_ram.specs.Bytes.{bytes_at, stored}
+use Rattle.line_ram.specs.Bytes.{bytes_at, ram_with_bytes}
 use Rattle.replay_tree.specs.Area.{block_in, block_offset, part_size}
-use Rattle.replay_tree.specs.Tree.{digest_of, text_of}
+use Rattle.replay_tree.specs.Tree.{block_text, digest_of}
 
 -- ---- Which blocks
 
@@ -28,7 +28,7 @@ part_in level line block = bytes_at block (part_offset level line) (part_size le
 
 -- the block with another such part
 abbrev pub with_part : ℕ → ℕ → List ℕ → List ℕ → List ℕ
-with_part level line block part = stored block (part_offset level line) part
+with_part level line block part = ram_with_bytes block (part_offset level line) part
 
 -- where the block begins in the area, and what RAM has there
 abbrev pub path_offset : ℕ → ℕ → ℕ → ℕ
@@ -50,37 +50,37 @@ torn_at path line (suc level) wanted =
 
 -- the texts that it hashes: those down to that block, or all
 unfoldable pub checked_texts : (ℕ → List ℕ) → ℕ → ℕ → List ℕ → List (List ℕ)
-checked_texts path line zero wanted = text_of 0 (path 0) ∷ []
+checked_texts path line zero wanted = block_text 0 (path 0) ∷ []
 checked_texts path line (suc level) wanted =
-    text_of (suc level) (path (suc level))
+    block_text (suc level) (path (suc level))
     ∷ (if bytes_eq (digest_of (suc level) (path (suc level))) wanted
     then checked_texts path line level (part_in (suc level) line (path (suc level)))
     else [])
 
 -- the line's version, in the leaf
-abbrev pub number_in : (ℕ → List ℕ) → ℕ → ℕ
-number_in path line = from_be_bytes w64 (part_in 0 line (path 0))
+abbrev pub version_in_leaf : (ℕ → List ℕ) → ℕ → ℕ
+version_in_leaf path line = from_be_bytes w64 (part_in 0 line (path 0))
 
 -- ---- The renewal
 
 -- the new block of a level, where the line gets this version: all but one part is of the block that
 -- was checked
-unfoldable pub renewed : (ℕ → List ℕ) → ℕ → ℕ → ℕ → List ℕ
-renewed path line number zero = with_part 0 line (path 0) (to_be_bytes w64 number)
-renewed path line number (suc level) =
-    with_part (suc level) line (path (suc level)) (digest_of level (renewed path line number level))
+unfoldable pub block_after_raise : (ℕ → List ℕ) → ℕ → ℕ → ℕ → List ℕ
+block_after_raise path line number zero = with_part 0 line (path 0) (to_be_bytes w64 number)
+block_after_raise path line number (suc level) =
+    with_part (suc level) line (path (suc level)) (digest_of level (block_after_raise path line number level))
 
 -- the texts of the new blocks up to a level, the leaf's first
 unfoldable pub renewed_texts : (ℕ → List ℕ) → ℕ → ℕ → ℕ → List (List ℕ)
-renewed_texts path line number zero = text_of 0 (renewed path line number 0) ∷ []
+renewed_texts path line number zero = block_text 0 (block_after_raise path line number 0) ∷ []
 renewed_texts path line number (suc level) =
-    renewed_texts path line number level ++ text_of (suc level)
-    (renewed path line number (suc level)) ∷ []
+    renewed_texts path line number level ++ block_text (suc level)
+    (block_after_raise path line number (suc level)) ∷ []
 
 -- RAM with the new blocks up to a level
 unfoldable pub ram_renewed : ℕ → ℕ → (ℕ → List ℕ) → ℕ → ℕ → ℕ → List ℕ → List ℕ
 ram_renewed top area path line number zero ram =
-    stored ram (area + path_offset top line 0) (renewed path line number 0)
+    ram_with_bytes ram (area + path_offset top line 0) (block_after_raise path line number 0)
 ram_renewed top area path line number (suc level) ram =
-    stored (ram_renewed top area path line number level ram)
-    (area + path_offset top line (suc level)) (renewed path line number (suc level))
+    ram_with_bytes (ram_renewed top area path line number level ram)
+    (area + path_offset top line (suc level)) (block_after_raise path line number (suc level))

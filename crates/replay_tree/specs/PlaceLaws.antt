@@ -7,9 +7,9 @@ use Rattle.std.proofs.lemmas.List.{length-append, length-drop, length-take-le}
 use Rattle.sha2.proofs.Facts256.{length-sha256}
 use Rattle.line_ram.specs.Bytes.{HoldsRange}
 use Rattle.line_ram.proofs.Ranges.{length-stored}
-use Rattle.replay_tree.specs.Tree.{digest_of, joined, lines_of, node, text_of}
-use Rattle.replay_tree.specs.Area.{area_bytes, block_size, level_bytes, level_offset, part_size, width}
-use Rattle.replay_tree.specs.Paths.{index_at, part_at, path_in, path_offset, ram_renewed, renewed}
+use Rattle.replay_tree.specs.Tree.{block_text, digest_of, node, parts_joined, tree_lines}
+use Rattle.replay_tree.specs.Area.{area_bytes, level_bytes, level_offset, part_size, tree_block_size, width}
+use Rattle.replay_tree.specs.Paths.{block_after_raise, index_at, part_at, path_in, path_offset, ram_renewed}
 use Rattle.replay_tree.specs.PartLaws.{length-joined, part-fits}
 use Rattle.replay_tree.specs.NodeLaws.{length-node, low-part}
 use Rattle.replay_tree.specs.CheckLaws.{index-low}
@@ -19,17 +19,17 @@ abbrev pub area_length : ℕ → ℕ
 area_length top = level_offset top (top + 1)
 
 pub length-level : (top : ℕ) (numbers : ℕ → ℕ) (level : ℕ)
-    → length (level_bytes top numbers level) ≡ block_size level * width top level
+    → length (level_bytes top numbers level) ≡ tree_block_size level * width top level
 length-level top numbers level =
-    length-joined (node numbers level) (block_size level) (width top level)
+    length-joined (node numbers level) (tree_block_size level) (width top level)
     (λ i low. length-node numbers level i)
 
 pub length-levels : (top : ℕ) (numbers : ℕ → ℕ) (n : ℕ)
-    → length (joined (level_bytes top numbers) n) ≡ level_offset top n
-unfolding joined level_offset
+    → length (parts_joined (level_bytes top numbers) n) ≡ level_offset top n
+unfolding parts_joined level_offset
 length-levels top numbers zero = refl
 length-levels top numbers (suc n) =
-    length-append (joined (level_bytes top numbers) n) (level_bytes top numbers n)
+    length-append (parts_joined (level_bytes top numbers) n) (level_bytes top numbers n)
     ∙ (let before = length-levels top numbers n in let last = length-level top numbers n in
     omega arith)
 
@@ -50,7 +50,7 @@ offset-grows top level (suc upper) low = elim (eqb_tells level (suc upper)) [
       omega arith
 ]
 
-pub index-within : (top line level : ℕ) → line < lines_of top → level ≤ top
+pub index-within : (top line level : ℕ) → line < tree_lines top → level ≤ top
     → index_at level line < width top level
 index-within top line level low few =
     index-low level line (width top level)
@@ -59,59 +59,59 @@ index-within top line level low few =
     {y = top + 1} (omega arith) in omega arith)
 
 next-offset : (top level : ℕ)
-    → level_offset top (suc level) ≡ level_offset top level + block_size level * width top level
+    → level_offset top (suc level) ≡ level_offset top level + tree_block_size level * width top level
 unfolding level_offset
 next-offset top level = refl
 
-pub path-within : (top line level : ℕ) → line < lines_of top → level ≤ top
-    → path_offset top line level + block_size level ≤ area_length top
+pub path-within : (top line level : ℕ) → line < tree_lines top → level ≤ top
+    → path_offset top line level + tree_block_size level ≤ area_length top
 path-within top line level low few =
-    let fits = part-fits (block_size level) (index_at level line) (width top level)
+    let fits = part-fits (tree_block_size level) (index_at level line) (width top level)
     (index-within top line level low few) in
-    let next : level_offset top (suc level) ≡ level_offset top level + block_size level * width top
+    let next : level_offset top (suc level) ≡ level_offset top level + tree_block_size level * width top
     level = next-offset top level in
     let last = offset-grows top (suc level) (top + 1) (omega arith) in
     omega arith
 
 -- a block of it in RAM has its size
 pub length-block : (top area line level : ℕ) (ram : List ℕ) → HoldsRange ram area (area_length top)
-    → line < lines_of top → level ≤ top
-    → length (path_in top area ram line level) ≡ block_size level
+    → line < tree_lines top → level ≤ top
+    → length (path_in top area ram line level) ≡ tree_block_size level
 length-block top area line level ram held low few =
     let within = path-within top line level low few in
-    length-take-le (block_size level) (drop (area + path_offset top line level) ram)
+    length-take-le (tree_block_size level) (drop (area + path_offset top line level) ram)
     (omega (arith, length-drop (area + path_offset top line level) ram))
 
 -- and so has the new one
 pub length-renewed : (path : ℕ → List ℕ) (line number level : ℕ)
-    → ((below : ℕ) → below ≤ level → length (path below) ≡ block_size below)
-    → length (renewed path line number level) ≡ block_size level
-unfolding renewed part_size
+    → ((below : ℕ) → below ≤ level → length (path below) ≡ tree_block_size below)
+    → length (block_after_raise path line number level) ≡ tree_block_size level
+unfolding block_after_raise part_size
 length-renewed path line number zero whole =
     let part = low-part 0 line in let long = whole 0 (omega arith) in
     length-stored (path 0) (to_be_bytes w64 number) (8 * part_at 0 line)
     (let size : length (to_be_bytes w64 number) ≡ 8 = refl in omega arith) ∙ long
 length-renewed path line number (suc level) whole =
     let part = low-part (suc level) line in let long = whole (suc level) (omega arith) in
-    let size = length-sha256 (text_of level (renewed path line number level)) in
-    length-stored (path (suc level)) (digest_of level (renewed path line number level))
+    let size = length-sha256 (block_text level (block_after_raise path line number level)) in
+    length-stored (path (suc level)) (digest_of level (block_after_raise path line number level))
     (32 * part_at (suc level) line) (omega arith) ∙ long
 
 -- RAM keeps its size
 pub length-ram_renewed : (top area : ℕ) (path : ℕ → List ℕ) (line number level : ℕ) (ram : List ℕ)
-    → HoldsRange ram area (area_length top) → line < lines_of top → level ≤ top
-    → ((below : ℕ) → below ≤ level → length (path below) ≡ block_size below)
+    → HoldsRange ram area (area_length top) → line < tree_lines top → level ≤ top
+    → ((below : ℕ) → below ≤ level → length (path below) ≡ tree_block_size below)
     → length (ram_renewed top area path line number level ram) ≡ length ram
 unfolding ram_renewed
 length-ram_renewed top area path line number zero ram held low few whole =
     let within = path-within top line 0 low few in let long = length-renewed path line number 0
     whole in
-    length-stored ram (renewed path line number 0) (area + path_offset top line 0) (omega arith)
+    length-stored ram (block_after_raise path line number 0) (area + path_offset top line 0) (omega arith)
 length-ram_renewed top area path line number (suc level) ram held low few whole =
     let within = path-within top line (suc level) low few in let long = length-renewed path line
     number (suc level) whole in
     let before = length-ram_renewed top area path line number level ram held low (omega arith)
     (λ below small. whole below (omega arith)) in
     length-stored (ram_renewed top area path line number level ram)
-    (renewed path line number (suc level)) (area + path_offset top line (suc level)) (omega arith)
+    (block_after_raise path line number (suc level)) (area + path_offset top line (suc level)) (omega arith)
     ∙ before

@@ -6,8 +6,8 @@ use Rattle.std.proofs.lemmas.List.Elements.{Contains-append_left}
 use Rattle.xom_base.specs.declared.entry.Entry.{Entry}
 use Rattle.xom_versions.specs.Store.{hash_entry}
 use Rattle.xom_versions.specs.Versions.{with_version}
-use Rattle.replay_tree.specs.Tree.{AreHashed, node, text_of}
-use Rattle.replay_tree.specs.Paths.{index_at, part_at, renewed, renewed_texts}
+use Rattle.replay_tree.specs.Tree.{AreHashed, block_text, node}
+use Rattle.replay_tree.specs.Paths.{block_after_raise, index_at, part_at, renewed_texts}
 use Rattle.replay_tree.specs.NodeLaws.{child-index, node-same, other-number, parent-index, renewed-node}
 use Rattle.replay_tree.specs.CheckLaws.{AreIn, in-back, in-front}
 
@@ -16,9 +16,9 @@ pub hashed-longer : (entries more : List Entry) (numbers : ℕ → ℕ) (level i
     → AreHashed entries numbers level i → AreHashed (entries ++ more) numbers level i
 unfolding AreHashed
 hashed-longer entries more numbers zero i hashed =
-    Contains-append_left entries more (hash_entry (text_of 0 (node numbers 0 i))) hashed
+    Contains-append_left entries more (hash_entry (block_text 0 (node numbers 0 i))) hashed
 hashed-longer entries more numbers (suc level) i hashed = (
-  Contains-append_left entries more (hash_entry (text_of (suc level) (node numbers (suc level) i)))
+  Contains-append_left entries more (hash_entry (block_text (suc level) (node numbers (suc level) i)))
       hashed.0,
   λ k low. hashed-longer entries more numbers level (8 * i + k) (hashed.1 k low),
 )
@@ -29,10 +29,10 @@ pub hashed-same : (entries : List Entry) (numbers others : ℕ → ℕ) (level i
     → AreHashed entries numbers level i → AreHashed entries others level i
 unfolding AreHashed
 hashed-same entries numbers others zero i same hashed =
-    subst (λ block. Contains entries (hash_entry (text_of 0 block)))
+    subst (λ block. Contains entries (hash_entry (block_text 0 block)))
     (node-same numbers others 0 i same) hashed
 hashed-same entries numbers others (suc level) i same hashed = (
-  subst (λ block. Contains entries (hash_entry (text_of (suc level) block)))
+  subst (λ block. Contains entries (hash_entry (block_text (suc level) block)))
       (node-same numbers others (suc level) i same) hashed.0,
   λ k low. hashed-same entries numbers others level (8 * i + k)
       (λ line is. same line (parent-index level line i k low is)) (hashed.1 k low),
@@ -47,17 +47,17 @@ pub hashed-renewed : (journal : List Entry) (path : ℕ → List ℕ) (numbers :
     → AreHashed journal (with_version numbers line number) level (index_at level line)
 unfolding AreHashed renewed_texts AreIn
 hashed-renewed journal path numbers line number zero on within hashed =
-    subst (λ block. Contains journal (hash_entry (text_of 0 block)))
+    subst (λ block. Contains journal (hash_entry (block_text 0 block)))
     (renewed-node path numbers line number 0 on) within.0
 hashed-renewed journal path numbers line number (suc level) on within hashed =
     let others : ℕ → ℕ = with_version numbers line number in
     let i = index_at (suc level) line in
     let at = part_at (suc level) line in
     let lower = in-front journal (renewed_texts path line number level)
-    (text_of (suc level) (renewed path line number (suc level)) ∷ []) within in
+    (block_text (suc level) (block_after_raise path line number (suc level)) ∷ []) within in
     let last = in-back journal (renewed_texts path line number level)
-    (text_of (suc level) (renewed path line number (suc level)) ∷ []) within in (
-      subst (λ block. Contains journal (hash_entry (text_of (suc level) block)))
+    (block_text (suc level) (block_after_raise path line number (suc level)) ∷ []) within in (
+      subst (λ block. Contains journal (hash_entry (block_text (suc level) block)))
           (renewed-node path numbers line number (suc level) on) last.0,
       λ k low. elim (eqb_tells k at) [
         | inl same ↦

@@ -8,7 +8,7 @@ use Rattle.xom_versions.specs.Versions.{RaisesInTheOpen, VersionLaw, start_versi
 use Rattle.replay_tree.specs.Tree.{TreeStands, digest_of}
 use Rattle.replay_tree.specs.Area.{area_bytes, level_offset, part_size}
 use Rattle.replay_tree.specs.Paths.{index_at}
-use Rattle.replay_tree.specs.Calls.{answer_of, raised_in, ram_after_raise_in, top_level, tree, tree_raised, texts_of_raise_in}
+use Rattle.replay_tree.specs.Calls.{raised_in, ram_after_raise_in, texts_of_raise_in, top_level, tree, tree_raised, version_answer}
 use Rattle.replay_tree.specs.CallLaws.{build-stands, raise-told, ram-answered, ram-torn, same-ram, size-raised, torn-root, version-told}
 use Rattle.replay_tree.specs.PlaceLaws.{area_length, length-area}
 use Rattle.replay_tree.specs.RaiseLaws.{hashed-longer, hashed-same}
@@ -34,13 +34,13 @@ unfolding index_at
 top-lines line is = grind arith
 
 same-area : (area other : Option ℕ) (root also : List ℕ) (line : ℕ) (ram : List ℕ) → area ≡ other
-    → is_ok (answer_of top_level (raised_in top_level) area root line ram) ≡ is_ok
-    (answer_of top_level (raised_in top_level) other also line ram)
+    → is_ok (version_answer top_level (raised_in top_level) area root line ram) ≡ is_ok
+    (version_answer top_level (raised_in top_level) other also line ram)
     → ram_after_raise_in top_level area root line ram ≡ ram_after_raise_in top_level other also line
     ram
 same-area area other root also line ram same torn =
-    subst (λ at. is_ok (answer_of top_level (raised_in top_level) area root line ram) ≡ is_ok
-    (answer_of top_level (raised_in top_level) at also line ram)
+    subst (λ at. is_ok (version_answer top_level (raised_in top_level) area root line ram) ≡ is_ok
+    (version_answer top_level (raised_in top_level) at also line ram)
     → ram_after_raise_in top_level area root line ram ≡ ram_after_raise_in top_level at also line
     ram) same (same-ram top_level area root also line ram) torn
 

@@ -1,7 +1,7 @@
 ghost use Rattle.std.specs.Prelude.{◌≡◌, ◌≤◌, ◌<◌, ◌+◌, ◌++◌, map};
 ghost use Rattle.line_ram.specs.Bytes.{HoldsRange};
 ghost use Rattle.xom_versions.specs.Store.{area_size, hash_entry, line_limit, raise_room, version_room};
-ghost use Rattle.replay_tree.specs.Calls.{new_ram, new_root, new_texts, raised_in, top_level, torn_in, torn_or, version_in as version_of, version_texts};
+ghost use Rattle.replay_tree.specs.Calls.{new_ram, new_root, new_texts, raised_in, top_level, torn_in, torn_or, version_at_line as version_of, version_texts};
 
 use crate::path::{check, number_at, renew};
 use crate::place::TOP;

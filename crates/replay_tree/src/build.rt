@@ -1,9 +1,9 @@
 ghost use Rattle.std.specs.Prelude.{◌≡◌, ◌≤◌, ◌<◌, ◌+◌, ◌*◌, ◌++◌, length, map};
-ghost use Rattle.line_ram.specs.Bytes.{HoldsRange, stored};
+ghost use Rattle.line_ram.specs.Bytes.{HoldsRange, ram_with_bytes};
 ghost use Rattle.xom_versions.specs.Store.{area_size, build_room, hash_entry, line_limit};
 ghost use Rattle.xom_versions.specs.Versions.{start_version};
-ghost use Rattle.replay_tree.specs.Tree.{joined, root_of};
-ghost use Rattle.replay_tree.specs.Area.{area_bytes, block_size as size_of_block, level_bytes, level_offset as offset_of_level, texts_below, texts_up_to, width as width_of};
+ghost use Rattle.replay_tree.specs.Tree.{parts_joined, root_of};
+ghost use Rattle.replay_tree.specs.Area.{area_bytes, level_bytes, level_offset as offset_of_level, texts_below, texts_up_to, tree_block_size as size_of_block, width as width_of};
 ghost use Rattle.replay_tree.specs.Build.{digests_in, room_below, texts_in, versions_to};
 ghost use Rattle.replay_tree.specs.Calls.{top_level};
 
@@ -20,7 +20,7 @@ pub fn build_in(area: u32, lines: u32, ram: &mut LineRam, journal: &mut Journal)
     requires lines { lines ≤ line_limit }
     requires room { build_room ≤ journal.old.spare }
     ensures root { result ≡ root_of top_level (start_version lines) }
-    ensures ram { ram.new ≡ stored ram.old area (area_bytes top_level (start_version lines)) }
+    ensures ram { ram.new ≡ ram_with_bytes ram.old area (area_bytes top_level (start_version lines)) }
     ensures entries { journal.new.entries ≡ journal.old.entries ++ map hash_entry (texts_up_to top_level (start_version lines) top_level) }
     ensures spare { journal.old.spare ≤ journal.new.spare + build_room }
 {
@@ -35,7 +35,7 @@ fn fill_up_to(level: u8, area: u32, lines: u32, ram: &mut LineRam, journal: &mut
     requires area { HoldsRange ram.old area area_size }
     requires lines { lines ≤ line_limit }
     requires room { room_below level ≤ journal.old.spare }
-    ensures ram { ram.new ≡ stored ram.old area (joined (level_bytes top_level (start_version lines)) (level + 1)) }
+    ensures ram { ram.new ≡ ram_with_bytes ram.old area (parts_joined (level_bytes top_level (start_version lines)) (level + 1)) }
     ensures size { length ram.new ≡ length ram.old }
     ensures entries { journal.new.entries ≡ journal.old.entries ++ map hash_entry (texts_below top_level (start_version lines) level) }
     ensures spare { journal.old.spare ≤ journal.new.spare + room_below level }
@@ -54,7 +54,7 @@ fn hash_level(level: u8, area: u32, ram: &mut LineRam, journal: &mut Journal)
     requires level { level < top_level }
     requires area { HoldsRange ram.old area area_size }
     requires room { (81 + size_of_block level) * width_of top_level level ≤ journal.old.spare }
-    ensures ram { ram.new ≡ stored ram.old (area + offset_of_level top_level (level + 1)) (digests_in area ram.old level (width_of top_level level)) }
+    ensures ram { ram.new ≡ ram_with_bytes ram.old (area + offset_of_level top_level (level + 1)) (digests_in area ram.old level (width_of top_level level)) }
     ensures size { length ram.new ≡ length ram.old }
     ensures entries { journal.new.entries ≡ journal.old.entries ++ map hash_entry (texts_in area ram.old level (width_of top_level level)) }
     ensures spare { journal.old.spare ≤ journal.new.spare + (81 + size_of_block level) * width_of top_level level }
@@ -70,7 +70,7 @@ fn hash_level(level: u8, area: u32, ram: &mut LineRam, journal: &mut Journal)
 #[tactic(auto, using(crate::proofs::Built::versions_none, crate::proofs::Built::versions_more))]
 fn write_versions(area: u32, lines: u32, ram: &mut LineRam)
     requires area { HoldsRange ram.old area area_size }
-    ensures ram { ram.new ≡ stored ram.old area (versions_to lines line_limit) }
+    ensures ram { ram.new ≡ ram_with_bytes ram.old area (versions_to lines line_limit) }
     ensures size { length ram.new ≡ length ram.old }
 {
     let _size = ram.size();

@@ -1,9 +1,9 @@
 ghost use Rattle.std.specs.Prelude.{◌≡◌, ◌≤◌, ◌<◌, ◌+◌, ◌++◌, ◌∷◌, [], length};
 ghost use Rattle.line_ram.specs.Bytes.{HoldsRange};
-ghost use Rattle.xom_journal.specs.Log.{logged};
+ghost use Rattle.xom_journal.specs.Log.{log_with_entry};
 ghost use Rattle.xom_versions.specs.Store.{area_size, hash_entry};
-ghost use Rattle.replay_tree.specs.Tree.{digest_of, text_of};
-ghost use Rattle.replay_tree.specs.Area.{block_in, block_size as size_of_block, width};
+ghost use Rattle.replay_tree.specs.Tree.{block_text, digest_of};
+ghost use Rattle.replay_tree.specs.Area.{block_in, tree_block_size as size_of_block, width};
 ghost use Rattle.replay_tree.specs.Calls.{top_level};
 
 use crate::place::{BLOCK, block_at, block_size};
@@ -17,7 +17,7 @@ pub fn hash(level: u8, block: &[u8], journal: &mut Journal) -> [u8; 32]
     requires size { length block.now ≤ 256 }
     requires room { 81 + length block.now ≤ journal.old.spare }
     ensures digest { result ≡ digest_of level block.now }
-    ensures entry { journal.new ≡ logged journal.old (hash_entry (text_of level block.now)) }
+    ensures entry { journal.new ≡ log_with_entry journal.old (hash_entry (block_text level block.now)) }
 {
     let mut text = [0u8; BLOCK + 1];
     text[0] = level;
@@ -54,7 +54,7 @@ pub fn hash_block(
     requires area { HoldsRange ram.now area area_size }
     requires room { 81 + size_of_block level ≤ journal.old.spare }
     ensures digest { result ≡ digest_of level (block_in top_level area ram.now level index) }
-    ensures entries { journal.new.entries ≡ journal.old.entries ++ hash_entry (text_of level (block_in top_level area ram.now level index)) ∷ [] }
+    ensures entries { journal.new.entries ≡ journal.old.entries ++ hash_entry (block_text level (block_in top_level area ram.now level index)) ∷ [] }
     ensures spare { journal.old.spare ≤ journal.new.spare + (81 + size_of_block level) }
 {
     let mut buffer = [0u8; BLOCK];

@@ -1,10 +1,10 @@
 ghost use Rattle.std.specs.Prelude.{◌≡◌, ◌≤◌, ◌<◌, ◌+◌, ◌*◌, ◌^◌, ◌++◌, ◌∷◌, [], length, map};
-ghost use Rattle.line_ram.specs.Bytes.{HoldsRange, stored};
+ghost use Rattle.line_ram.specs.Bytes.{HoldsRange, ram_with_bytes};
 ghost use Rattle.xom_versions.specs.Store.{area_size, hash_entry, line_limit};
-ghost use Rattle.replay_tree.specs.Tree.{digest_of, text_of};
-ghost use Rattle.replay_tree.specs.Area.{block_size as size_of_block, part_size as size_of_part};
+ghost use Rattle.replay_tree.specs.Tree.{block_text, digest_of};
+ghost use Rattle.replay_tree.specs.Area.{part_size as size_of_part, tree_block_size as size_of_block};
 ghost use Rattle.replay_tree.specs.Calls.{top_level};
-ghost use Rattle.replay_tree.specs.Paths.{checked_texts, number_in, part_in, path_in, path_offset, ram_renewed, renewed, renewed_texts, torn_at, with_part};
+ghost use Rattle.replay_tree.specs.Paths.{block_after_raise, checked_texts, part_in, path_in, path_offset, ram_renewed, renewed_texts, torn_at, version_in_leaf, with_part};
 
 use crate::hashing::{hash, read};
 use crate::place::{BLOCK, block_at, block_size, index_at, part_from, part_size};
@@ -71,7 +71,7 @@ fn digest_in(level: u8, line: u32, block: &[u8]) -> [u8; 32]
 
 /// Renews the line's blocks from the leaf, which gets this version, up to a level: the digest of the
 /// last. Each new block is hashed, and becomes an entry of the journal.
-#[tactic(auto, unfolding(crate::specs::Area::part_size, crate::specs::Paths::renewed, crate::specs::Paths::renewed_texts, crate::specs::Paths::ram_renewed), using(crate::proofs::PathsKept::renewed_next, crate::proofs::Levels::part_size_above, crate::proofs::Levels::renewed_on, crate::proofs::Levels::ram_above))]
+#[tactic(auto, unfolding(crate::specs::Area::part_size, crate::specs::Paths::block_after_raise, crate::specs::Paths::renewed_texts, crate::specs::Paths::ram_renewed), using(crate::proofs::PathsKept::renewed_next, crate::proofs::Levels::part_size_above, crate::proofs::Levels::renewed_on, crate::proofs::Levels::ram_above))]
 pub fn renew(
     level: u8,
     area: u32,
@@ -84,7 +84,7 @@ pub fn renew(
     requires line { line < line_limit }
     requires area { HoldsRange ram.old area area_size }
     requires room { 337 * (level + 1) ≤ journal.old.spare }
-    ensures digest { result ≡ digest_of level (renewed (path_in top_level area ram.old line) line number level) }
+    ensures digest { result ≡ digest_of level (block_after_raise (path_in top_level area ram.old line) line number level) }
     ensures ram { ram.new ≡ ram_renewed top_level area (path_in top_level area ram.old line) line number level ram.old }
     ensures size { length ram.new ≡ length ram.old }
     ensures entries { journal.new.entries ≡ journal.old.entries ++ map hash_entry (renewed_texts (path_in top_level area ram.old line) line number level) }
@@ -114,9 +114,9 @@ fn renew_block(
     requires part { length part.now ≡ size_of_part level }
     requires room { 337 ≤ journal.old.spare }
     ensures digest { result ≡ digest_of level (with_part level line (path_in top_level area ram.old line level) part.now) }
-    ensures ram { ram.new ≡ stored ram.old (area + path_offset top_level line level) (with_part level line (path_in top_level area ram.old line level) part.now) }
+    ensures ram { ram.new ≡ ram_with_bytes ram.old (area + path_offset top_level line level) (with_part level line (path_in top_level area ram.old line level) part.now) }
     ensures size { length ram.new ≡ length ram.old }
-    ensures entries { journal.new.entries ≡ journal.old.entries ++ hash_entry (text_of level (with_part level line (path_in top_level area ram.old line level) part.now)) ∷ [] }
+    ensures entries { journal.new.entries ≡ journal.old.entries ++ hash_entry (block_text level (with_part level line (path_in top_level area ram.old line level) part.now)) ∷ [] }
     ensures spare { journal.old.spare ≤ journal.new.spare + 337 }
 {
     let _size = ram.size();
@@ -144,7 +144,7 @@ fn put(level: u8, line: u32, part: &[u8], block: &mut [u8])
 pub fn number_at(area: u32, line: u32, ram: &LineRam) -> u64
     requires line { line < line_limit }
     requires area { HoldsRange ram.now area area_size }
-    ensures { result ≡ number_in (path_in top_level area ram.now line) line }
+    ensures { result ≡ version_in_leaf (path_in top_level area ram.now line) line }
 {
     let mut leaf = [0u8; 64];
     read_on_path(0, area, line, ram, &mut leaf);

@@ -1,6 +1,6 @@
 ghost use Rattle.std.specs.Prelude.{◌≡◌, ◌≤◌, ◌<◌, ◌+◌, ◌*◌, ◌^◌};
 ghost use Rattle.xom_versions.specs.Store.{area_size};
-ghost use Rattle.replay_tree.specs.Area.{block_offset, block_size as size_of_block, level_offset as offset_of_level, part_size as size_of_part, width as width_of};
+ghost use Rattle.replay_tree.specs.Area.{block_offset, level_offset as offset_of_level, part_size as size_of_part, tree_block_size as size_of_block, width as width_of};
 ghost use Rattle.replay_tree.specs.Calls.{top_level};
 ghost use Rattle.replay_tree.specs.Paths.{index_at as index_of, part_at as part_of, part_offset};
 

@@ -7,8 +7,8 @@ abbrev pub IsOwned : ℕ → ℕ → Type 0
 IsOwned mask reg = bit_at mask reg ≡ 1
 
 -- the set with a cell
-unfoldable pub with_cell : ℕ → ℕ → ℕ
-with_cell mask reg = bit_or mask (2 ^ reg)
+unfoldable pub mask_with_cell : ℕ → ℕ → ℕ
+mask_with_cell mask reg = bit_or mask (2 ^ reg)
 
 -- the set without a cell
 unfoldable pub without_cell : ℕ → ℕ → ℕ

@@ -59,8 +59,8 @@ pub record IsTable (sessions : List Session) : Type 0 where
   pub null : session_at sessions 0 ≡ free
 
 -- a guest that was just installed
-abbrev pub fresh : ℕ → ImageId → Key256 → ℕ → ℕ → Session
-fresh install id key entry lines = record {
+abbrev pub fresh_session : ℕ → ImageId → Key256 → ℕ → ℕ → Session
+fresh_session install id key entry lines = record {
   install = install;
   id = id;
   key = key;
@@ -78,25 +78,25 @@ fresh install id key entry lines = record {
 }
 
 -- a guest that is started at its entry
-abbrev pub entered : Session → Session
-entered s = record s { pc = s.entry; npc = (s.entry + 4) % 2 ^ 32; state = state.Running }
+abbrev pub session_after_enter : Session → Session
+session_after_enter s = record s { pc = s.entry; npc = (s.entry + 4) % 2 ^ 32; state = state.Running }
 
 -- a guest that goes on where it was
-abbrev pub resumed : Session → Session
-resumed s = record s { state = state.Running }
+abbrev pub session_after_resume : Session → Session
+session_after_resume s = record s { state = state.Running }
 
 -- a guest that left and may come back: what was sealed under its old epoch is of no use any more
-abbrev pub paused : Session → Session
-paused s = record s { epoch = s.epoch + 1; state = state.Paused }
+abbrev pub session_after_pause : Session → Session
+session_after_pause s = record s { epoch = s.epoch + 1; state = state.Paused }
 
 -- a guest under the next epoch: what was sealed under the old one is of no use any more
-abbrev pub renewed : Session → Session
-renewed s = record s { epoch = s.epoch + 1 }
+abbrev pub session_after_epoch : Session → Session
+session_after_epoch s = record s { epoch = s.epoch + 1 }
 
 -- the table with another session in a slot
 abbrev pub with_session : Sessions → ℕ → Session → Sessions
 with_session table slot session = record table { list = slice_set table.list slot session }
 
 -- a guest that left for good
-abbrev pub left : Session → SlotState → Session
-left s final = record s { state = final }
+abbrev pub session_after_leaving : Session → SlotState → Session
+session_after_leaving s final = record s { state = final }

@@ -1,5 +1,5 @@
 ghost use Rattle.std.specs.Prelude.{◌≡◌, ◌<◌, ◌^◌};
-ghost use Rattle.session_table.specs.Sessions.{entered, fresh as fresh_of, free, is_live, is_running, left, paused, resumed};
+ghost use Rattle.session_table.specs.Sessions.{free, fresh_session as fresh_of, is_live, is_running, session_after_enter, session_after_leaving, session_after_pause, session_after_resume};
 
 use xom_base::{ImageId, Key256, Rule};
 
@@ -132,7 +132,7 @@ impl Session {
 
     /// The guest started at its entry.
     pub fn entered(&self) -> Session
-        ensures { result ≡ entered self.now }
+        ensures { result ≡ session_after_enter self.now }
     {
         let entry = self.entry;
         Session {
@@ -145,7 +145,7 @@ impl Session {
 
     /// The guest going on where it was.
     pub fn resumed(&self) -> Session
-        ensures { result ≡ resumed self.now }
+        ensures { result ≡ session_after_resume self.now }
     {
         Session {
             state: SlotState::Running,
@@ -156,7 +156,7 @@ impl Session {
     /// The guest after it left to come back, under the next epoch.
     pub fn paused(&self) -> Session
         requires { self.now.epoch < 2 ^ 63 }
-        ensures { result ≡ paused self.now }
+        ensures { result ≡ session_after_pause self.now }
     {
         let epoch = self.epoch;
         Session {
@@ -168,7 +168,7 @@ impl Session {
 
     /// The guest after it left for good, ended or stopped.
     pub fn left(&self, state: SlotState) -> Session
-        ensures { result ≡ left self.now state }
+        ensures { result ≡ session_after_leaving self.now state }
     {
         Session { state, ..*self }
     }

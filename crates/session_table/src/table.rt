@@ -1,6 +1,6 @@
 ghost use Rattle.std.specs.Prelude.{◌≡◌, ◌≤◌, ◌<◌, ◌+◌, ◌^◌, IfOk, IfSome, slice_set};
 ghost use Rattle.std.specs.Borrow.{sem};
-ghost use Rattle.session_table.specs.Sessions.{IsTable, free, fresh, none_held, renewed, running_in, session_at, with_session};
+ghost use Rattle.session_table.specs.Sessions.{IsTable, free, fresh_session, none_held, running_in, session_after_epoch, session_at, with_session};
 
 use crate::Session;
 use std::alloc::Global;
@@ -80,7 +80,7 @@ impl Table {
         requires known { slot ≤ 16 }
         requires number { self.old.installs < 2 ^ 63 }
         ensures number { result ≡ self.old.installs + 1 }
-        ensures table { self.new ≡ record { list = slice_set self.old.list slot (fresh (self.old.installs + 1) id key entry lines); installs = self.old.installs + 1 } }
+        ensures table { self.new ≡ record { list = slice_set self.old.list slot (fresh_session (self.old.installs + 1) id key entry lines); installs = self.old.installs + 1 } }
     {
         let number = self.installs + 1;
         self.sessions[usize::from(slot)] = Session::fresh(number, id, key, entry, lines);
@@ -102,7 +102,7 @@ impl Table {
         requires some { 1 ≤ slot }
         requires known { slot ≤ 16 }
         requires number { (session_at self.old.list slot).epoch < 2 ^ 63 }
-        ensures { self.new ≡ with_session self.old slot (renewed (session_at self.old.list slot)) }
+        ensures { self.new ≡ with_session self.old slot (session_after_epoch (session_at self.old.list slot)) }
     {
         self.sessions[usize::from(slot)].epoch += 1;
     }

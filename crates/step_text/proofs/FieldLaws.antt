@@ -11,12 +11,12 @@ use Rattle.std.proofs.lemmas.List.{drop_at, length-append}
 use Rattle.std.proofs.lemmas.Option.{cond_some, none-some, option_and_then_some as steps, same_Some, some_pair_parts}
 use Rattle.std.proofs.lemmas.Slice.Eq.{bytes_eq-Decides, starts_is}
 use Rattle.xom_base.specs.Hex.{IsHex, hex_of}
-use Rattle.xom_base.specs.Numbers.{IsNumber, IsNumeral, Writes, number_below_of}
+use Rattle.xom_base.specs.Numbers.{IsNumber, IsNumeral, WritesBelow, number_below_of}
 use Rattle.xom_base.specs.Words.{cut_of}
 use Rattle.xom_base.proofs.CutLaws.{cut_of-at, cut_of-whole, option_map_some}
 use Rattle.xom_base.proofs.HexLaws.{hex_of-exact}
 use Rattle.xom_base.proofs.NumberLaws.{number_below_of-exact}
-use Rattle.step_text.specs.StepFields.{IsCell, IsHex8, IsNamedHex8, IsNamedNumber, IsNamedPair, behind, cell_of, count_below_of, hex8_of, named_hex8_of, named_number_of, named_pair_of, or_else, pair_of}
+use Rattle.step_text.specs.StepFields.{IsCell, IsHex8, IsNamedHex8, IsNamedNumber, IsNamedPair, cell_of, count_below_of, hex8_of, named_hex8_of, named_number_of, named_pair_of, or_else, pair_of, text_after_name}
 
 -- ---- words and bytes
 
@@ -47,7 +47,7 @@ digits_without base at (d ∷ word) other all =
 
 -- neither in a number nor in a hexadecimal word
 pub number_without : (bound n at : ℕ) (word : List ℕ) → 16 ≤ digit_value at → eqb 48 at ≡ false
-    → eqb 120 at ≡ false → Writes bound word n → AllByRecursion (λ b. eqb b at ≡ false) word
+    → eqb 120 at ≡ false → WritesBelow bound word n → AllByRecursion (λ b. eqb b at ≡ false) word
 number_without bound n at word other zero x w =
     elim w.0 [
       | inl decimal ↦ digits_without 10 at word (omega arith) decimal.0.digits
@@ -95,20 +95,20 @@ starts : (word name : List ℕ)
     × ((rest : List ℕ) → word ≡ name ++ rest → starts_with eqb word name ≡ true)
 starts word name = starts_is Decides-eqb word name (starts_with eqb word name) refl
 
-pub behind_name : (name rest : List ℕ) → behind name (name ++ rest) ≡ Some rest
-unfolding behind
+pub behind_name : (name rest : List ℕ) → text_after_name name (name ++ rest) ≡ Some rest
+unfolding text_after_name
 behind_name name rest =
     rw ((starts (name ++ rest) name).1 rest refl) (ap Some (drop_at name rest (length name) refl))
 
-pub behind_found : (name word rest : List ℕ) → behind name word ≡ Some rest → word ≡ name ++ rest
-unfolding behind
+pub behind_found : (name word rest : List ℕ) → text_after_name name word ≡ Some rest → word ≡ name ++ rest
+unfolding text_after_name
 behind_found name word rest h =
     let t = cond_some (starts_with eqb word name) (drop (length name) word) rest h in
     (starts word name).0 t.0 ∙ ap (λ more. name ++ more) t.1
 
 pub behind_other : (a b : ℕ) (name word : List ℕ) → eqb b a ≡ false
-    → behind (a ∷ name) (b ∷ word) ≡ None
-unfolding behind
+    → text_after_name (a ∷ name) (b ∷ word) ≡ None
+unfolding text_after_name
 behind_other a b name word other =
     let away = false_from_ne_true (starts_with eqb (b ∷ word) (a ∷ name)) (λ begins.
     let e : b ∷ word ≡ a ∷ (name ++ drop (length (a ∷ name)) (b ∷ word)) =
@@ -118,7 +118,7 @@ behind_other a b name word other =
     rw away refl
 
 pub behind_head : (a b : ℕ) (name word rest : List ℕ) → word ≡ b ∷ rest → eqb b a ≡ false
-    → behind (a ∷ name) word ≡ None
+    → text_after_name (a ∷ name) word ≡ None
 behind_head a b name word rest is other = rw is (behind_other a b name rest other)
 
 -- ---- what stands behind a name
@@ -127,7 +127,7 @@ pub named_hex8_found : (name word : List ℕ) (n : ℕ) → named_hex8_of name w
     → IsNamedHex8 name word n
 unfolding named_hex8_of
 named_hex8_found name word n h =
-    steps _ (behind name word) n h
+    steps _ (text_after_name name word) n h
     (λ rest front read. (rest, behind_found name word rest front, hex8_found rest n read))
 
 pub named_hex8_only : (name word : List ℕ) (n : ℕ) → IsNamedHex8 name word n
@@ -139,7 +139,7 @@ pub named_number_found : (name word : List ℕ) (n : ℕ) → named_number_of na
     → IsNamedNumber name word n
 unfolding named_number_of
 named_number_found name word n h =
-    steps _ (behind name word) n h
+    steps _ (text_after_name name word) n h
     (λ rest front read. (
       rest,
       behind_found name word rest front,
@@ -181,7 +181,7 @@ pub named_pair_found : (name word : List ℕ) (first second : ℕ)
     → named_pair_of name word ≡ Some (first, second) → IsNamedPair name word first second
 unfolding named_pair_of
 named_pair_found name word first second h =
-    steps _ (behind name word) (first, second) h (λ rest front read.
+    steps _ (text_after_name name word) (first, second) h (λ rest front read.
     let p = pair_found rest first second read in
     (p.0, p.1, behind_found name word rest front ∙ ap (λ more. name ++ more) p.2, p.3, p.4))
 
@@ -194,17 +194,17 @@ named_pair_only name word first second w =
 -- ---- cells
 
 pub count_found : (bound : ℕ) (word : List ℕ) (n : ℕ) → count_below_of bound word ≡ Some n
-    → Writes bound word n × (1 ≤ n)
+    → WritesBelow bound word n × (1 ≤ n)
 unfolding count_below_of
 count_found bound word n h =
     steps _ (number_below_of bound word) n h (λ m read h.
     let t = cond_some (leb 1 m) m n h in (
-      subst (Writes bound word) t.1 ((number_below_of-exact bound word m).0 read),
+      subst (WritesBelow bound word) t.1 ((number_below_of-exact bound word m).0 read),
       subst (λ n. 1 ≤ n)
           t.1 (leb-true 1 m t.0),
     ))
 
-pub count_only : (bound : ℕ) (word : List ℕ) (n : ℕ) → Writes bound word n → 1 ≤ n
+pub count_only : (bound : ℕ) (word : List ℕ) (n : ℕ) → WritesBelow bound word n → 1 ≤ n
     → count_below_of bound word ≡ Some n
 unfolding count_below_of
 count_only bound word n w least =
@@ -214,7 +214,7 @@ pub cell_found : (word : List ℕ) (reg value : ℕ) → cell_of word ≡ Some (
     → IsCell word reg value
 unfolding cell_of
 cell_found word reg value h =
-    steps _ (behind (codes "r") word) (reg, value) h (λ rest front h.
+    steps _ (text_after_name (codes "r") word) (reg, value) h (λ rest front h.
     steps _ (cut_of 61 rest) (reg, value) h (λ parts cuts h.
     steps _ (count_below_of 34 parts.0) (reg, value) h (λ m read h.
     steps _ (hex8_of parts.1) (reg, value) h (λ n low h.
@@ -224,7 +224,7 @@ cell_found word reg value h =
       parts.1,
       behind_found (codes "r") word rest front ∙ ap (λ more. codes "r" ++ more)
           (cut_of-whole 61 rest parts.0 parts.1 cuts),
-      subst (Writes 34 parts.0) e.0 c.0,
+      subst (WritesBelow 34 parts.0) e.0 c.0,
       subst (λ n. 1 ≤ n) e.0 c.1,
       subst (IsHex8 parts.1) e.1 (hex8_found parts.1 n low),
     )))))
@@ -239,17 +239,17 @@ cell_only word reg value w =
 
 -- ---- no value behind another name
 
-pub named_hex8_none : (name word : List ℕ) → behind name word ≡ None
+pub named_hex8_none : (name word : List ℕ) → text_after_name name word ≡ None
     → named_hex8_of name word ≡ None
 unfolding named_hex8_of
 named_hex8_none name word none = rw none refl
 
-pub named_pair_none : (name word : List ℕ) → behind name word ≡ None
+pub named_pair_none : (name word : List ℕ) → text_after_name name word ≡ None
     → named_pair_of name word ≡ None
 unfolding named_pair_of
 named_pair_none name word none = rw none refl
 
-pub cell_none : (word : List ℕ) → behind (codes "r") word ≡ None → cell_of word ≡ None
+pub cell_none : (word : List ℕ) → text_after_name (codes "r") word ≡ None → cell_of word ≡ None
 unfolding cell_of
 cell_none word none = rw none refl
 

@@ -6,7 +6,7 @@ use Rattle.std.proofs.lemmas.Bool.{cases_Bool}
 use Rattle.std.proofs.lemmas.List.{length-append}
 use Rattle.std.proofs.lemmas.Option.{none-some, option_and_then_some as steps, same_Some}
 use Rattle.xom_base.specs.Hex.{IsHex, hex_of}
-use Rattle.xom_base.specs.Numbers.{Writes as WritesNumber}
+use Rattle.xom_base.specs.Numbers.{WritesBelow as WritesNumber}
 use Rattle.xom_base.specs.Words.{cut_of}
 use Rattle.xom_base.proofs.CutLaws.{cut_of-at, cut_of-whole, option_map_some}
 use Rattle.xom_base.proofs.HexLaws.{hex_of-exact}
@@ -25,7 +25,7 @@ use Rattle.xom_base.specs.declared.step.StepEnd.TheVariants as ended
 use Rattle.xom_base.specs.declared.step.Step.{Step}
 use Rattle.step_text.specs.declared.reading.CellOrPair.{CellOrPair}
 use Rattle.step_text.specs.declared.reading.CellOrPair.TheVariants as form
-use Rattle.step_text.specs.StepFields.{IsCell, IsEnd, IsFault, IsHex8, IsNamedPair, IsReceived, IsReleased, IsStep, IsStored, IsWrites, behind, bytes_at_of, cell_of, cell_or_pair_of, count_below_of, end_of, fault_of, hex8_of, low_bytes, named_hex8_of, named_number_of, named_pair_of, or_else, received_of, released_by, released_of, step_of, stored_bytes_of, stored_of, writes_by, writes_of}
+use Rattle.step_text.specs.StepFields.{IsCell, IsEnd, IsFault, IsHex8, IsNamedPair, IsReceivedWord, IsReleased, IsStep, IsStored, IsWrites, bytes_at_of, cell_of, cell_or_pair_of, count_below_of, end_of_word, fault_of, hex8_of, named_hex8_of, named_number_of, named_pair_of, number_of_bytes, or_else, received_word, released_by, released_of, step_of_words, stored_bytes_of, stored_of, text_after_name, writes_by, writes_of}
 use Rattle.step_text.proofs.FieldLaws.{behind_head, cell_found, cell_none, cell_only, count_found, count_only, hex8_of-exact, hex8_without, is_word, named_hex8_found, named_hex8_none, named_hex8_only, named_number_found, named_number_only, named_pair_found, named_pair_none, named_pair_only, number_without, or_else_some, other_head, other_word, same_word}
 
 -- ---- a choice by a word
@@ -124,7 +124,7 @@ stored_bytes_found word s h =
     steps _ (count_below_of 5 more.0) s h (λ count read h.
     steps _ (hex_of count more.1) s h (λ bytes low h.
     let c = count_found 5 more.0 count read in
-    subst (IsStored word) (same_Some (stored.Bytes address count (low_bytes count bytes)) s h) (
+    subst (IsStored word) (same_Some (stored.Bytes address count (number_of_bytes count bytes)) s h) (
       parts.0,
       more.0,
       more.1,
@@ -182,33 +182,33 @@ stored_of-exact word s = (stored_found word s, stored_only word s)
 
 -- ---- RECEIVED
 
-received_found : (word : List ℕ) (g : Received) → received_of word ≡ Some g → IsReceived word g
-unfolding received_of
+received_found : (word : List ℕ) (g : Received) → received_word word ≡ Some g → IsReceivedWord word g
+unfolding received_word
 received_found word g h =
     elim (either (bytes_eq word (codes "-")) received.Nothing _ g h) [
-      | inl t ↦ subst (IsReceived word) t.1 (same_word word (codes "-") t.0)
+      | inl t ↦ subst (IsReceivedWord word) t.1 (same_word word (codes "-") t.0)
       | inr t ↦ elim (or_else_some _ _ g t.1) [
         | inl first ↦
             let m = option_map_some received.Cell (named_hex8_of (codes "cell=") word) g first in
-            subst (IsReceived word) (same_Some (received.Cell m.0) g m.2)
+            subst (IsReceivedWord word) (same_Some (received.Cell m.0) g m.2)
             (named_hex8_found (codes "cell=") word m.0 m.1)
         | inr others ↦ elim (or_else_some _ _ g others) [
           | inl second ↦
               let m = option_map_some (λ (pair : ℕ × ℕ). received.Null pair.0 pair.1)
               (named_pair_of (codes "null=") word) g second in
-              subst (IsReceived word) (same_Some (received.Null m.0.0 m.0.1) g m.2)
+              subst (IsReceivedWord word) (same_Some (received.Null m.0.0 m.0.1) g m.2)
               (named_pair_found (codes "null=") word m.0.0 m.0.1 m.1)
           | inr third ↦
               let m = option_map_some received.Signal (named_number_of (codes "signal=") word) g
               third in
-              subst (IsReceived word) (same_Some (received.Signal m.0) g m.2)
+              subst (IsReceivedWord word) (same_Some (received.Signal m.0) g m.2)
               (named_number_found (codes "signal=") word m.0 m.1)
         ]
       ]
     ]
 
-received_only : (word : List ℕ) (g : Received) → IsReceived word g → received_of word ≡ Some g
-unfolding received_of
+received_only : (word : List ℕ) (g : Received) → IsReceivedWord word g → received_word word ≡ Some g
+unfolding received_word
 received_only word received.Nothing is = rw (is_word word (codes "-") is) refl
 received_only word (received.Cell value) is =
     let away : bytes_eq word (codes "-") ≡ false = other_head 99 45 word _ _ is.1 refl in
@@ -227,7 +227,7 @@ received_only word (received.Signal n) is =
     rw (away, no_cell, no_null, named_number_only (codes "signal=") word n is) refl
 
 pub received_of-exact : (word : List ℕ) (g : Received)
-    → (received_of word ≡ Some g) ↔ IsReceived word g
+    → (received_word word ≡ Some g) ↔ IsReceivedWord word g
 received_of-exact word g = (received_found word g, received_only word g)
 
 -- ---- RELEASED
@@ -261,8 +261,8 @@ released_of-exact word r = (released_found word r, released_only word r)
 
 -- ---- END
 
-end_found : (word : List ℕ) (e : StepEnd) → end_of word ≡ Some e → IsEnd word e
-unfolding end_of
+end_found : (word : List ℕ) (e : StepEnd) → end_of_word word ≡ Some e → IsEnd word e
+unfolding end_of_word
 end_found word e h =
     elim (either (bytes_eq word (codes "goes")) ended.Goes _ e h) [
       | inl t ↦ subst (IsEnd word) t.1 (same_word word (codes "goes") t.0)
@@ -275,8 +275,8 @@ end_found word e h =
       ]
     ]
 
-end_only : (word : List ℕ) (e : StepEnd) → IsEnd word e → end_of word ≡ Some e
-unfolding end_of
+end_only : (word : List ℕ) (e : StepEnd) → IsEnd word e → end_of_word word ≡ Some e
+unfolding end_of_word
 end_only word ended.Goes is = rw (is_word word (codes "goes") is) refl
 end_only word ended.Exit is = rw is refl
 end_only word (ended.Call code) is =
@@ -284,13 +284,13 @@ end_only word (ended.Call code) is =
     let no_exit : bytes_eq word (codes "exit") ≡ false = other_head 99 101 word _ _ is.1 refl in
     rw (no_goes, no_exit, named_number_only (codes "call=") word code is) refl
 
-pub end_of-exact : (word : List ℕ) (e : StepEnd) → (end_of word ≡ Some e) ↔ IsEnd word e
+pub end_of-exact : (word : List ℕ) (e : StepEnd) → (end_of_word word ≡ Some e) ↔ IsEnd word e
 end_of-exact word e = (end_found word e, end_only word e)
 
 -- ---- steps
 
-step_found : (words : List (List ℕ)) (step : Step) → step_of words ≡ Some step → IsStep words step
-unfolding step_of
+step_found : (words : List (List ℕ)) (step : Step) → step_of_words words ≡ Some step → IsStep words step
+unfolding step_of_words
 step_found [] step h = absurd (none-some step h)
 step_found (pc ∷ []) step h = absurd (none-some step h)
 step_found (pc ∷ npc ∷ []) step h = absurd (none-some step h)
@@ -304,9 +304,9 @@ step_found (pc ∷ npc ∷ w ∷ s ∷ g ∷ r ∷ e ∷ []) step h =
     steps _ (hex8_of npc) step h (λ npc_n npc_is h.
     steps _ (writes_of w) step h (λ w_v w_is h.
     steps _ (stored_of s) step h (λ s_v s_is h.
-    steps _ (received_of g) step h (λ g_v g_is h.
+    steps _ (received_word g) step h (λ g_v g_is h.
     steps _ (released_of r) step h (λ r_v r_is h.
-    steps _ (end_of e) step h (λ e_v e_is h.
+    steps _ (end_of_word e) step h (λ e_v e_is h.
     subst (IsStep (pc ∷ npc ∷ w ∷ s ∷ g ∷ r ∷ e ∷ []))
     (same_Some record {
       pc = pc_n;
@@ -335,10 +335,10 @@ step_found (pc ∷ npc ∷ w ∷ s ∷ g ∷ r ∷ e ∷ []) step h =
       end_found e e_v e_is,
     ))))))))
 
-step_only : (words : List (List ℕ)) (step : Step) → IsStep words step → step_of words ≡ Some step
-unfolding step_of
+step_only : (words : List (List ℕ)) (step : Step) → IsStep words step → step_of_words words ≡ Some step
+unfolding step_of_words
 step_only words step (pc, npc, w, s, g, r, e, is, pc_is, npc_is, w_is, s_is, g_is, r_is, e_is) =
-    ap step_of is ∙ (
+    ap step_of_words is ∙ (
     rw (
       (hex8_of-exact pc step.pc).1 pc_is,
       (hex8_of-exact npc step.npc).1 npc_is,
@@ -354,7 +354,7 @@ step_only words step (pc, npc, w, s, g, r, e, is, pc_is, npc_is, w_is, s_is, g_i
     ) refl))
 
 pub step_of-exact : (words : List (List ℕ)) (step : Step)
-    → (step_of words ≡ Some step) ↔ IsStep words step
+    → (step_of_words words ≡ Some step) ↔ IsStep words step
 step_of-exact words step = (step_found words step, step_only words step)
 
 -- ---- faults

@@ -5,7 +5,7 @@ use Rattle.std.specs.Int.{w32, from_be_bytes}
 use Rattle.std.specs.List.{starts_with}
 use Rattle.std.specs.Str.{bytes_eq}
 use Rattle.xom_base.specs.Hex.{IsHex, hex_of}
-use Rattle.xom_base.specs.Numbers.{Writes as WritesNumber, number_below_of}
+use Rattle.xom_base.specs.Numbers.{WritesBelow as WritesNumber, number_below_of}
 use Rattle.xom_base.specs.Options.{◌>>=◌}
 use Rattle.xom_base.specs.Words.{cut_of}
 use Rattle.xom_base.specs.declared.event.OwnFault.{OwnFault}
@@ -23,7 +23,7 @@ use Rattle.xom_base.specs.declared.step.StepEnd.TheVariants as ended
 use Rattle.xom_base.specs.declared.step.Step.{Step}
 use Rattle.step_text.specs.declared.reading.CellOrPair.{CellOrPair}
 use Rattle.step_text.specs.declared.reading.CellOrPair.TheVariants as form
-use Rattle.step_text.specs.StepTexts.{fault_text}
+use Rattle.step_text.specs.StepTexts.{own_fault_text}
 
 -- HEX8: eight hexadecimal digits, the high byte first
 abbrev pub IsHex8 : List ℕ → ℕ → Type 0
@@ -55,8 +55,8 @@ IsWrites word (writes.One reg value) = IsCell word reg value
 IsWrites word (writes.Pair hi lo) = IsNamedPair (codes "hl=") word hi lo
 
 -- four bytes at most as one number, the high one first
-abbrev pub low_bytes : ℕ → List ℕ → ℕ
-low_bytes count bytes = from_be_bytes w32 (replicate (4 - count) 0 ++ bytes)
+abbrev pub number_of_bytes : ℕ → List ℕ → ℕ
+number_of_bytes count bytes = from_be_bytes w32 (replicate (4 - count) 0 ++ bytes)
 
 -- STORED: `HEX8+COUNT=HEX` with 1 to 4 bytes
 abbrev pub IsStored : List ℕ → Stored → Type 0
@@ -64,14 +64,14 @@ IsStored word stored.Nothing = word ≡ codes "-"
 IsStored word (stored.Bytes address count value) =
     (a c h bytes : List ℕ) × (word ≡ a ++ (codes "+" ++ (c ++ (codes "=" ++ h))))
     × IsHex8 a address × WritesNumber 5 c count × (1 ≤ count) × IsHex count h bytes
-    × (value ≡ low_bytes count bytes)
+    × (value ≡ number_of_bytes count bytes)
 
 -- RECEIVED
-abbrev pub IsReceived : List ℕ → Received → Type 0
-IsReceived word received.Nothing = word ≡ codes "-"
-IsReceived word (received.Cell value) = IsNamedHex8 (codes "cell=") word value
-IsReceived word (received.Null address value) = IsNamedPair (codes "null=") word address value
-IsReceived word (received.Signal n) = IsNamedNumber (codes "signal=") word n
+abbrev pub IsReceivedWord : List ℕ → Received → Type 0
+IsReceivedWord word received.Nothing = word ≡ codes "-"
+IsReceivedWord word (received.Cell value) = IsNamedHex8 (codes "cell=") word value
+IsReceivedWord word (received.Null address value) = IsNamedPair (codes "null=") word address value
+IsReceivedWord word (received.Signal n) = IsNamedNumber (codes "signal=") word n
 
 -- RELEASED
 abbrev pub IsReleased : List ℕ → Released → Type 0
@@ -90,11 +90,11 @@ abbrev pub IsStep : List (List ℕ) → Step → Type 0
 IsStep words step =
     (pc npc w s g r e : List ℕ) × (words ≡ pc ∷ npc ∷ w ∷ s ∷ g ∷ r ∷ e ∷ [])
     × IsHex8 pc step.pc × IsHex8 npc step.npc × IsWrites w step.writes × IsStored s step.stored
-    × IsReceived g step.received × IsReleased r step.released × IsEnd e step.end
+    × IsReceivedWord g step.received × IsReleased r step.released × IsEnd e step.end
 
 -- KIND of a guest's own fault
 abbrev pub IsFault : List ℕ → OwnFault → Type 0
-IsFault word kind = word ≡ fault_text kind
+IsFault word kind = word ≡ own_fault_text kind
 
 -- ---- the same as functions, of a word its value or none
 
@@ -102,14 +102,14 @@ unfoldable pub hex8_of : List ℕ → Option ℕ
 hex8_of word = option_map (from_be_bytes w32) (hex_of 4 word)
 
 -- what stands behind a name
-unfoldable pub behind : List ℕ → List ℕ → Option (List ℕ)
-behind name word = if starts_with nat_eq word name then Some (drop (length name) word) else None
+unfoldable pub text_after_name : List ℕ → List ℕ → Option (List ℕ)
+text_after_name name word = if starts_with nat_eq word name then Some (drop (length name) word) else None
 
 unfoldable pub named_hex8_of : List ℕ → List ℕ → Option ℕ
-named_hex8_of name word = behind name word >>= hex8_of
+named_hex8_of name word = text_after_name name word >>= hex8_of
 
 unfoldable pub named_number_of : List ℕ → List ℕ → Option ℕ
-named_number_of name word = behind name word >>= number_below_of (2 ^ 32)
+named_number_of name word = text_after_name name word >>= number_below_of (2 ^ 32)
 
 -- two words of eight digits, with a byte between them
 unfoldable pub pair_of : List ℕ → Option (ℕ × ℕ)
@@ -120,7 +120,7 @@ pair_of word = do
   Some (first, second)
 
 unfoldable pub named_pair_of : List ℕ → List ℕ → Option (ℕ × ℕ)
-named_pair_of name word = behind name word >>= pair_of
+named_pair_of name word = text_after_name name word >>= pair_of
 
 -- a number from 1 on, below the bound
 unfoldable pub count_below_of : ℕ → List ℕ → Option ℕ
@@ -130,7 +130,7 @@ count_below_of bound word = do
 
 unfoldable pub cell_of : List ℕ → Option (ℕ × ℕ)
 cell_of word = do
-  rest ← behind (codes "r") word
+  rest ← text_after_name (codes "r") word
   parts ← cut_of 61 rest
   reg ← count_below_of 34 parts.0
   value ← hex8_of parts.1
@@ -169,7 +169,7 @@ bytes_at_of address word = do
   parts ← cut_of 61 word
   count ← count_below_of 5 parts.0
   bytes ← hex_of count parts.1
-  Some (stored.Bytes address count (low_bytes count bytes))
+  Some (stored.Bytes address count (number_of_bytes count bytes))
 
 unfoldable pub stored_bytes_of : List ℕ → Option Stored
 stored_bytes_of word = do
@@ -180,8 +180,8 @@ stored_bytes_of word = do
 unfoldable pub stored_of : List ℕ → Option Stored
 stored_of word = if bytes_eq word (codes "-") then Some stored.Nothing else stored_bytes_of word
 
-unfoldable pub received_of : List ℕ → Option Received
-received_of word =
+unfoldable pub received_word : List ℕ → Option Received
+received_word word =
     if bytes_eq word (codes "-") then Some received.Nothing
     else or_else
     (option_map received.Cell (named_hex8_of (codes "cell=") word))
@@ -192,21 +192,21 @@ received_of word =
 unfoldable pub released_of : List ℕ → Option Released
 released_of word = option_map released_by (cell_or_pair_of (codes "null=") word)
 
-unfoldable pub end_of : List ℕ → Option StepEnd
-end_of word =
+unfoldable pub end_of_word : List ℕ → Option StepEnd
+end_of_word word =
     if bytes_eq word (codes "goes") then Some ended.Goes
     else (if bytes_eq word (codes "exit") then Some ended.Exit
     else option_map ended.Call (named_number_of (codes "call=") word))
 
-unfoldable pub step_of : List (List ℕ) → Option Step
-step_of (pc ∷ npc ∷ w ∷ s ∷ g ∷ r ∷ e ∷ []) = do
+unfoldable pub step_of_words : List (List ℕ) → Option Step
+step_of_words (pc ∷ npc ∷ w ∷ s ∷ g ∷ r ∷ e ∷ []) = do
   pc ← hex8_of pc
   npc ← hex8_of npc
   writes ← writes_of w
   stored ← stored_of s
-  received ← received_of g
+  received ← received_word g
   released ← released_of r
-  end ← end_of e
+  end ← end_of_word e
   Some (record {
     pc = pc;
     npc = npc;
@@ -217,7 +217,7 @@ step_of (pc ∷ npc ∷ w ∷ s ∷ g ∷ r ∷ e ∷ []) = do
     released = released;
     end = end;
   })
-step_of other = None
+step_of_words other = None
 
 unfoldable pub fault_of : List ℕ → Option OwnFault
 fault_of word =

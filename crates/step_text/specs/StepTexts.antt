@@ -51,10 +51,10 @@ released_text (released.Null address value) =
     codes "null=" ++ (hex8 address ++ (codes ":" ++ hex8 value))
 
 -- how the step ended
-abbrev pub end_text : StepEnd → List ℕ
-end_text ended.Goes = codes "goes"
-end_text (ended.Call code) = codes "call=" ++ decimal code
-end_text ended.Exit = codes "exit"
+abbrev pub step_end_text : StepEnd → List ℕ
+step_end_text ended.Goes = codes "goes"
+step_end_text (ended.Call code) = codes "call=" ++ decimal code
+step_end_text ended.Exit = codes "exit"
 
 -- the fields PC NPC WRITES STORED: where the guest was, and what it changed of its own
 abbrev pub own_fields : Step → List ℕ
@@ -67,16 +67,16 @@ own_fields step =
 abbrev pub outer_fields : Step → List ℕ
 outer_fields step =
     received_text step.received
-    ++ (codes " " ++ (released_text step.released ++ (codes " " ++ end_text step.end)))
+    ++ (codes " " ++ (released_text step.released ++ (codes " " ++ step_end_text step.end)))
 
 -- all fields, PC NPC WRITES STORED RECEIVED RELEASED END, with one space between each two
 unfoldable pub step_fields : Step → List ℕ
 step_fields step = own_fields step ++ (codes " " ++ outer_fields step)
 
 -- a guest's own fault by its name
-abbrev pub fault_text : OwnFault → List ℕ
-fault_text fault.Reserved = codes "Reserved"
-fault_text fault.Foreign = codes "Foreign"
-fault_text fault.Overflow = codes "Overflow"
-fault_text fault.Address = codes "Address"
-fault_text fault.Break = codes "Break"
+abbrev pub own_fault_text : OwnFault → List ℕ
+own_fault_text fault.Reserved = codes "Reserved"
+own_fault_text fault.Foreign = codes "Foreign"
+own_fault_text fault.Overflow = codes "Overflow"
+own_fault_text fault.Address = codes "Address"
+own_fault_text fault.Break = codes "Break"

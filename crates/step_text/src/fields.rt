@@ -2,7 +2,7 @@ ghost use Rattle.std.specs.Prelude.{◌≡◌, ◌++◌, codes, OnErr, OnOk};
 ghost use Rattle.std.specs.Fmt.{decimal};
 ghost use Rattle.xom_base.specs.declared.step.Stored.TheVariants as stored_variants;
 ghost use Rattle.text_pieces.specs.Pieces.{Begins, hex8};
-ghost use Rattle.step_text.specs.StepTexts.{end_text, outer_fields, own_fields, received_text, released_text, step_fields, stored_text, writes_text};
+ghost use Rattle.step_text.specs.StepTexts.{outer_fields, own_fields, received_text, released_text, step_end_text, step_fields, stored_text, writes_text};
 
 use crate::pieces::push_low;
 use text_pieces::{push_decimal, push_hex8, push_text};
@@ -100,7 +100,7 @@ fn push_released(text: &mut Vec<u8>, released: Released) -> Result<(), NoMemory>
 }
 
 fn push_end(text: &mut Vec<u8>, end: StepEnd) -> Result<(), NoMemory>
-    ensures ok { OnOk result (text.new.items ≡ text.old.items ++ end_text end) }
+    ensures ok { OnOk result (text.new.items ≡ text.old.items ++ step_end_text end) }
     ensures err { OnErr result (Begins text.old.items text.new.items) }
 {
     match end {

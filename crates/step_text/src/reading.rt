@@ -1,7 +1,7 @@
 ghost use Rattle.std.specs.Prelude.{◌≡◌, ◌≤◌, ◌<◌, List, IfSome, map, option_map};
 ghost use Rattle.std.specs.Int.{w32, from_be_bytes};
 ghost use Rattle.xom_base.specs.Hex.{hex_of};
-ghost use Rattle.step_text.specs.StepFields.{behind as behind_of, bytes_at_of, cell_of, cell_or_pair_of, count_below_of, end_of, fault_of, hex8_of, low_bytes, named_hex8_of, named_number_of, named_pair_of, pair_of, received_of, released_by, released_of, step_of, stored_bytes_of, stored_of, writes_by, writes_of};
+ghost use Rattle.step_text.specs.StepFields.{bytes_at_of, cell_of, cell_or_pair_of, count_below_of, end_of_word, fault_of, hex8_of, named_hex8_of, named_number_of, named_pair_of, number_of_bytes, pair_of, received_word, released_by, released_of, step_of_words, stored_bytes_of, stored_of, text_after_name as behind_of, writes_by, writes_of};
 
 use xom_base::{
     OwnFault, Received, Released, Step, StepEnd, Stored, Writes, cut, hex_array, hex_fills,
@@ -21,9 +21,9 @@ pub enum CellOrPair {
 
 /// The step of seven words, in the order PC NPC WRITES STORED RECEIVED RELEASED END. None exactly where
 /// the words aren't those of a step. It takes no memory.
-#[tactic(auto, unfolding(crate::specs::StepFields::step_of))]
+#[tactic(auto, unfolding(crate::specs::StepFields::step_of_words))]
 pub fn step_in(words: &[&[u8]]) -> Option<Step>
-    ensures { result ≡ step_of (map (λ word. word.now) words.now) }
+    ensures { result ≡ step_of_words (map (λ word. word.now) words.now) }
 {
     match words {
         [pc, npc, writes, stored, received, released, end] => Some(Step {
@@ -118,7 +118,7 @@ fn bytes_at(address: u32, word: &[u8]) -> Option<Stored>
 /// The number of so many bytes, 1 to 4.
 fn low_in(count: u8, digits: &[u8]) -> Option<u32>
     requires { count ≤ 4 }
-    ensures { result ≡ option_map (low_bytes count) (hex_of count digits.now) }
+    ensures { result ≡ option_map (number_of_bytes count) (hex_of count digits.now) }
 {
     let mut room = [0; 4];
     let front = 4 - usize::from(count);
@@ -129,9 +129,9 @@ fn low_in(count: u8, digits: &[u8]) -> Option<u32>
     }
 }
 
-#[tactic(auto, unfolding(crate::specs::StepFields::received_of))]
+#[tactic(auto, unfolding(crate::specs::StepFields::received_word))]
 fn received_in(word: &[u8]) -> Option<Received>
-    ensures { result ≡ received_of word.now }
+    ensures { result ≡ received_word word.now }
 {
     if word == b"-".as_slice() {
         return Some(Received::Nothing);
@@ -182,9 +182,9 @@ fn cell_or_pair_in(name: &[u8], word: &[u8]) -> Option<CellOrPair>
     Some(CellOrPair::Pair { first, second })
 }
 
-#[tactic(auto, unfolding(crate::specs::StepFields::end_of))]
+#[tactic(auto, unfolding(crate::specs::StepFields::end_of_word))]
 fn end_in(word: &[u8]) -> Option<StepEnd>
-    ensures { result ≡ end_of word.now }
+    ensures { result ≡ end_of_word word.now }
 {
     if word == b"goes".as_slice() {
         return Some(StepEnd::Goes);
@@ -253,7 +253,7 @@ fn count_below(word: &[u8], bound: u8) -> Option<u8>
     (1 <= n).then_some(n as u8)
 }
 
-#[tactic(auto, unfolding(crate::specs::StepFields::behind))]
+#[tactic(auto, unfolding(crate::specs::StepFields::text_after_name))]
 fn behind<'a>(name: &[u8], word: &'a [u8]) -> Option<&'a [u8]>
     ensures { option_map (λ rest. rest.now) result ≡ behind_of name.now word.now }
 {

@@ -1,5 +1,5 @@
 ghost use Rattle.std.specs.Prelude.{◌≡◌, ◌≤◌, ◌<◌};
-ghost use Rattle.tag_regs.specs.TaggedCells.{all_empty, cell_at, scrubbed, scrubbed_cell, with_cell};
+ghost use Rattle.tag_regs.specs.TaggedCells.{all_empty, cell_at, cells_after_scrub, scrubbed_cell, with_cell};
 
 use crate::Cell;
 use std::marker::Model;
@@ -51,7 +51,7 @@ impl Cells {
 
     /// Empties the cells of a slot. Walks all of them.
     pub fn scrub(&mut self, slot: u8)
-        ensures { self.new ≡ scrubbed slot self.old }
+        ensures { self.new ≡ cells_after_scrub slot self.old }
     {
         scrub_all(&mut self.cells, slot);
     }
@@ -66,7 +66,7 @@ fn no_cells() -> [Cell; 34]
 
 #[tactic(auto, using(std::proofs::lemmas::List::Edits::map_over_more))]
 fn scrub_all(cells: &mut [Cell], slot: u8)
-    ensures { cells.new ≡ scrubbed slot cells.old }
+    ensures { cells.new ≡ cells_after_scrub slot cells.old }
 {
     for cell in cells.iter_mut() {
         *cell = without(slot, *cell);

@@ -7,10 +7,10 @@ use Rattle.std.specs.Str.{bytes_eq}
 use Rattle.std.proofs.lemmas.Slice.Eq.{bytes_eq-Decides}
 use Rattle.xom_base.specs.declared.entry.Entry.{Entry}
 use Rattle.xom_base.specs.declared.entry.Entry.TheVariants as entry
-use Rattle.journal_findings.specs.Findings.{collision, collision_at, collides}
+use Rattle.journal_findings.specs.Findings.{collides, collision_at, first_collision}
 use Rattle.journal_findings.proofs.Found.{collision-more, collisions_stay}
 use Rattle.trace_judge.specs.declared.hashes.First.{First}
-use Rattle.trace_judge.specs.HashSearch.{FindsCollisions, TellsOtherTexts, next_first, next_found, number_at, other_text, with_hash}
+use Rattle.trace_judge.specs.HashSearch.{FindsCollisions, TellsOtherTexts, entry_number_at, next_first, next_found, other_text, with_hash}
 use Rattle.trace_judge.proofs.Puts.{same_bytes}
 use Rattle.trace_judge.proofs.Places.{position_push}
 
@@ -37,7 +37,7 @@ tells_still : (first next : List ℕ → Option First) (es : List Entry) (e : En
     → TellsOtherTexts first es → TellsOtherTexts next (es ++ e ∷ [])
 tells_still first next es e never same tells p d =
     ap (λ f. other_text f p) (same d) ∙ tells p d
-    ∙ ap number_at (sym (position_push (collides p d) es e
+    ∙ ap entry_number_at (sym (position_push (collides p d) es e
     ∙ ap (λ b. option_or (position (collides p d) es) (if b then Some (length es) else None))
     (never p d) ∙ or_none (position (collides p d) es)))
 
@@ -54,7 +54,7 @@ again false m n = refl
 
 -- numbers of one more place
 numbered_or : (x : Option ℕ) (b : Bool) (n : ℕ)
-    → number_at (option_or x (if b then Some n else None)) ≡ option_or (number_at x)
+    → entry_number_at (option_or x (if b then Some n else None)) ≡ option_or (entry_number_at x)
     (if b then Some (n + 1) else None)
 numbered_or None true n = refl
 numbered_or None false n = refl
@@ -92,14 +92,14 @@ tells_hash : (number : ℕ) (first next : List ℕ → Option First) (es : List 
 tells_hash number first next es preimage digest counted clean made tells p d =
     ap (λ f. other_text f p) (made d)
     ∙ told_more (first digest) (bytes_eq digest d) number p preimage
-    (number_at (position (collides p d) es)) (first d) clean
+    (entry_number_at (position (collides p d) es)) (first d) clean
     (λ same. ap first (sym (same_bytes digest d same))) (tells p d)
-    ∙ sym (ap number_at (position_push (collides p d) es (entry.Hash preimage digest)
+    ∙ sym (ap entry_number_at (position_push (collides p d) es (entry.Hash preimage digest)
     ∙ ap (λ b. option_or (position (collides p d) es) (if b && not (bytes_eq p preimage)
     then Some (length es) else None)) (flip d digest))
     ∙ numbered_or (position (collides p d) es) (bytes_eq digest d && not (bytes_eq p preimage))
     (length es)
-    ∙ ap (λ n. option_or (number_at (position (collides p d) es)) (if bytes_eq digest d
+    ∙ ap (λ n. option_or (entry_number_at (position (collides p d) es)) (if bytes_eq digest d
     && not (bytes_eq p preimage) then Some n else None)) (sym counted))
 
 -- an answer stays
@@ -116,7 +116,7 @@ found_stays count pair first (entry.Kill n) = refl
 found_stays count pair first (entry.Out byte) = refl
 
 both : (x : Option ℕ) (m : ℕ) → option_map {U = ℕ × ℕ} (λ (n : ℕ). (n, m))
-    (number_at x) ≡ option_map {U = ℕ × ℕ} (λ (i : ℕ). (i + 1, m)) x
+    (entry_number_at x) ≡ option_map {U = ℕ × ℕ} (λ (i : ℕ). (i + 1, m)) x
 both None m = refl
 both (Some i) m = refl
 
@@ -140,7 +140,7 @@ none_answer count first es (entry.Out byte) counted tells = refl
 next_answer : (count : ℕ) (found : Option (ℕ × ℕ)) (first : List ℕ → Option First) (es : List Entry)
     (e : Entry)
     → count ≡ length es + 1 → FindsCollisions found first es
-    → next_found count found first e ≡ collision (es ++ e ∷ [])
+    → next_found count found first e ≡ first_collision (es ++ e ∷ [])
 next_answer count (Some pair) first es e counted was =
     found_stays count pair first e ∙ sym (collisions_stay es (e ∷ []) pair (sym was.answer))
 next_answer count None first es e counted was =

@@ -15,7 +15,7 @@ use Rattle.trace_judge.specs.declared.hashes.First.{First}
 use Rattle.trace_judge.specs.declared.hashes.Known.{Known}
 use Rattle.trace_judge.specs.declared.hashes.Hashes.{Hashes}
 use Rattle.trace_judge.specs.declared.names.Names.{Names}
-use Rattle.trace_judge.specs.Maps.{first_in, first_of, has_name, is_name, is_other_digest, is_other_name, known_at, name_at}
+use Rattle.trace_judge.specs.Maps.{first_hash_of, first_in, has_name, is_name, is_other_digest, is_other_name, known_at, name_at}
 use Rattle.trace_judge.proofs.Puts.{put_bytes, put_name, same_bytes}
 
 -- ---- Fingerprints
@@ -141,10 +141,10 @@ known_there : (was : Option (Box Known Global)) (known : Box Known Global) (here
     (other : List ℕ)
     → (here ≡ false → bytes_eq known.value.digest other ≡ false)
     → (here ≡ true → is_other_digest was known.value.digest ≡ false)
-    → first_of (if here then Some known else was) other ≡ (if bytes_eq known.value.digest other
-    then Some known.value.first else first_of was other)
+    → first_hash_of (if here then Some known else was) other ≡ (if bytes_eq known.value.digest other
+    then Some known.value.first else first_hash_of was other)
 known_there was known false other far free =
-    sym (ap (λ b. if b then Some known.value.first else first_of was other) (far refl))
+    sym (ap (λ b. if b then Some known.value.first else first_hash_of was other) (far refl))
 known_there None known true other far free = refl
 known_there (Some before) known true other far free =
     if_twice (bytes_eq known.value.digest other) (Some known.value.first) (Some before.value.first)
@@ -165,15 +165,15 @@ known_put old new known updates same free other =
     let digest : List ℕ = known.value.digest in
     let here : Bool = fingerprint_of digest == fingerprint_of other in
     let among : Option First = get_by (slice_cmp nat_cmp other) old.others in
-    ap (λ others. option_or (first_of (known_at new other) other)
+    ap (λ others. option_or (first_hash_of (known_at new other) other)
     (get_by (slice_cmp nat_cmp other) others)) same
-    ∙ ap (λ first. option_or (first_of first other) among)
+    ∙ ap (λ first. option_or (first_hash_of first other) among)
     (put_at old.firsts new.firsts (fingerprint_of digest) known updates (fingerprint_of other))
     ∙ ap (λ first. option_or first among) (known_there (known_at old other) known here other
     (apart digest other)
     (λ equal. ap (λ first. is_other_digest first digest) (there (λ n. get nat_cmp old.firsts n)
     (fingerprint_of digest) (fingerprint_of other) equal) ∙ free))
-    ∙ or_if (bytes_eq digest other) known.value.first (first_of (known_at old other) other) among
+    ∙ or_if (bytes_eq digest other) known.value.first (first_hash_of (known_at old other) other) among
 
 -- the same, of what a box holds
 pub box_put : (old new : Hashes) (boxed : Box Known Global) (known : Known) → boxed.value ≡ known
@@ -191,7 +191,7 @@ box_put old new boxed known holds =
 
 -- where another digest is the one of a fingerprint, no Hash is known there for this one
 none_known : (was : Option (Box Known Global)) (digest : List ℕ) → is_other_digest was digest ≡ true
-    → first_of was digest ≡ None
+    → first_hash_of was digest ≡ None
 none_known None digest taken = absurd (let no : false ≡ true = taken in cc)
 none_known (Some known) digest taken = none_if (bytes_eq known.value.digest digest)
     (Some known.value.first) taken
@@ -212,11 +212,11 @@ pub other_digest_put : (old new : Hashes) (digest : List ℕ) (first : First)
     → (other : List ℕ)
     → first_in new other ≡ (if bytes_eq digest other then Some first else first_in old other)
 other_digest_put old new digest first updates same taken other =
-    ap (λ firsts. option_or (first_of (get nat_cmp firsts (fingerprint_of other)) other)
+    ap (λ firsts. option_or (first_hash_of (get nat_cmp firsts (fingerprint_of other)) other)
     (get_by (slice_cmp nat_cmp other) new.others)) same
-    ∙ ap (λ among. option_or (first_of (known_at old other) other) among)
+    ∙ ap (λ among. option_or (first_hash_of (known_at old other) other) among)
     (put_bytes old.others new.others digest first updates other)
-    ∙ or_other (bytes_eq digest other) first (first_of (known_at old other) other)
+    ∙ or_other (bytes_eq digest other) first (first_hash_of (known_at old other) other)
     (get_by (slice_cmp nat_cmp other) old.others)
-    (λ equal. ap (λ d. first_of (known_at old d) d) (sym (same_bytes digest other equal))
+    (λ equal. ap (λ d. first_hash_of (known_at old d) d) (sym (same_bytes digest other equal))
     ∙ none_known (known_at old digest) digest taken)

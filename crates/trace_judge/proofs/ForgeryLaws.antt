@@ -15,7 +15,7 @@ use Rattle.xom_owners.specs.declared.owner.Owner.{Owner}
 use Rattle.image_sealer.specs.declared.owner_sealing.OwnerSealing.{OwnerSealing}
 use Rattle.image_sealer.specs.Membership.{is_sealed, is_sealing}
 use Rattle.image_sealer.specs.Sealing.{sealing_of}
-use Rattle.journal_findings.specs.Findings.{forged, forgery_at, seal_in, sealed_by}
+use Rattle.journal_findings.specs.Findings.{first_forgery, forgery_at, seal_in, sealed_by}
 use Rattle.journal_findings.proofs.Found.{forged-more, forgeries_stay}
 use Rattle.trace_judge.proofs.Takes.{take_got}
 use Rattle.trace_judge.specs.SealSearch.{FindsForgeries, HasSeals, answer_at_accept, name, next_forged, next_has}
@@ -120,7 +120,7 @@ none_answer sealed count has es (entry.Out byte) counted knows = refl
 next_answer : (sealed : List (List ℕ × List ℕ)) (count : ℕ) (found : Option ℕ) (has : List ℕ → Bool)
     (es : List Entry) (e : Entry)
     → count ≡ length es + 1 → FindsForgeries sealed found has es
-    → next_forged sealed count found has e ≡ forged sealed (es ++ e ∷ [])
+    → next_forged sealed count found has e ≡ first_forgery sealed (es ++ e ∷ [])
 next_answer sealed count (Some n) has es e counted was =
     found_stays sealed count n has e ∙ sym (forgeries_stay sealed es (e ∷ []) n (sym was.answer))
 next_answer sealed count None has es e counted was =

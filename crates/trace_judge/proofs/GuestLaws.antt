@@ -19,7 +19,7 @@ use Rattle.xom_owners.specs.Owners.{owner_of}
 use Rattle.trace_judge.specs.declared.report.GuestEnd.{GuestEnd}
 use Rattle.trace_judge.specs.declared.report.GuestEnd.TheVariants.{Ended, Stopped, Killed, Running}
 use Rattle.trace_judge.specs.declared.report.GuestLine.{GuestLine}
-use Rattle.trace_judge.specs.Judgement.{exit_of, end_in, end_of, line_in, guest_lines, verdict_by}
+use Rattle.trace_judge.specs.Judgement.{end_in, exit_of, guest_end_of, guest_line_of_entry, guest_lines, verdict_by}
 use Rattle.mips_plain.specs.Machine.{State, plain}
 use Rattle.mips_plain.specs.Follows.{given_of, is_step, verdict_from}
 use Rattle.trace_judge.specs.declared.guests.Watch.{Watch}
@@ -42,7 +42,7 @@ nothing_fed owners = record {
 pub lines_now : (owners : List Owner) (gs : List Guest) (es : List Entry) → IsFed owners gs es
     → map (λ g. line_after g []) gs ≡ guest_lines owners es
 lines_now owners gs es fed =
-    fed.lines [] ∙ ap (λ all. filter_map (line_in owners all) es) (append-nil es)
+    fed.lines [] ∙ ap (λ all. filter_map (guest_line_of_entry owners all) es) (append-nil es)
 
 -- ---- one guest
 
@@ -91,7 +91,7 @@ watched_by m w (Some step) steps small counted = watched_next m w step steps sma
 
 -- an end that an entry has isn't Running
 ended_by : (found : Option GuestEnd) (n : ℕ) (more : List Entry) → (found ≡ Some Running → ⊥)
-    → end_after (unwrap_or found Running) n more ≡ unwrap_or found (end_of n more)
+    → end_after (unwrap_or found Running) n more ≡ unwrap_or found (guest_end_of n more)
 ended_by None n more never = refl
 ended_by (Some Ended) n more never = refl
 ended_by (Some (Stopped rule)) n more never = refl
@@ -152,7 +152,7 @@ IsOther n e = (step_in n e ≡ None) × (end_in n e ≡ None)
 
 ended_other : (x : GuestEnd) (n : ℕ) (e : Entry) (more : List Entry) → end_in n e ≡ None
     → end_after x n more ≡ end_after x n (e ∷ more)
-ended_other Running n e more none = ap (λ found. unwrap_or found (end_of n more)) (sym none)
+ended_other Running n e more none = ap (λ found. unwrap_or found (guest_end_of n more)) (sym none)
 ended_other Ended n e more none = refl
 ended_other (Stopped rule) n e more none = refl
 ended_other Killed n e more none = refl
@@ -286,21 +286,21 @@ regroup es e more = append_assoc es (e ∷ []) more
 
 fresh_more : (n : ℕ) (es : List Entry) (e : Entry) (more : List Entry) → IsOther n e
     → (steps_of n (es ++ e ∷ more) ≡ steps_of n (e ∷ more))
-    × (end_of n (es ++ e ∷ more) ≡ end_of n (e ∷ more))
+    × (guest_end_of n (es ++ e ∷ more) ≡ guest_end_of n (e ∷ more))
     → (steps_of n ((es ++ e ∷ []) ++ more) ≡ steps_of n more)
-    × (end_of n ((es ++ e ∷ []) ++ more) ≡ end_of n more)
+    × (guest_end_of n ((es ++ e ∷ []) ++ more) ≡ guest_end_of n more)
 fresh_more n es e more other was = (
   ap (steps_of n) (regroup es e more) ∙ was.0 ∙ ap (λ found. cons_option found (steps_of n more))
       other.0,
-  ap (end_of n) (regroup es e more) ∙ was.1 ∙ ap (λ found. unwrap_or found (end_of n more)) other.1,
+  ap (guest_end_of n) (regroup es e more) ∙ was.1 ∙ ap (λ found. unwrap_or found (guest_end_of n more)) other.1,
 )
 
 lines_grow : (owners : List Owner) (es : List Entry) (e : Entry) (more : List Entry)
-    → filter_map (line_in owners ((es ++ e ∷ []) ++ more)) (es ++ e ∷ []) ≡ filter_map
-    (line_in owners (es ++ e ∷ more)) es ++ cons_option (line_in owners (es ++ e ∷ more) e) []
+    → filter_map (guest_line_of_entry owners ((es ++ e ∷ []) ++ more)) (es ++ e ∷ []) ≡ filter_map
+    (guest_line_of_entry owners (es ++ e ∷ more)) es ++ cons_option (guest_line_of_entry owners (es ++ e ∷ more) e) []
 lines_grow owners es e more =
-    ap (λ all. filter_map (line_in owners all) (es ++ e ∷ [])) (regroup es e more)
-    ∙ filter_map-append (line_in owners (es ++ e ∷ more)) es (e ∷ [])
+    ap (λ all. filter_map (guest_line_of_entry owners all) (es ++ e ∷ [])) (regroup es e more)
+    ∙ filter_map-append (guest_line_of_entry owners (es ++ e ∷ more)) es (e ∷ [])
 
 longer : (es : List Entry) (e : Entry) → length (es ++ e ∷ []) ≡ length es + 1
 longer es e = length-append es (e ∷ [])
@@ -316,7 +316,7 @@ install_count-more (first ∷ es) e =
 -- an entry that is no install: the lines stand as they will be, the ranks hold, and no later
 -- install is told of
 fed_by : (owners : List Owner) (gs gs' : List Guest) (es : List Entry) (e : Entry)
-    → ((all : List Entry) → line_in owners all e ≡ None) → installs_in e ≡ 0
+    → ((all : List Entry) → guest_line_of_entry owners all e ≡ None) → installs_in e ≡ 0
     → ((more : List Entry) → map (λ g. line_after g more) gs' ≡ map (λ g. line_after g (e ∷ more))
     gs)
     → Ranked (length es + 1) 1 gs' → length gs' ≡ length gs
@@ -324,9 +324,9 @@ fed_by : (owners : List Owner) (gs gs' : List Guest) (es : List Entry) (e : Entr
 fed_by owners gs gs' es e none quiet moves ranks same others fed = record {
   lines = λ more.
       moves more ∙ fed.lines (e ∷ more)
-      ∙ sym (lines_grow owners es e more ∙ ap (λ found. filter_map (line_in owners (es ++ e ∷ more))
+      ∙ sym (lines_grow owners es e more ∙ ap (λ found. filter_map (guest_line_of_entry owners (es ++ e ∷ more))
       es ++ cons_option found []) (none (es ++ e ∷ more))
-      ∙ append-nil (filter_map (line_in owners (es ++ e ∷ more)) es));
+      ∙ append-nil (filter_map (guest_line_of_entry owners (es ++ e ∷ more)) es));
   fresh = λ n above more.
       let high : length gs < n = (let s : length gs' ≡ length gs = same in let a : length gs' < n =
       above in omega arith) in
@@ -337,7 +337,7 @@ fed_by owners gs gs' es e none quiet moves ranks same others fed = record {
 }
 
 fed_quiet : (owners : List Owner) (gs : List Guest) (es : List Entry) (e : Entry)
-    → ((all : List Entry) → line_in owners all e ≡ None) → installs_in e ≡ 0
+    → ((all : List Entry) → guest_line_of_entry owners all e ≡ None) → installs_in e ≡ 0
     → ((n : ℕ) → IsOther n e) → IsFed owners gs es → IsFed owners gs (es ++ e ∷ [])
 fed_quiet owners gs es e none quiet others fed =
     fed_by owners gs gs es e none quiet (λ more. lines_other gs e more others)
@@ -345,7 +345,7 @@ fed_quiet owners gs es e none quiet others fed =
 
 fed_moved : (owners : List Owner) (gs : List Guest) (es : List Entry) (e : Entry) (n : ℕ)
     → length es + 1 < 2 ^ 64 → is_installed (length gs) n ≡ true
-    → ((all : List Entry) → line_in owners all e ≡ None) → installs_in e ≡ 0
+    → ((all : List Entry) → guest_line_of_entry owners all e ≡ None) → installs_in e ≡ 0
     → ((j : ℕ) → (j ≡ n → ⊥) → IsOther j e) → IsFed owners gs es
     → IsFed owners (guests_after gs n e) (es ++ e ∷ [])
 fed_moved owners gs es e n small stands none quiet others fed =

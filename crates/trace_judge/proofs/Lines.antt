@@ -13,8 +13,8 @@ use Rattle.mips_plain.specs.Machine.{State, start}
 use Rattle.mips_plain.specs.Follows.{Reaches}
 use Rattle.mips_plain.proofs.Runs.{verdict-of_reaches}
 use Rattle.trace_judge.specs.declared.report.GuestLine.{GuestLine}
-use Rattle.trace_judge.specs.Judgement.{line_in, verdict_by, verdict_of}
-use Rattle.trace_judge.specs.Laws.{IsRun, DoesFollow, RunsAreFollowed}
+use Rattle.trace_judge.specs.Judgement.{guest_line_of_entry, verdict_by, verdict_of}
+use Rattle.trace_judge.specs.Laws.{DoesFollow, IsOwnersRun, RunsAreFollowed}
 
 -- the verdict on a run
 verdict-of_run : (owners : List Owner) (entries : List Entry) (n : ℕ) (id : ImageId) (owner : Owner)
@@ -28,21 +28,21 @@ verdict-of_run owners entries n id owner q owned reaches =
 
 -- one more entry
 lines-cons : (owners : List Owner) (entries : List Entry) (entry : Entry) (lines : List GuestLine)
-    → IsRun owners entries entry → All (DoesFollow entries) lines
-    → All (DoesFollow entries) (cons_option (line_in owners entries entry) lines)
+    → IsOwnersRun owners entries entry → All (DoesFollow entries) lines
+    → All (DoesFollow entries) (cons_option (guest_line_of_entry owners entries entry) lines)
 lines-cons owners entries (entry.Install n slot id place at size) lines run follow =
     All-cons (DoesFollow entries) _ lines (verdict-of_run owners entries n id run.0 run.1 run.2
     run.3) follow
 lines-cons owners entries other lines run follow = follow
 
 -- the lines of some of the entries
-lines-follow : (owners : List Owner) (entries some : List Entry) → All (IsRun owners entries) some
-    → All (DoesFollow entries) (filter_map (line_in owners entries) some)
+lines-follow : (owners : List Owner) (entries some : List Entry) → All (IsOwnersRun owners entries) some
+    → All (DoesFollow entries) (filter_map (guest_line_of_entry owners entries) some)
 lines-follow owners entries [] runs = All-nil (DoesFollow entries)
 lines-follow owners entries (entry ∷ some) runs =
-    lines-cons owners entries entry (filter_map (line_in owners entries) some)
-    (All-head (IsRun owners entries) entry some runs)
-    (lines-follow owners entries some (All-tail (IsRun owners entries) entry some runs))
+    lines-cons owners entries entry (filter_map (guest_line_of_entry owners entries) some)
+    (All-head (IsOwnersRun owners entries) entry some runs)
+    (lines-follow owners entries some (All-tail (IsOwnersRun owners entries) entry some runs))
 
 -- all the lines
 pub Follows-lines : RunsAreFollowed

@@ -16,7 +16,7 @@ use Rattle.mips_plain.specs.Follows.{given_of, is_step, verdict_from}
 use Rattle.trace_judge.specs.declared.report.GuestEnd.{GuestEnd}
 use Rattle.trace_judge.specs.declared.report.GuestEnd.TheVariants.{Running}
 use Rattle.trace_judge.specs.declared.report.GuestLine.{GuestLine}
-use Rattle.trace_judge.specs.Judgement.{end_in, end_of, line_in}
+use Rattle.trace_judge.specs.Judgement.{end_in, guest_end_of, guest_line_of_entry}
 use Rattle.trace_judge.specs.Numbers.{install_count}
 use Rattle.trace_judge.specs.declared.guests.Watch.{Watch}
 use Rattle.trace_judge.specs.declared.guests.Watch.TheVariants.{NoOwner, Runs, Over, Departed}
@@ -68,7 +68,7 @@ watch_after watch (Some step) = watch_after_step watch step
 
 -- the end once these entries came
 abbrev pub end_after : GuestEnd → ℕ → List Entry → GuestEnd
-end_after Running n more = end_of n more
+end_after Running n more = guest_end_of n more
 end_after end n more = end
 
 abbrev pub end_after_entry : GuestEnd → ℕ → Entry → GuestEnd
@@ -148,8 +148,8 @@ Ranked m i (g ∷ gs) = (g.install ≡ i) × IsCounted m g.watch × Ranked m (i 
 -- list
 pub record IsFed (owners : List Owner) (gs : List Guest) (es : List Entry) : Type 0 where
   pub lines : (more : List Entry)
-      → map (λ g. line_after g more) gs ≡ filter_map (line_in owners (es ++ more)) es
+      → map (λ g. line_after g more) gs ≡ filter_map (guest_line_of_entry owners (es ++ more)) es
   pub fresh : (n : ℕ) → length gs < n → (more : List Entry)
-      → (steps_of n (es ++ more) ≡ steps_of n more) × (end_of n (es ++ more) ≡ end_of n more)
+      → (steps_of n (es ++ more) ≡ steps_of n more) × (guest_end_of n (es ++ more) ≡ guest_end_of n more)
   pub ranked : Ranked (length es) 1 gs
   pub counted : length gs ≡ install_count es

@@ -5,7 +5,7 @@ use Rattle.std.specs.Str.{bytes_eq}
 use Rattle.std.specs.Option.{option_or, option_map}
 use Rattle.xom_base.specs.declared.entry.Entry.{Entry}
 use Rattle.xom_base.specs.declared.entry.Entry.TheVariants as entry
-use Rattle.journal_findings.specs.Findings.{collision, collides}
+use Rattle.journal_findings.specs.Findings.{collides, first_collision}
 use Rattle.trace_judge.specs.declared.collisions.Collisions.{Collisions}
 use Rattle.trace_judge.specs.declared.hashes.First.{First}
 use Rattle.trace_judge.specs.Maps.{first_in}
@@ -17,8 +17,8 @@ other_text (Some first) preimage =
     if bytes_eq preimage first.preimage then None else Some first.number
 
 -- the number of an entry, by its place
-abbrev pub number_at : Option ℕ → Option ℕ
-number_at place = option_map {U = ℕ} (λ (i : ℕ). i + 1) place
+abbrev pub entry_number_at : Option ℕ → Option ℕ
+entry_number_at place = option_map {U = ℕ} (λ (i : ℕ). i + 1) place
 
 -- The map tells of each text and digest where the first Hash of another text stands. (That each
 -- digest has one text is never
@@ -26,12 +26,12 @@ number_at place = option_map {U = ℕ} (λ (i : ℕ). i + 1) place
 abbrev pub TellsOtherTexts : (List ℕ → Option First) → List Entry → Type 0
 TellsOtherTexts first es =
     (preimage digest : List ℕ)
-    → other_text (first digest) preimage ≡ number_at (position (collides preimage digest) es)
+    → other_text (first digest) preimage ≡ entry_number_at (position (collides preimage digest) es)
 
 -- the answer so far is that of the list, and where there is none, the map tells all
 pub record FindsCollisions (found : Option (ℕ × ℕ)) (first : List ℕ → Option First)
     (es : List Entry) : Type 0 where
-  pub answer : found ≡ collision es
+  pub answer : found ≡ first_collision es
   pub tells : found ≡ None → TellsOtherTexts first es
 
 -- the answer after one more entry, of this number

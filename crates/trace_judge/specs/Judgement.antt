@@ -18,7 +18,7 @@ use Rattle.mips_plain.specs.declared.verdict.Verdict.{Verdict}
 use Rattle.mips_plain.specs.declared.verdict.Verdict.TheVariants.{NoOwner}
 use Rattle.mips_plain.specs.Machine.{start}
 use Rattle.mips_plain.specs.Follows.{verdict_from}
-use Rattle.journal_findings.specs.Findings.{collision, forged, sealed_by}
+use Rattle.journal_findings.specs.Findings.{first_collision, first_forgery, sealed_by}
 use Rattle.trace_judge.specs.declared.report.GuestEnd.{GuestEnd}
 use Rattle.trace_judge.specs.declared.report.GuestEnd.TheVariants.{Ended, Stopped, Killed, Running}
 use Rattle.trace_judge.specs.declared.report.GuestLine.{GuestLine}
@@ -39,9 +39,9 @@ end_in n (entry.Kill install) = if install == n then Some Killed else None
 end_in n other = None
 
 -- the first end of this install, or Running where it has none
-abbrev pub end_of : ℕ → List Entry → GuestEnd
-end_of n [] = Running
-end_of n (entry ∷ entries) = unwrap_or (end_in n entry) (end_of n entries)
+abbrev pub guest_end_of : ℕ → List Entry → GuestEnd
+guest_end_of n [] = Running
+guest_end_of n (entry ∷ entries) = unwrap_or (end_in n entry) (guest_end_of n entries)
 
 -- ---- What a guest did beside its program
 
@@ -57,20 +57,20 @@ verdict_of owners entries n id = verdict_by (owner_of owners id) (steps_of n ent
 -- ---- The lines of the guests
 
 -- the line of an Install entry, with that entry's number, slot and id
-abbrev pub line_in : List Owner → List Entry → Entry → Option GuestLine
-line_in owners entries (entry.Install n slot id place at lines) =
+abbrev pub guest_line_of_entry : List Owner → List Entry → Entry → Option GuestLine
+guest_line_of_entry owners entries (entry.Install n slot id place at lines) =
     Some (record {
       install = n;
       slot = slot;
       id = id;
       verdict = verdict_of owners entries n id;
-      end = end_of n entries;
+      end = guest_end_of n entries;
     })
-line_in owners entries other = None
+guest_line_of_entry owners entries other = None
 
 -- one line for each Install entry, in their order
 abbrev pub guest_lines : List Owner → List Entry → List GuestLine
-guest_lines owners entries = filter_map (line_in owners entries) entries
+guest_lines owners entries = filter_map (guest_line_of_entry owners entries) entries
 
 -- ---- The whole judgement
 
@@ -78,6 +78,6 @@ guest_lines owners entries = filter_map (line_in owners entries) entries
 abbrev pub judgement : Key256 → List Owner → List Entry → Report
 judgement machine owners entries = record {
   guests = guest_lines owners entries;
-  forged = forged (sealed_by machine owners) entries;
-  collision = collision entries;
+  forged = first_forgery (sealed_by machine owners) entries;
+  collision = first_collision entries;
 }

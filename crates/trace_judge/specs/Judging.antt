@@ -27,10 +27,10 @@ pub record HasJudged (machine : Key256) (owners : List Owner) (j : Judge) (es : 
   pub guests : IsFed owners j.guests.items.items es
 
 -- an entry for which a search may want memory
-abbrev pub IsKept : Entry → Type 0
-IsKept (entry.Seal key message) = Unit {0}
-IsKept (entry.Hash preimage digest) = Unit {0}
-IsKept other = ⊥
+abbrev pub JudgeKeeps : Entry → Type 0
+JudgeKeeps (entry.Seal key message) = Unit {0}
+JudgeKeeps (entry.Hash preimage digest) = Unit {0}
+JudgeKeeps other = ⊥
 
 -- an entry that may want memory
 abbrev pub WantsMemory : Entry → Type 0

@@ -12,11 +12,11 @@ use Rattle.trace_judge.specs.declared.report.GuestLine.{GuestLine}
 use Rattle.trace_judge.specs.Judgement.{guest_lines}
 
 -- an installed guest has an owner, and its steps are those of the owner's program run alone
-abbrev pub IsRun : List Owner → List Entry → Entry → Type 0
-IsRun owners entries (entry.Install n slot id place at lines) =
+abbrev pub IsOwnersRun : List Owner → List Entry → Entry → Type 0
+IsOwnersRun owners entries (entry.Install n slot id place at lines) =
     (owner : Owner) × (q : State) × (owner_of owners id ≡ Some owner) × Reaches (start owner.plain)
     (steps_of n entries) q
-IsRun owners entries other = Unit {0}
+IsOwnersRun owners entries other = Unit {0}
 
 -- the line says that all the steps of its install follow
 abbrev pub DoesFollow : List Entry → GuestLine → Type 0
@@ -25,5 +25,5 @@ DoesFollow entries line = line.verdict ≡ Follows (length (steps_of line.instal
 -- where each installed guest did what its program does alone, each line says that it follows
 abbrev pub RunsAreFollowed : Type 0
 RunsAreFollowed =
-    (owners : List Owner) (entries : List Entry) → All (IsRun owners entries) entries
+    (owners : List Owner) (entries : List Entry) → All (IsOwnersRun owners entries) entries
     → All (DoesFollow entries) (guest_lines owners entries)

@@ -17,9 +17,9 @@ use Rattle.trace_judge.specs.declared.names.Names.{Names}
 -- ---- Digests
 
 -- the first Hash of a digest, where it is the one of its fingerprint
-abbrev pub first_of : Option (Box Known Global) → List ℕ → Option First
-first_of None digest = None
-first_of (Some known) digest =
+abbrev pub first_hash_of : Option (Box Known Global) → List ℕ → Option First
+first_hash_of None digest = None
+first_hash_of (Some known) digest =
     if bytes_eq known.value.digest digest then Some known.value.first else None
 
 -- another digest is the one of this fingerprint
@@ -34,7 +34,7 @@ known_at hashes digest = get nat_cmp hashes.firsts (fingerprint_of digest)
 -- the first Hash of a digest, or none
 abbrev pub first_in : Hashes → List ℕ → Option First
 first_in hashes digest =
-    option_or (first_of (known_at hashes digest) digest)
+    option_or (first_hash_of (known_at hashes digest) digest)
     (get_by (slice_cmp nat_cmp digest) hashes.others)
 
 -- ---- Names

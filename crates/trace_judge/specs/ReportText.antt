@@ -14,30 +14,30 @@ use Rattle.trace_judge.specs.declared.report.GuestLine.{GuestLine}
 use Rattle.trace_judge.specs.declared.report.Report.{Report}
 
 -- a rule by its name, and its line, level or register
-abbrev pub rule_text : Rule → List ℕ
-rule_text (LineTag line) = codes "LineTag " ++ decimal line
-rule_text (TreeNode level) = codes "TreeNode " ++ decimal level
-rule_text (RegisterTag reg) = codes "RegisterTag " ++ decimal reg
-rule_text (RegisterMissing reg) = codes "RegisterMissing " ++ decimal reg
+abbrev pub report_rule_text : Rule → List ℕ
+report_rule_text (LineTag line) = codes "LineTag " ++ decimal line
+report_rule_text (TreeNode level) = codes "TreeNode " ++ decimal level
+report_rule_text (RegisterTag reg) = codes "RegisterTag " ++ decimal reg
+report_rule_text (RegisterMissing reg) = codes "RegisterMissing " ++ decimal reg
 
 abbrev pub verdict_text : Verdict → List ℕ
 verdict_text (Follows steps) = codes "follows " ++ (decimal steps ++ codes " steps")
 verdict_text (Departs step) = codes "departs at step " ++ decimal step
 verdict_text NoOwner = codes "no owner"
 
-abbrev pub end_text : GuestEnd → List ℕ
-end_text Ended = codes "ended"
-end_text (Stopped rule) = codes "stopped " ++ rule_text rule
-end_text Killed = codes "killed"
-end_text Running = codes "open"
+abbrev pub guest_end_text : GuestEnd → List ℕ
+guest_end_text Ended = codes "ended"
+guest_end_text (Stopped rule) = codes "stopped " ++ report_rule_text rule
+guest_end_text Killed = codes "killed"
+guest_end_text Running = codes "open"
 
 -- an id is 32 hex digits
-abbrev pub line_text : GuestLine → List ℕ
-line_text line =
+abbrev pub guest_line_text : GuestLine → List ℕ
+guest_line_text line =
     codes "guest " ++ (decimal line.install
     ++ (codes " slot " ++ (decimal line.slot ++ (codes " id " ++ (encode_lower line.id.0
     ++ (codes " " ++ (verdict_text line.verdict
-    ++ (codes " " ++ (end_text line.end ++ 10 ∷ [])))))))))
+    ++ (codes " " ++ (guest_end_text line.end ++ 10 ∷ [])))))))))
 
 abbrev pub forged_text : Option ℕ → List ℕ
 forged_text None = codes "forged none" ++ 10 ∷ []
@@ -52,5 +52,5 @@ collision_text (Some pair) =
 -- the whole text
 abbrev pub report_text : Report → List ℕ
 report_text report =
-    flat_map line_text report.guests
+    flat_map guest_line_text report.guests
     ++ (forged_text report.forged ++ collision_text report.collision)

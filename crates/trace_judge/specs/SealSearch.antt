@@ -6,7 +6,7 @@ use Rattle.xom_base.specs.declared.entry.Entry.{Entry}
 use Rattle.xom_base.specs.declared.entry.Entry.TheVariants as entry
 use Rattle.image_sealer.specs.Membership.{is_sealed}
 use Rattle.image_sealer.specs.Sealing.{sealing_of}
-use Rattle.journal_findings.specs.Findings.{forged, seal_in}
+use Rattle.journal_findings.specs.Findings.{first_forgery, seal_in}
 use Rattle.trace_judge.specs.declared.forgeries.Forgeries.{Forgeries}
 use Rattle.trace_judge.specs.declared.sealings.Sealings.{Sealings}
 use Rattle.trace_judge.specs.Maps.{has_name}
@@ -27,7 +27,7 @@ HasSeals has es =
 -- the answer so far is that of the list, and where there is none, the set has all Seals
 pub record FindsForgeries (sealed : List (List ℕ × List ℕ)) (found : Option ℕ) (has : List ℕ → Bool)
     (es : List Entry) : Type 0 where
-  pub answer : found ≡ forged sealed es
+  pub answer : found ≡ first_forgery sealed es
   pub seals : found ≡ None → HasSeals has es
 
 -- the answer at an Accept of this number

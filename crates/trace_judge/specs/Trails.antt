@@ -15,7 +15,7 @@ use Rattle.trace_judge.specs.declared.report.GuestLine.{GuestLine}
 use Rattle.trace_judge.specs.declared.trails.Trail.{Trail}
 use Rattle.trace_judge.specs.declared.trails.Trails.{Trails}
 use Rattle.trace_judge.specs.GuestWatch.{end_after_entry}
-use Rattle.trace_judge.specs.Judgement.{end_of, verdict_by}
+use Rattle.trace_judge.specs.Judgement.{guest_end_of, verdict_by}
 
 -- the steps of an install and its first end
 pub record Told : Type 0 where
@@ -23,8 +23,8 @@ pub record Told : Type 0 where
   pub end : GuestEnd
 
 -- what entries tell of an install
-abbrev pub told_of : List Entry → ℕ → Told
-told_of entries n = record { steps = steps_of n entries; end = end_of n entries }
+abbrev pub install_told : List Entry → ℕ → Told
+install_told entries n = record { steps = steps_of n entries; end = guest_end_of n entries }
 
 -- what is told of an install with one more entry
 abbrev pub told_after : Told → ℕ → Entry → Told
@@ -35,13 +35,13 @@ told_after was n e = record {
 }
 
 -- what a trail tells, if there is one
-abbrev pub told_by : Option Trail → Told
-told_by None = record { steps = []; end = Running }
-told_by (Some trail) = record { steps = trail.steps.items; end = trail.end }
+abbrev pub trail_tells : Option Trail → Told
+trail_tells None = record { steps = []; end = Running }
+trail_tells (Some trail) = record { steps = trail.steps.items; end = trail.end }
 
 -- what the map tells of an install
 abbrev pub told_of_install : Trails → ℕ → Told
-told_of_install trails n = told_by (get nat_cmp trails.trails n)
+told_of_install trails n = trail_tells (get nat_cmp trails.trails n)
 
 -- the line of an Install entry, by what is told of each install
 abbrev pub line_by : List Owner → (ℕ → Told) → Entry → Option GuestLine

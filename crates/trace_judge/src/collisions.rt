@@ -1,7 +1,7 @@
 ghost use Rattle.std.specs.Prelude.{◌≡◌, ◌+◌, ◌++◌, [], ◌∷◌, List, ℕ, length, OnOk, OnErr};
 ghost use Rattle.xom_base.specs.declared.entry.Entry.{Entry as AnEntry};
 ghost use Rattle.xom_base.specs.declared.entry.Entry.TheVariants.{Hash as AHash};
-ghost use Rattle.journal_findings.specs.Findings.{collision};
+ghost use Rattle.journal_findings.specs.Findings.{first_collision};
 
 use crate::hashes::{First, Hashes};
 use std::alloc::Global;
@@ -86,7 +86,7 @@ impl Collisions {
 
     /// The first collision, as the lists have it.
     pub fn found(&self) -> Option<(u64, u64)>
-        ensures { (es : List AnEntry) → HasSearchedHashes self.now es → result ≡ collision es }
+        ensures { (es : List AnEntry) → HasSearchedHashes self.now es → result ≡ first_collision es }
     {
         self.found
     }

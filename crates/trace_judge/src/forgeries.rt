@@ -1,7 +1,7 @@
 ghost use Rattle.std.specs.Prelude.{◌≡◌, ◌+◌, ◌++◌, [], ◌∷◌, ◌||◌, List, ℕ, None, length, OnOk, OnErr};
 ghost use Rattle.xom_base.specs.declared.entry.Entry.{Entry as AnEntry};
 ghost use Rattle.image_sealer.specs.Membership.{is_sealed};
-ghost use Rattle.journal_findings.specs.Findings.{forged};
+ghost use Rattle.journal_findings.specs.Findings.{first_forgery};
 
 use crate::names::{Names, name_of};
 use crate::sealings::Sealings;
@@ -82,7 +82,7 @@ impl Forgeries {
 
     /// The first forged Accept, as the lists have it.
     pub fn found(&self) -> Option<u64>
-        ensures { (sealed : List (List ℕ × List ℕ)) → (es : List AnEntry) → HasSearchedSeals sealed self.now es → result ≡ forged sealed es }
+        ensures { (sealed : List (List ℕ × List ℕ)) → (es : List AnEntry) → HasSearchedSeals sealed self.now es → result ≡ first_forgery sealed es }
     {
         self.found
     }

@@ -31,7 +31,7 @@ pub struct Hashes {
 
 impl Hashes {
     ghost use Rattle.trace_judge.specs.Fingerprints.{fingerprint_of};
-    ghost use Rattle.trace_judge.specs.Maps.{first_in, first_of, is_other_digest, known_at};
+    ghost use Rattle.trace_judge.specs.Maps.{first_hash_of, first_in, is_other_digest, known_at};
 
     /// No digest has a text. It takes no memory.
     pub fn new(alloc: Global) -> Hashes
@@ -56,7 +56,7 @@ impl Hashes {
 
     /// The first Hash of a digest, where that is the first of its fingerprint.
     fn first_known(&self, digest: &[u8; 32]) -> Option<First>
-        ensures { result ≡ first_of (known_at self.now digest.now) digest.now }
+        ensures { result ≡ first_hash_of (known_at self.now digest.now) digest.now }
     {
         let known = self.firsts.get(&fingerprint(digest.as_slice()))?;
         if known.digest.as_slice() == digest.as_slice() {

@@ -1,5 +1,5 @@
 ghost use Rattle.std.specs.Prelude.{◌≡◌, IfOk};
-ghost use Rattle.journal_findings.specs.Findings.{collision, forged, sealed_by};
+ghost use Rattle.journal_findings.specs.Findings.{first_collision, first_forgery, sealed_by};
 ghost use Rattle.trace_judge.specs.Judgement.{judgement};
 
 use crate::listed::guest_lines;
@@ -68,7 +68,7 @@ fn search(
     owners: &OwnerList,
     entries: &[Entry],
 ) -> Result<Findings, NoMemory>
-    ensures { IfOk result (λ found. found ≡ record { forged = forged (sealed_by machine.now owners.now) entries.now; collision = collision entries.now }) }
+    ensures { IfOk result (λ found. found ≡ record { forged = first_forgery (sealed_by machine.now owners.now) entries.now; collision = first_collision entries.now }) }
 {
     let mut searches = Searches::new(alloc, machine, owners)?;
     for entry in entries {

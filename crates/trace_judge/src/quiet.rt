@@ -1,7 +1,7 @@
 ghost use Rattle.std.specs.Prelude.{◌≡◌, ◌<◌, ◌+◌, ◌^◌, ◌++◌, [], ◌∷◌, List, ℕ, length, true};
 ghost use Rattle.xom_base.specs.declared.entry.Entry.{Entry as AnEntry};
 ghost use Rattle.trace_judge.specs.GuestWatch.{IsFed, IsInstall};
-ghost use Rattle.trace_judge.specs.Judging.{HasSearched, IsKept};
+ghost use Rattle.trace_judge.specs.Judging.{HasSearched, JudgeKeeps};
 ghost use Rattle.trace_judge.specs.Numbers.{install_count, may_stand as may_stand_by};
 
 use crate::guests::Guests;
@@ -12,7 +12,7 @@ use xom_owners::OwnerList;
 
 /// Feeds the searches, where that wants no memory.
 pub fn search(searches: &mut Searches, entry: &Entry)
-    requires { IsKept entry.now → ⊥ }
+    requires { JudgeKeeps entry.now → ⊥ }
     ensures { (sealed : List (List ℕ × List ℕ)) → (es : List AnEntry) → length es + 1 < 2 ^ 64 → HasSearched sealed searches.old es → HasSearched sealed searches.new (es ++ entry.now ∷ []) }
 {
     match searches.feed(entry) {

@@ -1,6 +1,6 @@
 ghost use Rattle.std.specs.Prelude.{◌≡◌, ◌<◌, ◌+◌, ◌^◌, ◌++◌, [], ◌∷◌, List, ℕ, length, OnOk, OnErr, IfOk};
 ghost use Rattle.xom_base.specs.declared.entry.Entry.{Entry as AnEntry};
-ghost use Rattle.journal_findings.specs.Findings.{collision, forged, sealed_by};
+ghost use Rattle.journal_findings.specs.Findings.{first_collision, first_forgery, sealed_by};
 ghost use Rattle.trace_judge.specs.HashSearch.{HasSearchedHashes, IsHash};
 ghost use Rattle.trace_judge.specs.SealSearch.{HasSearchedSeals, IsSeal, all_sealings};
 
@@ -25,7 +25,7 @@ pub struct Searches<'a> {
 }
 
 impl<'a> Searches<'a> {
-    ghost use Rattle.trace_judge.specs.Judging.{HasSearched, IsKept};
+    ghost use Rattle.trace_judge.specs.Judging.{HasSearched, JudgeKeeps};
 
     /// Nothing was fed.
     pub fn new(
@@ -47,7 +47,7 @@ impl<'a> Searches<'a> {
     pub fn feed(&mut self, entry: &Entry) -> Result<(), NoMemory>
         ensures ok { OnOk result ((sealed : List (List ℕ × List ℕ)) → (es : List AnEntry) → length es + 1 < 2 ^ 64 → HasSearched sealed self.old es → HasSearched sealed self.new (es ++ entry.now ∷ [])) }
         ensures err { OnErr result ((sealed : List (List ℕ × List ℕ)) → (es : List AnEntry) → HasSearched sealed self.old es → HasSearched sealed self.new es) }
-        ensures only { OnErr result (IsKept entry.now) }
+        ensures only { OnErr result (JudgeKeeps entry.now) }
     {
         let number = self.count.wrapping_add(1);
         match self.look(number, entry) {
@@ -67,7 +67,7 @@ impl<'a> Searches<'a> {
         ensures hashes { OnOk result ((es : List AnEntry) → number ≡ length es + 1 → HasSearchedHashes self.old.collisions es → HasSearchedHashes self.new.collisions (es ++ entry.now ∷ [])) }
         ensures seals_stay { OnErr result ((sealed : List (List ℕ × List ℕ)) → (es : List AnEntry) → HasSearchedSeals sealed self.old.forgeries es → HasSearchedSeals sealed self.new.forgeries es) }
         ensures hashes_stay { OnErr result ((es : List AnEntry) → HasSearchedHashes self.old.collisions es → HasSearchedHashes self.new.collisions es) }
-        ensures only { OnErr result (IsKept entry.now) }
+        ensures only { OnErr result (JudgeKeeps entry.now) }
     {
         match entry {
             Entry::Hash { .. } => match self.collisions.feed(number, entry) {
@@ -89,14 +89,14 @@ impl<'a> Searches<'a> {
 
     /// The first forged Accept, as the lists have it.
     pub fn forged(&self) -> Option<u64>
-        ensures { (sealed : List (List ℕ × List ℕ)) → (es : List AnEntry) → HasSearched sealed self.now es → result ≡ forged sealed es }
+        ensures { (sealed : List (List ℕ × List ℕ)) → (es : List AnEntry) → HasSearched sealed self.now es → result ≡ first_forgery sealed es }
     {
         self.forgeries.found()
     }
 
     /// The first collision, as the lists have it.
     pub fn collision(&self) -> Option<(u64, u64)>
-        ensures { (sealed : List (List ℕ × List ℕ)) → (es : List AnEntry) → HasSearched sealed self.now es → result ≡ collision es }
+        ensures { (sealed : List (List ℕ × List ℕ)) → (es : List AnEntry) → HasSearched sealed self.now es → result ≡ first_collision es }
     {
         self.collisions.found()
     }

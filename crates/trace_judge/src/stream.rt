@@ -27,7 +27,7 @@ pub struct Judge<'a> {
 }
 
 impl<'a> Judge<'a> {
-    ghost use Rattle.trace_judge.specs.Judging.{HasJudged, HasSearched, IsKept, WantsMemory};
+    ghost use Rattle.trace_judge.specs.Judging.{HasJudged, HasSearched, JudgeKeeps, WantsMemory};
 
     /// A judge by these owners, whose images were sealed for the machine of this key. Nothing was fed.
     pub fn new(

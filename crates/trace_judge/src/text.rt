@@ -1,6 +1,6 @@
 ghost use Rattle.std.specs.Prelude.{◌≡◌, IfOk, string_bytes};
 ghost use Rattle.std.specs.List.{flat_map};
-ghost use Rattle.trace_judge.specs.ReportText.{collision_text, end_text, forged_text, line_text, report_text, rule_text, verdict_text};
+ghost use Rattle.trace_judge.specs.ReportText.{collision_text, forged_text, guest_end_text, guest_line_text, report_rule_text, report_text, verdict_text};
 
 use crate::{GuestEnd, GuestLine, Report, Verdict};
 use std::alloc::Global;
@@ -18,7 +18,7 @@ pub fn print_report(alloc: Global, report: &Report) -> Result<ByteList, NoMemory
 
 /// The lines of the guests.
 fn lines_of(alloc: Global, lines: &[GuestLine]) -> Result<String, NoMemory>
-    ensures { IfOk result (λ text. string_bytes text ≡ flat_map line_text lines.now) }
+    ensures { IfOk result (λ text. string_bytes text ≡ flat_map guest_line_text lines.now) }
 {
     let mut text = String::new(alloc);
     for line in lines {
@@ -28,7 +28,7 @@ fn lines_of(alloc: Global, lines: &[GuestLine]) -> Result<String, NoMemory>
 }
 
 fn line_of(alloc: Global, line: &GuestLine) -> Result<String, NoMemory>
-    ensures { IfOk result (λ text. string_bytes text ≡ line_text line.now) }
+    ensures { IfOk result (λ text. string_bytes text ≡ guest_line_text line.now) }
 {
     let install = line.install;
     let slot = line.slot;
@@ -49,7 +49,7 @@ fn verdict_of(alloc: Global, verdict: Verdict) -> Result<String, NoMemory>
 }
 
 fn end_of(alloc: Global, end: GuestEnd) -> Result<String, NoMemory>
-    ensures { IfOk result (λ text. string_bytes text ≡ end_text end) }
+    ensures { IfOk result (λ text. string_bytes text ≡ guest_end_text end) }
 {
     match end {
         GuestEnd::Ended => Ok(String::from_str(alloc, "ended")?),
@@ -63,7 +63,7 @@ fn end_of(alloc: Global, end: GuestEnd) -> Result<String, NoMemory>
 }
 
 fn rule_of(alloc: Global, rule: Rule) -> Result<String, NoMemory>
-    ensures { IfOk result (λ text. string_bytes text ≡ rule_text rule) }
+    ensures { IfOk result (λ text. string_bytes text ≡ report_rule_text rule) }
 {
     Ok(match rule {
         Rule::LineTag(line) => format!(in alloc; "LineTag {line}")?,

@@ -1,5 +1,5 @@
 ghost use Rattle.std.specs.Prelude.{◌≡◌, ◌==◌, ℕ, [], IfOk, OnOk, if◌then◌else◌};
-ghost use Rattle.trace_judge.specs.Trails.{told_after, told_by, told_of, told_of_install};
+ghost use Rattle.trace_judge.specs.Trails.{install_told, told_after, told_of_install, trail_tells};
 
 use crate::GuestEnd;
 use crate::guests::next_end;
@@ -18,7 +18,7 @@ pub struct Trail {
 impl Trail {
     /// Nothing is told. It takes no memory.
     fn new(alloc: Global) -> Trail
-        ensures { told_by (Some result) ≡ told_by None }
+        ensures { trail_tells (Some result) ≡ trail_tells None }
     {
         Trail {
             steps: Vec::new(alloc),
@@ -28,7 +28,7 @@ impl Trail {
 
     /// Takes the next entry, as what it tells of this install.
     fn take(mut self, install: u64, entry: &Entry) -> Result<Trail, NoMemory>
-        ensures { IfOk result (λ trail. told_by (Some trail) ≡ told_after (told_by (Some self)) install entry.now) }
+        ensures { IfOk result (λ trail. trail_tells (Some trail) ≡ told_after (trail_tells (Some self)) install entry.now) }
     {
         if let Some(step) = step_in(install, entry) {
             self.steps.push(step)?;
@@ -48,7 +48,7 @@ pub struct Trails {
 impl Trails {
     /// Nothing is told. It takes no memory.
     fn new(alloc: Global) -> Trails
-        ensures { (n : ℕ) → told_of_install result n ≡ told_of [] n }
+        ensures { (n : ℕ) → told_of_install result n ≡ install_told [] n }
     {
         Trails {
             trails: BTreeMap::new(alloc),
@@ -104,7 +104,7 @@ impl Trails {
 
 /// What entries tell of each install.
 pub fn trails_of(alloc: Global, entries: &[Entry]) -> Result<Trails, NoMemory>
-    ensures { IfOk result (λ trails. (n : ℕ) → told_of_install trails n ≡ told_of entries.now n) }
+    ensures { IfOk result (λ trails. (n : ℕ) → told_of_install trails n ≡ install_told entries.now n) }
 {
     let mut trails = Trails::new(alloc);
     for entry in entries {

@@ -11,10 +11,10 @@ use Rattle.sha2.proofs.Facts256.{length-sha256}
 use Rattle.journal_round_trip.specs.KeepsRules.{KeepsPayload}
 use Rattle.xom_versions.specs.declared.store.Torn.{Torn}
 use Rattle.xom_versions.specs.Versions.{start_version}
-use Rattle.replay_tree.specs.Tree.{digest_of, joined, node, text_of}
-use Rattle.replay_tree.specs.Area.{area_bytes, block_size, level_bytes, level_texts, part_size, texts_up_to, width}
-use Rattle.replay_tree.specs.Paths.{checked_texts, part_in, part_offset, path_in, path_offset, ram_renewed, renewed, renewed_texts, torn_at, with_part}
-use Rattle.replay_tree.specs.Calls.{answer_of, new_ram, new_texts, raised_in, ram_after_raise_in, texts_of_check, texts_of_raise_in, top_level, torn_in, torn_or, tree, version_in}
+use Rattle.replay_tree.specs.Tree.{block_text, digest_of, node, parts_joined}
+use Rattle.replay_tree.specs.Area.{area_bytes, level_bytes, level_texts, part_size, texts_up_to, tree_block_size, width}
+use Rattle.replay_tree.specs.Paths.{block_after_raise, checked_texts, part_in, part_offset, path_in, path_offset, ram_renewed, renewed_texts, torn_at, with_part}
+use Rattle.replay_tree.specs.Calls.{new_ram, new_texts, raised_in, ram_after_raise_in, texts_of_check, texts_of_raise_in, top_level, torn_in, torn_or, tree, version_answer, version_at_line}
 use Rattle.replay_tree.specs.PartLaws.{length-joined}
 use Rattle.replay_tree.specs.NodeLaws.{low-part}
 use Rattle.journal_laws.specs.RulesOfRecord.{StoresKeepRules}
@@ -28,31 +28,31 @@ AreTexts texts = All (KeepsPayload 260) texts
 
 -- a block has bytes, at most as many as its level says
 abbrev IsBlock : ℕ → List ℕ → Type 0
-IsBlock level block = IsBytes block × (length block ≤ block_size level)
+IsBlock level block = IsBytes block × (length block ≤ tree_block_size level)
 
-small-block : (level : ℕ) → block_size level ≤ 256
+small-block : (level : ℕ) → tree_block_size level ≤ 256
 unfolding part_size
 small-block zero = lit≤ tt
 small-block (suc level) = lit≤ tt
 
 text-payload : (level : ℕ) (block : List ℕ) → level ≤ 4 → IsBlock level block
-    → KeepsPayload 260 (text_of level block)
+    → KeepsPayload 260 (block_text level block)
 text-payload level block low is =
-    let few : length block ≤ block_size level = is.1 in
+    let few : length block ≤ tree_block_size level = is.1 in
     let small = small-block level in
     (bytes-cons level block (omega arith) is.0, omega arith, omega arith)
 
 one-text : (level : ℕ) (block : List ℕ) → level ≤ 4 → IsBlock level block
-    → AreTexts (text_of level block ∷ [])
+    → AreTexts (block_text level block ∷ [])
 one-text level block low is =
-    All-cons (KeepsPayload 260) (text_of level block) [] (text-payload level block low is)
+    All-cons (KeepsPayload 260) (block_text level block) [] (text-payload level block low is)
     (All-nil (KeepsPayload 260))
 
-bytes-joined : (part : ℕ → List ℕ) (n : ℕ) → ((i : ℕ) → IsBytes (part i)) → IsBytes (joined part n)
-unfolding joined
+bytes-joined : (part : ℕ → List ℕ) (n : ℕ) → ((i : ℕ) → IsBytes (part i)) → IsBytes (parts_joined part n)
+unfolding parts_joined
 bytes-joined part zero each = bytes-none
 bytes-joined part (suc n) each =
-    bytes-append (joined part n) (part n) (bytes-joined part n each) (each n)
+    bytes-append (parts_joined part n) (part n) (bytes-joined part n each) (each n)
 
 node-block : (numbers : ℕ → ℕ) (level i : ℕ) → IsBlock level (node numbers level i)
 unfolding node part_size
@@ -64,9 +64,9 @@ node-block numbers zero i =
     )
 node-block numbers (suc level) i =
     let part : ℕ → List ℕ = λ k. digest_of level (node numbers level (8 * i + k)) in (
-      bytes-joined part 8 (λ k. bytes-sha256 (text_of level (node numbers level (8 * i + k)))),
+      bytes-joined part 8 (λ k. bytes-sha256 (block_text level (node numbers level (8 * i + k)))),
       let long = length-joined part 32 8
-          (λ k low. length-sha256 (text_of level (node numbers level (8 * i + k)))) in omega arith,
+          (λ k low. length-sha256 (block_text level (node numbers level (8 * i + k)))) in omega arith,
     )
 
 -- ---- A build
@@ -76,7 +76,7 @@ unfolding level_texts
 level-texts numbers level zero low = All-nil (KeepsPayload 260)
 level-texts numbers level (suc n) low =
     All-append (KeepsPayload 260) (level_texts numbers level n)
-    (text_of level (node numbers level n) ∷ []) (level-texts numbers level n low)
+    (block_text level (node numbers level n) ∷ []) (level-texts numbers level n low)
     (one-text level (node numbers level n) low (node-block numbers level n))
 
 texts-to : (top : ℕ) (numbers : ℕ → ℕ) (level : ℕ) → level ≤ 4
@@ -108,14 +108,14 @@ module _ (path : ℕ → List ℕ) (blocks : (level : ℕ) → IsBlock level (pa
   unfolding checked_texts
   checked-texts zero wanted low = one-text 0 (path 0) low (blocks 0)
   checked-texts (suc level) wanted low =
-      All-cons (KeepsPayload 260) (text_of (suc level) (path (suc level)))
+      All-cons (KeepsPayload 260) (block_text (suc level) (path (suc level)))
       _ (text-payload (suc level) (path (suc level)) low (blocks (suc level)))
       (cond_both (bytes_eq (digest_of (suc level) (path (suc level))) wanted)
       (checked_texts path line level (part_in (suc level) line (path (suc level)))) [] AreTexts
       (λ _. checked-texts level (part_in (suc level) line (path (suc level))) (omega arith))
       (λ _. All-nil (KeepsPayload 260)))
 
-  part-fits : (level : ℕ) → part_offset level line + part_size level ≤ block_size level
+  part-fits : (level : ℕ) → part_offset level line + part_size level ≤ tree_block_size level
   unfolding part_size
   part-fits zero = let low = low-part 0 line in omega arith
   part-fits (suc level) = let low = low-part (suc level) line in omega arith
@@ -125,44 +125,44 @@ module _ (path : ℕ → List ℕ) (blocks : (level : ℕ) → IsBlock level (pa
       → IsBlock level (with_part level line (path level) part)
   part-block level part bytes long =
       let at = part_offset level line in
-      let few : length (path level) ≤ block_size level = (blocks level).1 in
+      let few : length (path level) ≤ tree_block_size level = (blocks level).1 in
       let front = take-short at (path level) in
       let whole = take-few at (path level) in
       let rest = length-drop (at + length part) (path level) in
       let inner = length-append part (drop (at + length part) (path level)) in
       let outer = length-append (take at (path level))
       (part ++ drop (at + length part) (path level)) in
-      let within : at + part_size level ≤ block_size level = part-fits level in
+      let within : at + part_size level ≤ tree_block_size level = part-fits level in
       (bytes-written (path level) at part (blocks level).0 bytes, omega arith)
 
-  renewed-block : (number level : ℕ) → IsBlock level (renewed path line number level)
-  unfolding renewed part_size
+  renewed-block : (number level : ℕ) → IsBlock level (block_after_raise path line number level)
+  unfolding block_after_raise part_size
   renewed-block number zero = part-block 0 (to_be_bytes w64 number) (bytes-long_number number) refl
   renewed-block number (suc level) =
-      part-block (suc level) (digest_of level (renewed path line number level))
-      (bytes-sha256 (text_of level (renewed path line number level)))
-      (length-sha256 (text_of level (renewed path line number level)))
+      part-block (suc level) (digest_of level (block_after_raise path line number level))
+      (bytes-sha256 (block_text level (block_after_raise path line number level)))
+      (length-sha256 (block_text level (block_after_raise path line number level)))
 
   renewed-texts : (number level : ℕ) → level ≤ 4 → AreTexts (renewed_texts path line number level)
   unfolding renewed_texts
   renewed-texts number zero low =
-      one-text 0 (renewed path line number 0) low (renewed-block number 0)
+      one-text 0 (block_after_raise path line number 0) low (renewed-block number 0)
   renewed-texts number (suc level) low =
       All-append (KeepsPayload 260) (renewed_texts path line number level)
-      (text_of (suc level) (renewed path line number (suc level)) ∷ [])
+      (block_text (suc level) (block_after_raise path line number (suc level)) ∷ [])
       (renewed-texts number level (omega arith))
-      (one-text (suc level) (renewed path line number (suc level)) low
+      (one-text (suc level) (block_after_raise path line number (suc level)) low
       (renewed-block number (suc level)))
 
   ram-plain : (top area number level : ℕ) (ram : List ℕ) → IsBytes ram
       → IsBytes (ram_renewed top area path line number level ram)
   unfolding ram_renewed
   ram-plain top area number zero ram bytes =
-      bytes-written ram (area + path_offset top line 0) (renewed path line number 0) bytes
+      bytes-written ram (area + path_offset top line 0) (block_after_raise path line number 0) bytes
       (renewed-block number 0).0
   ram-plain top area number (suc level) ram bytes =
       bytes-written (ram_renewed top area path line number level ram)
-      (area + path_offset top line (suc level)) (renewed path line number (suc level))
+      (area + path_offset top line (suc level)) (block_after_raise path line number (suc level))
       (ram-plain top area number level ram bytes) (renewed-block number (suc level)).0
 
 -- the torn block is at the level from which the check begins, or below it
@@ -190,7 +190,7 @@ module _ (path : ℕ → List ℕ) (line : ℕ) where
 path-blocks : (area line : ℕ) (ram : List ℕ) → IsBytes ram → (level : ℕ)
     → IsBlock level (path_in top_level area ram line level)
 path-blocks area line ram bytes level =
-    (part-bytes ram _ (block_size level) bytes, take-short (block_size level) (drop _ ram))
+    (part-bytes ram _ (tree_block_size level) bytes, take-short (tree_block_size level) (drop _ ram))
 
 version-texts : (area : Option ℕ) (root : List ℕ) (line : ℕ) (ram : List ℕ) → IsBytes ram
     → AreTexts (texts_of_check top_level area root line ram)
@@ -243,7 +243,7 @@ torn-level (Some level) number torn low is = let same : level ≡ torn.level =
 
 answer-level : (number : ℕ → ℕ → List ℕ → ℕ) (area : Option ℕ) (root : List ℕ) (line : ℕ)
     (ram : List ℕ) (torn : Torn)
-    → answer_of top_level number area root line ram ≡ Err torn → torn.level < 2 ^ 8
+    → version_answer top_level number area root line ram ≡ Err torn → torn.level < 2 ^ 8
 answer-level number None root line ram torn is =
     torn-level (Some top_level) 0 torn (λ level its. let same : 4 ≡ level = cc in omega arith) is
 answer-level number (Some area) root line ram torn is =
@@ -259,7 +259,7 @@ tree_rules = record {
   ram_after_build = λ area lines ram bytes. bytes-written ram area
       (area_bytes top_level (start_version lines)) bytes (area-plain top_level (start_version lines));
   ram_after_raise = λ store line ram bytes. raise-ram store.area store.root line ram bytes;
-  level_of_version = λ store line ram torn is. answer-level (version_in top_level) store.area
+  level_of_version = λ store line ram torn is. answer-level (version_at_line top_level) store.area
       store.root line ram torn is;
   level_of_raise = λ store line ram torn is. answer-level (raised_in top_level) store.area
       store.root line ram torn is;

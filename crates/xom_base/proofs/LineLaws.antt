@@ -7,7 +7,7 @@ use Rattle.std.specs.Option.{option_to_list}
 use Rattle.xom_base.specs.Words.{words_of}
 use Rattle.xom_base.proofs.CutLaws.{option_map_some}
 use Rattle.xom_base.proofs.NumberLaws.{none_from_never}
-use Rattle.xom_base.specs.Lines.{Format, IsFirstBad, OfWords, Reads, LineStep, Rows, Tells, go_on, read_from, step_of, with_front, with_words}
+use Rattle.xom_base.specs.Lines.{Format, IsFirstBad, LineStep, OfWords, Reads, Rows, Tells, go_on_behind_line, read_from, step_by_words, with_front, with_words}
 
 module _ {S X : Type 0} (step : LineStep S X) where
   -- values in front of values
@@ -91,7 +91,7 @@ module _ {S X : Type 0} (step : LineStep S X) (format : Format S X)
       → ((next : S) (more : List X) → read_from step next (n + 1) lines ≡ Ok (more, last)
       → Reads format next (n + 1) lines more last)
       → (read : Option (Option X × S)) → step s n line ≡ read
-      → go_on n read (λ next. read_from step next (n + 1) lines) ≡ Ok (values, last)
+      → go_on_behind_line n read (λ next. read_from step next (n + 1) lines) ≡ Ok (values, last)
       → Reads format s n (line ∷ lines) values last
   reads_one s n line lines values last behind None is h = absurd (ok_err (values, last) n (sym h))
   reads_one s n line lines values last behind (Some read) is h =
@@ -145,7 +145,7 @@ module _ {S X : Type 0} (step : LineStep S X) (format : Format S X)
       → ((next : S) → read_from step next (n + 1) lines ≡ Err bad → IsFirstBad format next (n + 1)
       lines bad)
       → (read : Option (Option X × S)) → step s n line ≡ read
-      → go_on n read (λ next. read_from step next (n + 1) lines) ≡ Err bad
+      → go_on_behind_line n read (λ next. read_from step next (n + 1) lines) ≡ Err bad
       → IsFirstBad format s n (line ∷ lines) bad
   bad_one s n line lines bad behind None is h = record {
     before = [];
@@ -246,19 +246,19 @@ module _ {S X : Type 0} (make : S → ℕ → List (List ℕ) → Option (X × S
   from_some s next n [] value h = absurd (none-some (value, next) (sym (tells.some s n) ∙ h))
   from_some s next n (word ∷ words) value h = rw h refl
 
-  pub Tells-words : Tells (step_of make) (OfWords row)
+  pub Tells-words : Tells (step_by_words make) (OfWords row)
   Tells-words = record {
     reads = λ s n line value next h. reads_words s n line value next h;
     only = λ s n line value next h. only_words s n line value next h;
   }
     where
       reads_words : (s : S) (n : ℕ) (line : List ℕ) (value : Option X) (next : S)
-          → step_of make s n line ≡ Some (value, next) → OfWords row s n line value next
+          → step_by_words make s n line ≡ Some (value, next) → OfWords row s n line value next
       reads_words s n line None next h = with_none s next n (words_of line) h
       reads_words s n line (Some value) next h = with_some s next n (words_of line) value h
 
       only_words : (s : S) (n : ℕ) (line : List ℕ) (value : Option X) (next : S)
-          → OfWords row s n line value next → step_of make s n line ≡ Some (value, next)
+          → OfWords row s n line value next → step_by_words make s n line ≡ Some (value, next)
       only_words s n line None next h = rw (h.0, h.1) refl
       only_words s n line (Some value) next h =
           from_some s next n (words_of line) value (tells.only s n (words_of line) value next h)
@@ -267,7 +267,7 @@ module _ {S X : Type 0} (make : S → ℕ → List (List ℕ) → Option (X × S
 module _ {X : Type 0} (make : List (List ℕ) → Option X) (row : List (List ℕ) → X → Type 0)
     (exact : (words : List (List ℕ)) (value : X) → (make words ≡ Some value) ↔ row words value)
     (some : make [] ≡ None) where
-  pub Tells-rows : Tells (step_of (λ (s : Unit {0}) n words. option_map (λ x. (x, s)) (make words)))
+  pub Tells-rows : Tells (step_by_words (λ (s : Unit {0}) n words. option_map (λ x. (x, s)) (make words)))
       (Rows row)
   Tells-rows = Tells-words (λ (s : Unit {0}) n words. option_map (λ x. (x, s)) (make words))
       (λ s n words value next. row words value) record {

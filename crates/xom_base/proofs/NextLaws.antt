@@ -5,7 +5,7 @@ use Rattle.std.proofs.lemmas.Option.{cond_some}
 use Rattle.std.proofs.lemmas.List.Sums.{prefix_len-le-length}
 use Rattle.std.specs.List.{position, position_or_len, before_first, slice_split, onto_first}
 use Rattle.std.proofs.lemmas.Bool.{cases_Bool, eqb-true, eq-eqb}
-use Rattle.xom_base.specs.Words.{after_word, begins_comment, ends_word, has_bytes, is_blank, next_of, past_blanks, word_at, word_len, words_of}
+use Rattle.xom_base.specs.Words.{after_word, begins_comment, ends_word, has_bytes, is_blank, next_of, past_blanks, word_in_front, word_len, words_of}
 
 -- the words that stand before a comment
 abbrev parts : List ℕ → List (List ℕ)
@@ -131,7 +131,7 @@ kept_word (suc k) (b ∷ line) others some few = Prim.grind (arith)
 
 -- the words by the first of them
 words_at : (line : List ℕ) → (word_len line ≡ 0 → words_of line ≡ [])
-    → words_of line ≡ after_word (word_at line)
+    → words_of line ≡ after_word (word_in_front line)
 words_at line none =
     elim (cases_Bool (word_len line == 0)) [
       | inl zeroes ↦ none (eqb-true (word_len line) 0 zeroes)

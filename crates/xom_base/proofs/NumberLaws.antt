@@ -18,7 +18,7 @@ use Rattle.std.specs.List.{AllByRecursion, list_all, starts_with}
 use Rattle.std.specs.Result.{OkIff, result_ok}
 use Rattle.std.specs.Str.{IsAscii, IsUtf8, bytes_eq}
 use Rattle.std.specs.Str.Parse.{AllDigits, ParsesUnsigned, IsNumeral as IsStdNumeral, digits_value, digits_value_after}
-use Rattle.xom_base.specs.Numbers.{value, is_numeral, IsDecimal, IsNumeral, IsNumber, Writes, WritesDecimal, decimal_below_of, if_below, numeral_of, number_of, number_below_of}
+use Rattle.xom_base.specs.Numbers.{IsDecimal, IsNumber, IsNumeral, WritesBelow, WritesDecimal, decimal_below_of, if_below, is_numeral, number_below_of, number_of_word, numeral_of, value}
 
 -- ---- values
 
@@ -205,8 +205,8 @@ hexadecimal_exact digits n = (
   ],
 )
 
-pub number_of-exact : (word : List ℕ) (n : ℕ) → (number_of word ≡ Some n) ↔ IsNumber word n
-unfolding number_of
+pub number_of-exact : (word : List ℕ) (n : ℕ) → (number_of_word word ≡ Some n) ↔ IsNumber word n
+unfolding number_of_word
 number_of-exact word n =
     elim (cases_Bool (bytes_eq (take 2 word) (codes "0x"))) [
       | inl here ↦
@@ -238,10 +238,10 @@ below-exact P read bound n exact = (
 )
 
 pub number_below_of-exact : (bound : ℕ) (word : List ℕ) (n : ℕ)
-    → (number_below_of bound word ≡ Some n) ↔ Writes bound word n
+    → (number_below_of bound word ≡ Some n) ↔ WritesBelow bound word n
 unfolding number_below_of
 number_below_of-exact bound word n =
-    below-exact (IsNumber word) (number_of word) bound n (number_of-exact word)
+    below-exact (IsNumber word) (number_of_word word) bound n (number_of-exact word)
 
 pub decimal_below_of-exact : (bound : ℕ) (word : List ℕ) (n : ℕ)
     → (decimal_below_of bound word ≡ Some n) ↔ WritesDecimal bound word n

@@ -107,10 +107,10 @@ with_front front (Ok more) = Ok (front ++ more.0, more.1)
 with_front front (Err bad) = Err bad
 
 -- what follows of one line
-abbrev pub go_on : {S X : Type 0} → ℕ → Option (Option X × S) → (S → Result (List X × S) ℕ)
+abbrev pub go_on_behind_line : {S X : Type 0} → ℕ → Option (Option X × S) → (S → Result (List X × S) ℕ)
     → Result (List X × S) ℕ
-go_on n None more = Err n
-go_on n (Some read) more = with_front (option_to_list read.0) (more read.1)
+go_on_behind_line n None more = Err n
+go_on_behind_line n (Some read) more = with_front (option_to_list read.0) (more read.1)
 
 -- What lines give, of which the first has this number: their values and the last state, or the
 -- number
@@ -119,7 +119,7 @@ unfoldable pub read_from : {S X : Type 0} → LineStep S X → S → ℕ → Lis
     → Result (List X × S) ℕ
 read_from step s n [] = Ok ([], s)
 read_from step s n (line ∷ lines) =
-    go_on n (step s n line) (λ next. read_from step next (n + 1) lines)
+    go_on_behind_line n (step s n line) (λ next. read_from step next (n + 1) lines)
 
 -- what lines give, of which the first has number 1, where the line of this number is missing if the
 -- text may not end behind them
@@ -153,8 +153,8 @@ with_words row s n (word ∷ words) =
     option_map (λ read. (Some read.0, read.1)) (row s n (word ∷ words))
 
 -- the step of a format that is told by the words of its lines
-abbrev pub step_of : {S X : Type 0} → (S → ℕ → List (List ℕ) → Option (X × S)) → LineStep S X
-step_of row s n line = with_words row s n (words_of line)
+abbrev pub step_by_words : {S X : Type 0} → (S → ℕ → List (List ℕ) → Option (X × S)) → LineStep S X
+step_by_words row s n line = with_words row s n (words_of line)
 
 -- What the words of a line say: nothing where they are off the grammar.
 abbrev pub RowReading : Type 0 → Type 0
@@ -162,7 +162,7 @@ RowReading X = List (List ℕ) → Option X
 
 -- the same, where the words say the value, wherever the line stands
 abbrev pub rows_step : {X : Type 0} → RowReading X → LineStep (Unit {0}) X
-rows_step row = step_of (λ s n words. option_map (λ value. (value, s)) (row words))
+rows_step row = step_by_words (λ s n words. option_map (λ value. (value, s)) (row words))
 
 -- what the lines of such a text give: their values alone, or the number of the first bad one
 abbrev pub rows_of : {X : Type 0} → RowReading X → List ℕ → Result (List X) ℕ
@@ -181,13 +181,13 @@ AnswersLine step (Ok value) next = step ≡ Some (value, next)
 AnswersLine step (Err fault) next = FaultsLine step fault
 
 -- What fault was answered of a text. Want of memory comes freely.
-abbrev pub Faults : {A : Type 0} → Result A ℕ → TextFault → Type 0
-Faults read (text_fault.Line bad) = read ≡ Err bad
-Faults read text_fault.NoMemory = Unit {0}
+abbrev pub TextFaults : {A : Type 0} → Result A ℕ → TextFault → Type 0
+TextFaults read (text_fault.Line bad) = read ≡ Err bad
+TextFaults read text_fault.NoMemory = Unit {0}
 
 -- What was answered of a text is what its lines give, unless memory ran out.
 abbrev pub AnswersRead : {A : Type 0} → Result A ℕ → Result A TextFault → Type 0
-AnswersRead read result = MatchResult result (λ value. read ≡ Ok value) (Faults read)
+AnswersRead read result = MatchResult result (λ value. read ≡ Ok value) (TextFaults read)
 
 -- How the reader of a format answers, where a text is in the format with a value, and a line is its
 -- first

@@ -27,8 +27,8 @@ IsNumber word n =
     × (length digits ≤ 16) × (n ≡ value 16 digits))
 
 -- the word is a number, which is below the bound
-abbrev pub Writes : ℕ → List ℕ → ℕ → Type 0
-Writes bound word n = IsNumber word n × (n < bound)
+abbrev pub WritesBelow : ℕ → List ℕ → ℕ → Type 0
+WritesBelow bound word n = IsNumber word n × (n < bound)
 
 -- the word is a decimal number, which is below the bound
 abbrev pub WritesDecimal : ℕ → List ℕ → ℕ → Type 0
@@ -47,8 +47,8 @@ numeral_of base word =
     else None
 
 -- the number of a word, or none
-unfoldable pub number_of : List ℕ → Option ℕ
-number_of word =
+unfoldable pub number_of_word : List ℕ → Option ℕ
+number_of_word word =
     if bytes_eq (take 2 word) (codes "0x")
     then (if nat_le (length word) 18 then numeral_of 16 (drop 2 word) else None)
     else numeral_of 10 word
@@ -59,7 +59,7 @@ if_below bound n = if nat_lt n bound then Some n else None
 
 -- the number of a word, where it is below the bound
 unfoldable pub number_below_of : ℕ → List ℕ → Option ℕ
-number_below_of bound word = option_and_then (if_below bound) (number_of word)
+number_below_of bound word = option_and_then (if_below bound) (number_of_word word)
 
 -- the number of a decimal word, where it is below the bound
 unfoldable pub decimal_below_of : ℕ → List ℕ → Option ℕ

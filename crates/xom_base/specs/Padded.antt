@@ -5,8 +5,8 @@ use Rattle.std.proofs.lemmas.List.{take-append-drop, length-take-le, length-appe
 use Rattle.std.proofs.Math.Seq.{drop-append_seam}
 
 -- the block of this size
-abbrev pub filled : ℕ → List ℕ → List ℕ
-filled size text = text ++ replicate (size - length text) 0
+abbrev pub padded_block : ℕ → List ℕ → List ℕ
+padded_block size text = text ++ replicate (size - length text) 0
 
 -- the block holds a text of this length
 pub record IsPadded (size len : ℕ) (block : List ℕ) : Type 0 where
@@ -23,7 +23,7 @@ length-text size len block padded =
 
 -- the block is its text, filled up again
 pub filled-text : (size len : ℕ) (block : List ℕ) → IsPadded size len block
-    → filled size (take len block) ≡ block
+    → padded_block size (take len block) ≡ block
 filled-text size len block padded =
     ap (λ n. take len block ++ replicate (size - n) 0) (length-text size len block padded)
     ∙ ap (λ zeros. take len block ++ zeros) (sym padded.zeros)

@@ -33,13 +33,13 @@ abbrev pub word_len : List ℕ → ℕ
 word_len line = position_or_len ends_word line
 
 -- the word at the front, if there is one, and what stands behind it
-abbrev pub word_at : List ℕ → Option (List ℕ × List ℕ)
-word_at line =
+abbrev pub word_in_front : List ℕ → Option (List ℕ × List ℕ)
+word_in_front line =
     if word_len line == 0 then None else Some (take (word_len line) line, drop (word_len line) line)
 
 -- the first word of a line, if it has one, and what stands behind it
 abbrev pub next_of : List ℕ → Option (List ℕ × List ℕ)
-next_of line = word_at (past_blanks line)
+next_of line = word_in_front (past_blanks line)
 
 -- the words of a line, by the first one
 abbrev pub after_word : Option (List ℕ × List ℕ) → List (List ℕ)

@@ -2,7 +2,7 @@ ghost use Rattle.std.specs.Prelude.{◌≡◌, ◌<◌, ◌+◌, ◌∷◌, ◌+
 ghost use Rattle.std.specs.Option.{option_to_list};
 ghost use Rattle.xom_base.specs.declared.lines.LineFault.TheVariants as line_fault;
 ghost use Rattle.xom_base.specs.declared.lines.TextFault.TheVariants as text_fault;
-ghost use Rattle.xom_base.specs.Lines.{AnswersLine, Faults, lines_of, read_from, whole_from};
+ghost use Rattle.xom_base.specs.Lines.{AnswersLine, TextFaults, lines_of, read_from, whole_from};
 
 use crate::{NoMemory, cut};
 use std::alloc::Global;
@@ -82,7 +82,7 @@ pub fn read_lines<R: LineFormat>(
     reader: &mut R,
 ) -> Result<Vec<R::Item>, TextFault>
     ensures { let read = read_from R.step reader.old 1 (lines_of text.now) in
-        MatchResult result (λ values. read ≡ Ok (values.items, reader.new)) (λ fault. Faults read fault) }
+        MatchResult result (λ values. read ≡ Ok (values.items, reader.new)) (λ fault. TextFaults read fault) }
 {
     let (values, _) = read_counted(alloc, text, reader)?;
     Ok(values)
@@ -96,7 +96,7 @@ pub fn read_whole<R: WholeFormat>(
     reader: &mut R,
 ) -> Result<Vec<R::Item>, TextFault>
     ensures { let read = whole_from R.step R.may_end reader.old text.now in
-        MatchResult result (λ values. read ≡ Ok (values.items, reader.new)) (λ fault. Faults read fault) }
+        MatchResult result (λ values. read ≡ Ok (values.items, reader.new)) (λ fault. TextFaults read fault) }
 {
     let (values, number) = read_counted(alloc, text, reader)?;
     if reader.may_end() {
@@ -113,7 +113,7 @@ fn read_counted<R: LineFormat>(
     reader: &mut R,
 ) -> Result<(Vec<R::Item>, u64), TextFault>
     ensures value { let read = read_from R.step reader.old 1 (lines_of text.now) in
-        MatchResult result (λ found. read ≡ Ok (found.0.items, reader.new)) (λ fault. Faults read fault) }
+        MatchResult result (λ found. read ≡ Ok (found.0.items, reader.new)) (λ fault. TextFaults read fault) }
     ensures number { IfOk result (λ found. found.1 ≡ 1 + length (lines_of text.now)) }
 {
     let mut values = Vec::new(alloc);

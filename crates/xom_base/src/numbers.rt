@@ -1,21 +1,21 @@
 ghost use Rattle.std.specs.Prelude.{◌≡◌, ◌↔◌, ◌<◌, ◌≤◌, ◌^◌, ℕ, IsNone, IfSome, Some};
-ghost use Rattle.xom_base.specs.Numbers.{IsDecimal, IsNumber, Writes, WritesDecimal, decimal_below_of, numeral_of, number_of, number_below_of};
+ghost use Rattle.xom_base.specs.Numbers.{IsDecimal, IsNumber, WritesBelow, WritesDecimal, decimal_below_of, number_below_of, number_of_word, numeral_of};
 
 /// The number of a word: decimal digits, leading zeros allowed, below 2^64, or `0x` and 1 to 16
 /// hexadecimal digits in either case. None exactly where the word is no such number.
 pub fn number(word: &[u8]) -> Option<u64>
     ensures exact { (n : ℕ) → (result ≡ Some n) ↔ IsNumber word.now n }
     ensures none { IsNone result ↔ ((n : ℕ) → ¬ IsNumber word.now n) }
-    ensures value { result ≡ number_of word.now }
+    ensures value { result ≡ number_of_word word.now }
 {
     number_in(word)
 }
 
 /// The number of a word, where it is below a bound.
 pub fn number_below(word: &[u8], bound: u64) -> Option<u64>
-    ensures exact { (n : ℕ) → (result ≡ Some n) ↔ Writes bound word.now n }
+    ensures exact { (n : ℕ) → (result ≡ Some n) ↔ WritesBelow bound word.now n }
     ensures small { IfSome result (λ n. n < bound) }
-    ensures none { IsNone result ↔ ((n : ℕ) → ¬ Writes bound word.now n) }
+    ensures none { IsNone result ↔ ((n : ℕ) → ¬ WritesBelow bound word.now n) }
     ensures value { result ≡ number_below_of bound word.now }
 {
     below(word, bound)
@@ -63,9 +63,9 @@ fn below(word: &[u8], bound: u64) -> Option<u64>
     number_in(word).filter(|n| *n < bound)
 }
 
-#[tactic(auto, unfolding(crate::specs::Numbers::number_of))]
+#[tactic(auto, unfolding(crate::specs::Numbers::number_of_word))]
 fn number_in(word: &[u8]) -> Option<u64>
-    ensures { result ≡ number_of word.now }
+    ensures { result ≡ number_of_word word.now }
 {
     if word.starts_with(b"0x") {
         if word.len() <= 18 {

@@ -1,5 +1,5 @@
 ghost use Rattle.std.specs.Prelude.{◌≡◌, ◌≤◌, ◌<◌, ◌==◌, length};
-ghost use Rattle.xom_base.specs.Padded.{filled};
+ghost use Rattle.xom_base.specs.Padded.{padded_block};
 
 use std::marker::Model;
 
@@ -18,7 +18,7 @@ pub type Block = Payload<260>;
 
 impl<const N: usize> Model for Payload<N> {
     ghost use Rattle.std.specs.Prelude.{List, ℕ, length, take};
-    ghost use Rattle.xom_base.specs.Padded.{IsPadded, filled, filled-text, length-text, same_at_both};
+    ghost use Rattle.xom_base.specs.Padded.{IsPadded, filled-text, length-text, padded_block, same_at_both};
 
     ghost Value = { List ℕ };
 
@@ -27,7 +27,7 @@ impl<const N: usize> Model for Payload<N> {
     // Behind the text there are zeros, so that one text has one representation.
     ghost invariant = { λ s. IsPadded N s.len s.bytes };
 
-    ghost inverse = { λ text. record { bytes = filled N text; len = length text } };
+    ghost inverse = { λ text. record { bytes = padded_block N text; len = length text } };
 
     ghost inverse_ok = { λ s padded. same_at_both (λ b n. record { bytes = b; len = n }) (filled-text N s.len s.bytes padded) (length-text N s.len s.bytes padded) };
 }

@@ -6,7 +6,7 @@ use Rattle.xom_io.specs.declared.files.FileFault.{FileFault}
 use Rattle.xom_io.specs.declared.files.FileFault.TheVariants as file_fault
 use Rattle.xom_io.specs.declared.sink.SinkFault.{SinkFault}
 use Rattle.xom_io.specs.declared.sink.SinkFault.TheVariants as sink_fault
-use Rattle.xom_io.specs.Answers.{Appends, KeepsOthers, Rises, TakesAll, Told}
+use Rattle.xom_io.specs.Answers.{Appends, FilesTold, KeepsOthers, Rises, TakesAll}
 use Rattle.cli_base.specs.declared.answer.Answer.{Answer}
 use Rattle.cli_base.specs.declared.answer.OutputFile.{OutputFile}
 use Rattle.xom_cli.specs.Endings.{Disk, PutsFile}
@@ -59,7 +59,7 @@ takes-prefix old new text before after (Err sink_fault.NoMemory) takes = (takes.
 
 -- ---- the files
 
-keeps-self : (told : Told) (name : List ℕ) → KeepsOthers told told name
+keeps-self : (told : FilesTold) (name : List ℕ) → KeepsOthers told told name
 keeps-self None name = tt
 keeps-self (Some held) name = λ other differs. refl
 
@@ -76,7 +76,7 @@ same-count before after same rises =
     let is : after.writes ≡ before.writes = ap (λ (d : Disk). d.writes) same in omega arith
 
 -- what two files tell is the same
-abbrev Same : Told → Told → Type 0
+abbrev Same : FilesTold → FilesTold → Type 0
 Same a b = a ≡ b
 
 untold-changes : (target : Option (List ℕ))
@@ -85,7 +85,7 @@ untold-changes None = refl
 untold-changes (Some name) = tt
 
 -- the file that a command answers is the one that its words name
-told-changes : (row : Row) (answer : Answer) (file : OutputFile) (old new : Told)
+told-changes : (row : Row) (answer : Answer) (file : OutputFile) (old new : FilesTold)
     → ((held : Held) → old ≡ Some held → IsOutcome row held (Ok answer)) → answer.file ≡ Some file
     → KeepsOthers old new file.name
     → MatchOption (target_of row) (new ≡ old) (KeepsOthers old new)

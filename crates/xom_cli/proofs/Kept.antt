@@ -5,7 +5,7 @@ use Rattle.xom_io.specs.declared.files.FileFault.{FileFault}
 use Rattle.xom_io.specs.declared.files.FileFault.TheVariants as file_fault
 use Rattle.xom_io.specs.declared.sink.SinkFault.{SinkFault}
 use Rattle.xom_io.specs.declared.sink.SinkFault.TheVariants as sink_fault
-use Rattle.xom_io.specs.Answers.{Appends, KeepsOthers, Rises, TakesAll, Told}
+use Rattle.xom_io.specs.Answers.{Appends, FilesTold, KeepsOthers, Rises, TakesAll}
 use Rattle.cli_base.specs.declared.answer.Answer.{Answer}
 use Rattle.xom_cli.specs.declared.ending.Ending.{Ending}
 use Rattle.xom_cli.specs.declared.ending.Ending.TheVariants as ending
@@ -17,17 +17,17 @@ use Rattle.cli_runs.specs.declared.parts.Parts.{Parts}
 use Rattle.cli_runs.specs.Parts.{parts_of}
 use Rattle.xom_cli.specs.Endings.{Disk, Ends, EndsRow, EndsWords, Finishes, IsSilent, Output, Outside, PrintsBehind, PutsFile, RowFollows, ending_after, ending_of_refusal, status_of}
 use Rattle.cli_base.specs.Commands.{IsDone}
-use Rattle.cli_base.specs.Inputs.{Held, without}
+use Rattle.cli_base.specs.Inputs.{Held, held_without}
 use Rattle.xom_cli.specs.Outcome.{IsOutcome, IsPrinted, IsPrintedBy, Printed, printed_text, printed_words}
 use Rattle.xom_cli.specs.Promises.{AsksForRun, ChangesOnly, FailsWriting, IsReadBy, IsUnprinted, IsJudged, IsUnput, Promises, WritesFile, WritesPrefix, WritesWhole, target_in}
-use Rattle.cli_base.specs.Readings.{IsRead, Meets, Refuses}
-use Rattle.cli_base.specs.Refusals.{line_of, refusal_status, words_line}
-use Rattle.xom_cli.specs.Rows.{Row, Run, Trace, Judge, Debug, row_of, target_of}
+use Rattle.cli_base.specs.Readings.{FilesRefuse, IsRead, Meets}
+use Rattle.cli_base.specs.Refusals.{refusal_status, refusal_text, words_line}
+use Rattle.xom_cli.specs.Rows.{Debug, Judge, Row, Run, Trace, row_of_words, target_of}
 use Rattle.xom_debug.specs.declared.command.Command.{Command}
-use Rattle.cli_debug.specs.Debug.{commands_of, debugged, text_by}
+use Rattle.cli_debug.specs.Debug.{commands_of, debug_answer, text_by}
 use Rattle.cli_trace.specs.Console.{console_of}
 use Rattle.cli_trace.specs.Run.{console_run}
-use Rattle.cli_trace.specs.Trace.{GuestsFollow, NamesFinding, journal_file, last_record, report_of, trace_of, trace_text, traced}
+use Rattle.cli_trace.specs.Trace.{GuestsFollow, NamesFinding, journal_file, last_record, report_of, trace_answer, trace_of, trace_text}
 use Rattle.xom_cli.proofs.Delivered.{done_not_1, done_not_2, done_not_3, done_not_4, done_not_5, fails-rising, lacks-count, lacks-held, never-long, puts-changes, puts-count, puts-file, puts-nothing, same-changes, same-count, takes-prefix}
 use Rattle.cli_trace.proofs.Statuses.{nine-names}
 use Rattle.xom_cli.proofs.Targets.{debug-answer, journal-text, judge-answer, parts-traced, run-answer, trace-answer}
@@ -136,7 +136,7 @@ module _ (words : List (List ℕ)) (before after : Outside) where
   whole_put said (Err sink_fault.NoMemory) takes found calm = absurd (found refl)
 
   -- ---- words that match no row
-  module _ (none : row_of words ≡ None) where
+  module _ (none : row_of_words words ≡ None) where
     words_printed : (held : Held) → IsPrinted words held printed_words
     unfolding IsPrinted
     words_printed held = subst (λ o. IsPrintedBy o held printed_words) (sym none) refl
@@ -190,14 +190,14 @@ module _ (words : List (List ℕ)) (before after : Outside) where
         no_memory (words_prefix same (Err sink_fault.NoMemory) takes) (same_leaves same)
 
   -- ---- words of a row
-  module _ (row : Row) (is_row : row_of words ≡ Some row) where
+  module _ (row : Row) (is_row : row_of_words words ≡ Some row) where
     row_printed : (held : Held) (result : Result Answer Refusal) → IsOutcome row held result
         → IsPrinted words held (printed_text result)
     unfolding IsPrinted
     row_printed held result is =
         subst (λ o. IsPrintedBy o held (printed_text result)) (sym is_row) (result, is, refl)
 
-    has_row : ¬ (row_of words ≡ None)
+    has_row : ¬ (row_of_words words ≡ None)
     has_row none = cc
 
     row_target : target_in words ≡ target_of row
@@ -265,13 +265,13 @@ module _ (words : List (List ℕ)) (before after : Outside) where
       }
 
       -- the command is that of this row
-      is_wanted : (asked : Row) → row_of words ≡ Some asked → (held : Held)
+      is_wanted : (asked : Row) → row_of_words words ≡ Some asked → (held : Held)
           → before.disk.held ≡ Some held → IsOutcome asked held (Ok answer)
       is_wanted asked named held told =
           let same : row ≡ asked = cc in
           subst (λ r. IsOutcome r held (Ok answer)) same (wanted held told)
 
-      as_asked : (asked : Row) → row_of words ≡ Some asked → RowFollows before.disk.held asked
+      as_asked : (asked : Row) → row_of_words words ≡ Some asked → RowFollows before.disk.held asked
       as_asked asked named =
           let same : row ≡ asked = cc in
           subst (RowFollows before.disk.held) same follows
@@ -279,12 +279,12 @@ module _ (words : List (List ℕ)) (before after : Outside) where
       headline_here : Appends before.output.written after.output.written answer.text
           → WritesFile before.disk after.disk answer.file → (held : Held)
           → before.disk.held ≡ Some held → (run : List ℕ) (journal : Option (List ℕ))
-          → row_of words ≡ Some (Trace run journal)
+          → row_of_words words ≡ Some (Trace run journal)
           → (parts : Parts) × (parts_of held run ≡ Ok parts) × Appends before.output.written
           after.output.written (trace_text (report_of parts) (last_record parts))
           × WritesFile before.disk after.disk
           (journal_file journal (last_record parts).core.entries) × GuestsFollow parts
-      unfolding traced
+      unfolding trace_answer
       headline_here whole put held told run journal named =
           let found = trace-answer held run journal answer (is_wanted (Trace run journal) named held
           told) in (
@@ -297,13 +297,13 @@ module _ (words : List (List ℕ)) (before after : Outside) where
           )
 
       console_here : Appends before.output.written after.output.written answer.text → (held : Held)
-          → before.disk.held ≡ Some held → (run : List ℕ) → row_of words ≡ Some (Run run)
+          → before.disk.held ≡ Some held → (run : List ℕ) → row_of_words words ≡ Some (Run run)
           → (parts : Parts) × (parts_of held run ≡ Ok parts)
-          × (trace_of held run None ≡ Ok (traced None parts))
-          × (answer.status ≡ (traced None parts).status)
+          × (trace_of held run None ≡ Ok (trace_answer None parts))
+          × (answer.status ≡ (trace_answer None parts).status)
           × Appends before.output.written after.output.written
           (console_of (last_record parts).core.entries) × GuestsFollow parts
-      unfolding traced console_run
+      unfolding trace_answer console_run
       console_here whole held told run named =
           let found = run-answer held run answer (is_wanted (Run run) named held told) in (
             found.0,
@@ -318,7 +318,7 @@ module _ (words : List (List ℕ)) (before after : Outside) where
       finding_here : answer.status ≡ 9 → (held : Held) → before.disk.held ≡ Some held
           → (run : List ℕ) → AsksForRun words run
           → (parts : Parts) × (parts_of held run ≡ Ok parts) × NamesFinding (report_of parts)
-      unfolding traced console_run
+      unfolding trace_answer console_run
       finding_here nine held told run (inl named) =
           let found = run-answer held run answer (is_wanted (Run run) named held told) in (
             found.0,
@@ -337,7 +337,7 @@ module _ (words : List (List ℕ)) (before after : Outside) where
 
       judges_here : Appends before.output.written after.output.written answer.text → (held : Held)
           → before.disk.held ≡ Some held → (run journal : List ℕ)
-          → row_of words ≡ Some (Judge run journal)
+          → row_of_words words ≡ Some (Judge run journal)
           → IsJudged held before after run journal answer.status
       judges_here whole held told run journal named =
           let found = judge-answer held run journal answer (is_wanted (Judge run journal) named held
@@ -359,12 +359,12 @@ module _ (words : List (List ℕ)) (before after : Outside) where
 
       debugs_here : Appends before.output.written after.output.written answer.text → (held : Held)
           → before.disk.held ≡ Some held → (run commands : List ℕ)
-          → row_of words ≡ Some (Debug run commands)
+          → row_of_words words ≡ Some (Debug run commands)
           → (parts : Parts) × (list : List Command) × (parts_of held run ≡ Ok parts)
           × (commands_of held commands ≡ Ok list) × (answer.status ≡ 0)
           × Appends before.output.written after.output.written
           (text_by parts.file parts.guests parts.kernel list)
-      unfolding debugged
+      unfolding debug_answer
       debugs_here whole held told run commands named =
           let found = debug-answer held run commands answer (is_wanted (Debug run commands) named
           held told) in (
@@ -513,14 +513,14 @@ module _ (words : List (List ℕ)) (before after : Outside) where
       bad_printed held told = row_printed held (Err refusal) (wanted held told)
 
       bad_prefix : (put : Result (Unit {0}) SinkFault)
-          → Took before.output after.output (line_of refusal) put → WritesPrefix words before after
+          → Took before.output after.output (refusal_text refusal) put → WritesPrefix words before after
       bad_prefix put takes =
-          part_prefix (line_of refusal)
+          part_prefix (refusal_text refusal)
           (λ held told. (printed_text (Err refusal), bad_printed held told, no_file same, refl))
           put takes
 
       bad_said : (put : Result (Unit {0}) SinkFault) → put ≢ Err sink_fault.NoMemory
-          → Took before.output after.output (line_of refusal) put → Promises words before after 4
+          → Took before.output after.output (refusal_text refusal) put → Promises words before after 4
       bad_said put found takes = record {
         answers = inr (inr (inr (inr (inl refl))));
         words_cause = record {
@@ -542,7 +542,7 @@ module _ (words : List (List ℕ)) (before after : Outside) where
           printed_text (Err refusal),
           bad_printed held told,
           whole_put
-              (line_of refusal) put takes found (λ rises. calm (inl rises)),
+              (refusal_text refusal) put takes found (λ rises. calm (inl rises)),
           ap (λ (d : Disk). d.held)
               same,
         );
@@ -561,7 +561,7 @@ module _ (words : List (List ℕ)) (before after : Outside) where
       }
 
       bad_end : (put : Result (Unit {0}) SinkFault)
-          → Took before.output after.output (line_of refusal) put
+          → Took before.output after.output (refusal_text refusal) put
           → Promises words before after
           (status_of (ending_after ending.BadInput ending.BadInput put))
       bad_end (Ok done) takes = bad_said (Ok done) (λ e. absurd (cc)) takes
@@ -577,17 +577,17 @@ module _ (words : List (List ℕ)) (before after : Outside) where
         (IsOutcome row) name) where
       -- the command reads it
       read_by : (held : Held) → before.disk.held ≡ Some held → IsReadBy words held name
-      read_by held told = row_printed (without name held) (Err (Unread name)) (is_read held told)
+      read_by held told = row_printed (held_without name held) (Err (Unread name)) (is_read held told)
 
       -- where it is told what files hold
-      told-lacks : (o : Told) (held : Held) → o ≡ Some held
+      told-lacks : (o : FilesTold) (held : Held) → o ≡ Some held
           → IsSomeAnd o (λ h. IsOutcome row h (Err (Unread name)))
           → IsOutcome row held (Err (Unread name))
       told-lacks None held told lacks = absurd lacks
       told-lacks (Some h) held told lacks =
           subst (λ x. IsOutcome row x (Err (Unread name))) (let here : h ≡ held = cc in here) lacks
 
-      lacks-file : (o : Told) → IsSomeAnd o (λ h. IsOutcome row h (Err (Unread name)))
+      lacks-file : (o : FilesTold) → IsSomeAnd o (λ h. IsOutcome row h (Err (Unread name)))
           → IsSomeAnd o (λ held. (n : List ℕ) × (held n ≡ None) × IsPrinted words held
           (printed_text (Err (Unread n))))
       lacks-file None lacks = absurd lacks
@@ -604,10 +604,10 @@ module _ (words : List (List ℕ)) (before after : Outside) where
       ]
 
       unread_prefix : (put : Result (Unit {0}) SinkFault)
-          → Took before.output after.output (line_of (Unread name)) put
+          → Took before.output after.output (refusal_text (Unread name)) put
           → WritesPrefix words before after
       unread_prefix put takes held told =
-          let part = takes-prefix _ _ (line_of (Unread name)) _ _ put takes in
+          let part = takes-prefix _ _ (refusal_text (Unread name)) _ _ put takes in
           elim cause [
             | inl rises ↦ inr (inr (rises, (name, read_by held told, (part.0, part.1))))
             | inr lacks ↦ inr (inl (
@@ -620,7 +620,7 @@ module _ (words : List (List ℕ)) (before after : Outside) where
           ]
 
       unread_said : (put : Result (Unit {0}) SinkFault) → put ≢ Err sink_fault.NoMemory
-          → Took before.output after.output (line_of (Unread name)) put
+          → Took before.output after.output (refusal_text (Unread name)) put
           → Promises words before after 2
       unread_said put found takes = record {
         answers = inr (inr (inl refl));
@@ -638,7 +638,7 @@ module _ (words : List (List ℕ)) (before after : Outside) where
           refl,
           λ calm. (
             name,
-            whole_put (line_of (Unread name)) put takes
+            whole_put (refusal_text (Unread name)) put takes
                 found calm,
             read_by,
           ),
@@ -656,7 +656,7 @@ module _ (words : List (List ℕ)) (before after : Outside) where
           printed_text (Err (Unread name)),
           unread_printed held told
               stays,
-          whole_put (line_of (Unread name)) put takes found (λ rises. calm (inl rises)),
+          whole_put (refusal_text (Unread name)) put takes found (λ rises. calm (inl rises)),
           ap (λ (d : Disk). d.held) same,
         );
         prefix = unread_prefix put takes;
@@ -674,7 +674,7 @@ module _ (words : List (List ℕ)) (before after : Outside) where
       }
 
       unread_end : (put : Result (Unit {0}) SinkFault)
-          → Took before.output after.output (line_of (Unread name)) put
+          → Took before.output after.output (refusal_text (Unread name)) put
           → Promises words before after (status_of (ending_after ending.Unread ending.Unread put))
       unread_end (Ok done) takes = unread_said (Ok done) (λ e. absurd (cc)) takes
       unread_end (Err sink_fault.Failed) takes =
@@ -684,9 +684,9 @@ module _ (words : List (List ℕ)) (before after : Outside) where
 
     -- ---- whatever was answered
     refusal_end : (refusal : Refusal) → after.disk ≡ before.disk
-        → Refuses before.disk.held (IsOutcome row) before.reads after.reads refusal
+        → FilesRefuse before.disk.held (IsOutcome row) before.reads after.reads refusal
         → (put : Result (Unit {0}) SinkFault)
-        → Took before.output after.output (line_of refusal) put
+        → Took before.output after.output (refusal_text refusal) put
         → Promises words before after
         (status_of (ending_after (ending_of_refusal refusal) (ending_of_refusal refusal) put))
     refusal_end (Unread name) same why put takes = unread_end name same why.1 why.2 put takes
@@ -710,7 +710,7 @@ module _ (words : List (List ℕ)) (before after : Outside) where
     row_end (Err stop.NoMemory) gives result finishes follows = silent finishes.0 result finishes.1
 
   -- ---- every call
-  any_end : (at : Option Row) → row_of words ≡ at → (result : Ending)
+  any_end : (at : Option Row) → row_of_words words ≡ at → (result : Ending)
       → MatchOption at (EndsWords before after result) (λ row. EndsRow before after row result)
       → Promises words before after (status_of result)
   any_end None is result ends =
@@ -720,4 +720,4 @@ module _ (words : List (List ℕ)) (before after : Outside) where
 
   pub promises_kept : (result : Ending) → Ends words before after result
       → Promises words before after (status_of result)
-  promises_kept result ends = any_end (row_of words) refl result ends
+  promises_kept result ends = any_end (row_of_words words) refl result ends

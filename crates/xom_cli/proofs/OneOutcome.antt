@@ -7,11 +7,11 @@ use Rattle.mips_asm.proofs.OneOutcome.{not_both, one_fault, one_image}
 use Rattle.cli_base.specs.declared.answer.Answer.{Answer}
 use Rattle.cli_base.specs.declared.refusal.Refusal.{Refusal}
 use Rattle.cli_programs.specs.Assembly.{AssemblesRead, AssemblesText, image_answer, said_of}
-use Rattle.cli_base.specs.Inputs.{Held, fetched}
+use Rattle.cli_base.specs.Inputs.{Held, file_or_refusal}
 use Rattle.cli_programs.specs.Programs.{source_limit}
 use Rattle.xom_cli.specs.Laws.{HaveOneOutcome}
 use Rattle.xom_cli.specs.Outcome.{IsOutcome, IsPrinted, IsPrintedBy, Printed, printed_text}
-use Rattle.xom_cli.specs.Rows.{Row, Asm, Disasm, Plain, Seal, Run, Trace, Judge, Debug, row_of}
+use Rattle.xom_cli.specs.Rows.{Asm, Debug, Disasm, Judge, Plain, Row, Run, Seal, Trace, row_of_words}
 
 same-some : (o : Option Refusal) (a b : Refusal) → o ≡ Some a → o ≡ Some b → a ≡ b
 same-some o a b p q = cc
@@ -45,7 +45,7 @@ read-one source target (Err refusal) x y p q = p ∙ sym q
 row-one : (row : Row) (held : Held) (x y : Result Answer Refusal) → IsOutcome row held x
     → IsOutcome row held y → x ≡ y
 row-one (Asm source target) held x y p q =
-    read-one source target (fetched held source source_limit) x y p q
+    read-one source target (file_or_refusal held source source_limit) x y p q
 row-one (Disasm image) held x y p q = sym p ∙ q
 row-one (Plain image steps received) held x y p q = sym p ∙ q
 row-one (Seal image key id machine sealed) held x y p q = sym p ∙ q
@@ -62,4 +62,4 @@ printed-one (Some row) held p q a b =
 
 pub one_outcome : HaveOneOutcome
 unfolding IsPrinted
-one_outcome words held p q a b = printed-one (row_of words) held p q a b
+one_outcome words held p q a b = printed-one (row_of_words words) held p q a b

@@ -12,22 +12,22 @@ use Rattle.cli_base.specs.declared.refusal.Refusal.TheVariants.{Bad}
 use Rattle.cli_runs.specs.declared.parts.Parts.{Parts}
 use Rattle.cli_runs.specs.Parts.{parts_of}
 use Rattle.cli_programs.specs.Assembly.{AssemblesRead}
-use Rattle.cli_base.specs.Inputs.{◌>>=◌, Held, fetched, fetched_bytes, image_of, in_file, in_lines}
+use Rattle.cli_base.specs.Inputs.{Held, fetched_bytes, file_or_refusal, image_of, in_file, in_lines, ◌>>=◌}
 use Rattle.cli_programs.specs.Programs.{source_limit}
 use Rattle.xom_cli.specs.Outcome.{IsOutcome}
-use Rattle.cli_programs.specs.Programs.{disasm_of, plain_of, seal_of, values_of}
+use Rattle.cli_programs.specs.Programs.{disasm_of, plain_of, seal_answer, values_of}
 use Rattle.xom_cli.specs.Rows.{Row, Asm, Disasm, Plain, Seal, Run, Trace, Judge, Debug, target_of}
 use Rattle.journal_text.specs.Readings.{IsJournal}
-use Rattle.cli_debug.specs.Debug.{commands_of, debug_of, debugged}
+use Rattle.cli_debug.specs.Debug.{commands_of, debug_answer, debug_of}
 use Rattle.cli_judge.proofs.Grammar.{entries-are}
-use Rattle.cli_judge.specs.Judge.{entries_at, journal_limit, journal_of, judge_of, judged}
+use Rattle.cli_judge.specs.Judge.{entries_at, journal_limit, journal_of, judge_answer, judge_of}
 use Rattle.cli_runs.specs.OwnerImages.{owners_of}
 use Rattle.cli_runs.specs.RunFiles.{run_file_of}
-use Rattle.cli_trace.specs.Run.{console_run, run_of}
+use Rattle.cli_trace.specs.Run.{console_run, run_answer}
 use Rattle.xom_debug.specs.declared.command.Command.{Command}
 use Rattle.xom_owners.specs.declared.owner.Owner.{Owner}
 use Rattle.xom_script.specs.declared.run_file.RunFile.{RunFile}
-use Rattle.cli_trace.specs.Trace.{journal_file, last_record, trace_of, traced}
+use Rattle.cli_trace.specs.Trace.{journal_file, last_record, trace_answer, trace_of}
 
 -- where two steps answer, the first did, and the second of what it gave
 pub bind-ok : {A B : Type 0} (o : Result A Refusal) (f : A → Result B Refusal) (value : B)
@@ -38,10 +38,10 @@ bind-ok (Err refusal) f value is = absurd (cc)
 -- the answer of a trace is that of its parts
 pub trace-answer : (held : Held) (run : List ℕ) (journal : Option (List ℕ)) (answer : Answer)
     → trace_of held run journal ≡ Ok answer
-    → (parts : Parts) × (parts_of held run ≡ Ok parts) × (answer ≡ traced journal parts)
+    → (parts : Parts) × (parts_of held run ≡ Ok parts) × (answer ≡ trace_answer journal parts)
 unfolding trace_of
 trace-answer held run journal answer is =
-    let found = bind-ok (parts_of held run) (λ parts. Ok (traced journal parts)) answer is in
+    let found = bind-ok (parts_of held run) (λ parts. Ok (trace_answer journal parts)) answer is in
     (found.0, found.1, let last = found.2 in cc)
 
 journal_file-name : (journal : Option (List ℕ)) (entries : List Entry) (file : OutputFile)
@@ -50,8 +50,8 @@ journal_file-name None entries file is = absurd (cc)
 journal_file-name (Some name) entries file is = cc
 
 traced-file : (journal : Option (List ℕ)) (parts : Parts) (file : OutputFile)
-    → (traced journal parts).file ≡ Some file → journal ≡ Some file.name
-unfolding traced
+    → (trace_answer journal parts).file ≡ Some file → journal ≡ Some file.name
+unfolding trace_answer
 traced-file journal parts file is =
     journal_file-name journal (last_record parts).core.entries file is
 
@@ -63,9 +63,9 @@ trace-file held run journal answer file is written =
     traced-file journal found.0 file (sym (ap (λ (a : Answer). a.file) found.2) ∙ written)
 
 -- the answer of `run` is that of its parts
-pub run-answer : (held : Held) (run : List ℕ) (answer : Answer) → run_of held run ≡ Ok answer
+pub run-answer : (held : Held) (run : List ℕ) (answer : Answer) → run_answer held run ≡ Ok answer
     → (parts : Parts) × (parts_of held run ≡ Ok parts) × (answer ≡ console_run parts)
-unfolding run_of
+unfolding run_answer
 run-answer held run answer is =
     let found = bind-ok (parts_of held run) (λ parts. Ok (console_run parts)) answer is in
     (found.0, found.1, let last = found.2 in cc)
@@ -74,7 +74,7 @@ console_run-file : (parts : Parts) → (console_run parts).file ≡ None
 unfolding console_run
 console_run-file parts = refl
 
-run-file : (held : Held) (run : List ℕ) (answer : Answer) → run_of held run ≡ Ok answer
+run-file : (held : Held) (run : List ℕ) (answer : Answer) → run_answer held run ≡ Ok answer
     → answer.file ≡ None
 run-file held run answer is =
     let found = run-answer held run answer is in
@@ -82,16 +82,16 @@ run-file held run answer is =
 
 -- where the parts are read, they are traced
 pub parts-traced : (held : Held) (run : List ℕ) (journal : Option (List ℕ)) (parts : Parts)
-    → parts_of held run ≡ Ok parts → trace_of held run journal ≡ Ok (traced journal parts)
+    → parts_of held run ≡ Ok parts → trace_of held run journal ≡ Ok (trace_answer journal parts)
 unfolding trace_of
-parts-traced held run journal parts is = ap (λ read. read >>= (λ p. Ok (traced journal p))) is
+parts-traced held run journal parts is = ap (λ read. read >>= (λ p. Ok (trace_answer journal p))) is
 
 -- the answer of `judge` is that of the run file, its owners and the journal
 pub judge-answer : (held : Held) (run journal : List ℕ) (answer : Answer)
     → judge_of held run journal ≡ Ok answer
     → (file : RunFile) × (owners : List Owner) × (entries : List Entry)
     × (run_file_of held run ≡ Ok file) × (owners_of held file.owners ≡ Ok owners)
-    × (journal_of held journal ≡ Ok entries) × (answer ≡ judged file.machine owners entries)
+    × (journal_of held journal ≡ Ok entries) × (answer ≡ judge_answer file.machine owners entries)
 unfolding judge_of
 judge-answer held run journal answer is =
     let file = bind-ok (run_file_of held run) _ answer is in
@@ -108,15 +108,15 @@ judge-file held run journal answer is =
 pub debug-answer : (held : Held) (run commands : List ℕ) (answer : Answer)
     → debug_of held run commands ≡ Ok answer
     → (parts : Parts) × (list : List Command) × (parts_of held run ≡ Ok parts)
-    × (commands_of held commands ≡ Ok list) × (answer ≡ debugged parts list)
+    × (commands_of held commands ≡ Ok list) × (answer ≡ debug_answer parts list)
 unfolding debug_of
 debug-answer held run commands answer is =
     let parts = bind-ok (parts_of held run) _ answer is in
     let list = bind-ok (commands_of held commands) _ answer parts.2 in
     (parts.0, list.0, parts.1, list.1, let last = list.2 in cc)
 
-debugged-file : (parts : Parts) (list : List Command) → (debugged parts list).file ≡ None
-unfolding debugged
+debugged-file : (parts : Parts) (list : List Command) → (debug_answer parts list).file ≡ None
+unfolding debug_answer
 debugged-file parts list = refl
 
 debug-file : (held : Held) (run commands : List ℕ) (answer : Answer)
@@ -133,9 +133,9 @@ bytes-text name text limit (Some bytes) is =
     elim (nat_le (length bytes) limit) as (λ b. cond b (Ok bytes) (Err (Bad name TooLong)) ≡ Ok text
     → Some bytes ≡ Some text) [ true ↦ λ ok. cc | false ↦ λ long. absurd (cc) ] is
 
-fetched-text : (held : Held) (name text : List ℕ) (limit : ℕ) → fetched held name limit ≡ Ok text
+fetched-text : (held : Held) (name text : List ℕ) (limit : ℕ) → file_or_refusal held name limit ≡ Ok text
     → held name ≡ Some text
-unfolding fetched
+unfolding file_or_refusal
 fetched-text held name text limit is = bytes-text name text limit (held name) is
 
 entries-text : (name text : List ℕ) (entries : List Entry) (read : Result (List Entry) ℕ)
@@ -148,7 +148,7 @@ pub journal-text : (held : Held) (name : List ℕ) (entries : List Entry)
     → (text : List ℕ) × (held name ≡ Some text) × IsJournal text entries
 unfolding journal_of
 journal-text held name entries is =
-    let read = bind-ok (fetched held name journal_limit) _ entries is in (
+    let read = bind-ok (file_or_refusal held name journal_limit) _ entries is in (
       read.0,
       fetched-text held name read.0 journal_limit read.1,
       entries-are read.0 entries
@@ -176,9 +176,9 @@ plain-file held image steps received answer is =
 
 seal-file : (held : Held) (image : List ℕ) (key : Key256) (id : ImageId) (machine : Key256)
     (sealed : List ℕ) (answer : Answer) (file : OutputFile)
-    → seal_of held image key id machine sealed ≡ Ok answer → answer.file ≡ Some file
+    → seal_answer held image key id machine sealed ≡ Ok answer → answer.file ≡ Some file
     → file.name ≡ sealed
-unfolding seal_of
+unfolding seal_answer
 seal-file held image key id machine sealed answer file is written =
     let last = (bind-ok (image_of held image) _ answer is).2 in cc
 
@@ -186,7 +186,7 @@ pub target-written : (row : Row) (held : Held) (answer : Answer) (file : OutputF
     → IsOutcome row held (Ok answer) → answer.file ≡ Some file → target_of row ≡ Some file.name
 target-written (Asm source target) held answer file is written =
     ap Some
-    (sym (asm_read-file source target (fetched held source source_limit) answer file is written))
+    (sym (asm_read-file source target (file_or_refusal held source source_limit) answer file is written))
 target-written (Disasm image) held answer file is written =
     let none = disasm-file held image answer is in absurd (cc)
 target-written (Plain image steps received) held answer file is written =

@@ -9,10 +9,10 @@ use Rattle.cli_base.specs.declared.refusal.Refusal.{Refusal}
 use Rattle.cli_base.specs.declared.refusal.Refusal.TheVariants.{Unread, Bad}
 use Rattle.cli_programs.specs.Assembly.{Assembles, AssemblesRead}
 use Rattle.cli_programs.proofs.Assembled.{said-unread}
-use Rattle.cli_base.specs.Inputs.{◌>>=◌, Held, fetched, fetched_bytes, image_of, in_file, input_of}
-use Rattle.cli_programs.specs.Programs.{received_of, source_limit}
+use Rattle.cli_base.specs.Inputs.{Held, fetched_bytes, file_or_refusal, image_of, in_file, input_of, ◌>>=◌}
+use Rattle.cli_programs.specs.Programs.{received_values, source_limit}
 use Rattle.xom_cli.specs.Outcome.{IsOutcome}
-use Rattle.cli_programs.specs.Programs.{disasm_of, plain_of, seal_of, values_of}
+use Rattle.cli_programs.specs.Programs.{disasm_of, plain_of, seal_answer, values_of}
 use Rattle.xom_cli.specs.Rows.{Row, Asm, Disasm, Plain, Seal, Run, Trace, Judge, Debug}
 use Rattle.cli_debug.specs.Debug.{commands_of, debug_of}
 use Rattle.cli_judge.specs.Judge.{journal_of, judge_of}
@@ -20,12 +20,12 @@ use Rattle.cli_runs.specs.OwnerImages.{owners_of}
 use Rattle.cli_runs.specs.Parts.{parts_of}
 use Rattle.cli_runs.specs.RunFiles.{run_file_of}
 use Rattle.cli_runs.proofs.Unread.{bind-err, fetched-unread, image-unread, input-unread, owners-unread, parts-unread, run_file-unread}
-use Rattle.cli_trace.specs.Run.{run_of}
+use Rattle.cli_trace.specs.Run.{run_answer}
 use Rattle.cli_trace.specs.Trace.{trace_of}
 
-received-unread : (held : Held) (n name : List ℕ) → received_of held n ≡ Err (Unread name)
+received-unread : (held : Held) (n name : List ℕ) → received_values held n ≡ Err (Unread name)
     → held name ≡ None
-unfolding received_of
+unfolding received_values
 received-unread held n name is = input-unread _ _ held n name is
 
 values-unread : (held : Held) (received : Option (List ℕ)) (name : List ℕ)
@@ -42,7 +42,7 @@ asm-unread : (held : Held) (source target name : List ℕ)
     → Assembles source target held (Err (Unread name)) → held name ≡ None
 asm-unread held source target name is =
     fetched-unread held source name source_limit
-    (asm_read-unread source target (fetched held source source_limit) name is)
+    (asm_read-unread source target (file_or_refusal held source source_limit) name is)
 
 disasm-unread : (held : Held) (image name : List ℕ) → disasm_of held image ≡ Err (Unread name)
     → held name ≡ None
@@ -67,8 +67,8 @@ plain-unread held image steps received name is =
 
 seal-unread : (held : Held) (image : List ℕ) (key : Key256) (id : ImageId) (machine : Key256)
     (sealed name : List ℕ)
-    → seal_of held image key id machine sealed ≡ Err (Unread name) → held name ≡ None
-unfolding seal_of
+    → seal_answer held image key id machine sealed ≡ Err (Unread name) → held name ≡ None
+unfolding seal_answer
 seal-unread held image key id machine sealed name is =
     elim (bind-err (image_of held image) _ (Unread name) is) [
       | inl here ↦ image-unread held image name here
@@ -85,9 +85,9 @@ trace-unread held run journal name is = elim (bind-err (parts_of held run) _ (Un
   | inr parts ↦ absurd (let last = parts.2 in cc)
 ]
 
-run-unread : (held : Held) (run name : List ℕ) → run_of held run ≡ Err (Unread name)
+run-unread : (held : Held) (run name : List ℕ) → run_answer held run ≡ Err (Unread name)
     → held name ≡ None
-unfolding run_of
+unfolding run_answer
 run-unread held run name is = elim (bind-err (parts_of held run) _ (Unread name) is) [
   | inl here ↦ parts-unread held run name here
   | inr parts ↦ absurd (let last = parts.2 in cc)

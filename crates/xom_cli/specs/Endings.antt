@@ -4,7 +4,7 @@ use Rattle.xom_io.specs.declared.files.FileFault.{FileFault}
 use Rattle.xom_io.specs.declared.files.FileFault.TheVariants as file_fault
 use Rattle.xom_io.specs.declared.sink.SinkFault.{SinkFault}
 use Rattle.xom_io.specs.declared.sink.SinkFault.TheVariants as sink_fault
-use Rattle.xom_io.specs.Answers.{KeepsOthers, Puts, TakesAll, Told}
+use Rattle.xom_io.specs.Answers.{FilesTold, KeepsOthers, Puts, TakesAll}
 use Rattle.cli_base.specs.declared.answer.Answer.{Answer}
 use Rattle.cli_base.specs.declared.answer.OutputFile.{OutputFile}
 use Rattle.xom_cli.specs.declared.ending.Ending.{Ending}
@@ -16,13 +16,13 @@ use Rattle.cli_base.specs.declared.refusal.Stop.{Stop}
 use Rattle.cli_base.specs.declared.refusal.Stop.TheVariants as stop
 use Rattle.xom_cli.specs.Outcome.{IsOutcome}
 use Rattle.cli_base.specs.Readings.{Meets}
-use Rattle.cli_base.specs.Refusals.{line_of, words_line}
-use Rattle.xom_cli.specs.Rows.{Row, Asm, Disasm, Plain, Seal, Run, Trace, Judge, Debug, row_of}
+use Rattle.cli_base.specs.Refusals.{refusal_text, words_line}
+use Rattle.xom_cli.specs.Rows.{Asm, Debug, Disasm, Judge, Plain, Row, Run, Seal, Trace, row_of_words}
 use Rattle.cli_trace.specs.Trace.{RunFollows}
 
 -- what files tell, and their count of writes that failed
 pub record Disk : Type 0 where
-  pub held : Told
+  pub held : FilesTold
   pub writes : ℕ
 
 -- what a sink tells, and its count of faults
@@ -37,7 +37,7 @@ pub record Outside : Type 0 where
   pub output : Output
 
 -- each of them, from what is told and counted
-abbrev pub disk : Told → ℕ → Disk
+abbrev pub disk : FilesTold → ℕ → Disk
 disk held writes = record { held = held; writes = writes }
 
 abbrev pub output : Option (List ℕ) → ℕ → Output
@@ -110,7 +110,7 @@ Delivers disk_before disk_after before after answer result =
 abbrev pub PrintsRefusal : Output → Output → Refusal → Ending → Type 0
 PrintsRefusal before after refusal result =
     IsSilent before after ending.NoMemory result
-    ⊎ Prints before after (line_of refusal) (ending_of_refusal refusal)
+    ⊎ Prints before after (refusal_text refusal) (ending_of_refusal refusal)
     (ending_of_refusal refusal) result
 
 -- what was answered is delivered
@@ -123,7 +123,7 @@ Finishes disk_before disk_after before after (Err stop.NoMemory) result =
     (disk_after ≡ disk_before) × IsSilent before after ending.NoMemory result
 
 -- what owners may believe of a row's run, where its command makes one
-abbrev pub RowFollows : Told → Row → Type 0
+abbrev pub RowFollows : FilesTold → Row → Type 0
 RowFollows told (Asm source image) = Unit {0}
 RowFollows told (Disasm image) = Unit {0}
 RowFollows told (Plain image steps received) = Unit {0}
@@ -151,5 +151,5 @@ EndsWords before after result =
 -- a whole call
 abbrev pub Ends : List (List ℕ) → Outside → Outside → Ending → Type 0
 Ends words before after result =
-    MatchOption (row_of words) (EndsWords before after result)
+    MatchOption (row_of_words words) (EndsWords before after result)
     (λ row. EndsRow before after row result)

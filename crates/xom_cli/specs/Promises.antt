@@ -8,10 +8,10 @@ use Rattle.cli_runs.specs.Parts.{parts_of}
 use Rattle.cli_base.specs.declared.refusal.Refusal.TheVariants.{Unread}
 use Rattle.xom_cli.specs.Endings.{Disk, Outside}
 use Rattle.cli_base.specs.Commands.{IsDone}
-use Rattle.cli_base.specs.Inputs.{Held, without}
+use Rattle.cli_base.specs.Inputs.{Held, held_without}
 use Rattle.xom_cli.specs.Outcome.{IsPrinted, Printed, printed_text}
-use Rattle.cli_base.specs.Refusals.{line_of}
-use Rattle.xom_cli.specs.Rows.{Run, Trace, Judge, Debug, row_of, target_of}
+use Rattle.cli_base.specs.Refusals.{refusal_text}
+use Rattle.xom_cli.specs.Rows.{Debug, Judge, Run, Trace, row_of_words, target_of}
 use Rattle.xom_base.specs.declared.entry.Entry.{Entry}
 use Rattle.xom_owners.specs.declared.owner.Owner.{Owner}
 use Rattle.xom_script.specs.declared.run_file.RunFile.{RunFile}
@@ -24,7 +24,7 @@ use Rattle.cli_judge.specs.Judge.{judge_status}
 use Rattle.cli_runs.specs.OwnerImages.{owners_of}
 use Rattle.cli_runs.specs.RunFiles.{run_file_of}
 use Rattle.cli_trace.specs.Console.{console_of}
-use Rattle.cli_trace.specs.Trace.{GuestsFollow, NamesFinding, journal_file, last_record, report_of, trace_of, trace_text, traced}
+use Rattle.cli_trace.specs.Trace.{GuestsFollow, NamesFinding, journal_file, last_record, report_of, trace_answer, trace_of, trace_text}
 
 -- the statuses that there are
 abbrev pub IsStatus : ℕ → Type 0
@@ -33,8 +33,8 @@ IsStatus status =
 
 -- 1 exactly where the words match no row, unless memory ran out
 pub record WordsCause (words : List (List ℕ)) (status : ℕ) : Type 0 where
-  pub only : status ≡ 1 → row_of words ≡ None
-  pub sure : row_of words ≡ None → (status ≡ 1) ⊎ (status ≡ 5)
+  pub only : status ≡ 1 → row_of_words words ≡ None
+  pub sure : row_of_words words ≡ None → (status ≡ 1) ⊎ (status ≡ 5)
 
 -- 2 only where the count of reads rose or, where it is told, a file that is read isn't held
 abbrev pub ReadCause : List (List ℕ) → Outside → Outside → ℕ → Type 0
@@ -45,13 +45,13 @@ ReadCause words before after status =
 
 -- the command reads a file of this name: were it not held, that would be said
 abbrev pub IsReadBy : List (List ℕ) → Held → List ℕ → Type 0
-IsReadBy words held name = IsPrinted words (without name held) (printed_text (Err (Unread name)))
+IsReadBy words held name = IsPrinted words (held_without name held) (printed_text (Err (Unread name)))
 
 -- the line that says of a file that it can't be read was written; where it is told what files hold,
 -- the command reads that file
 abbrev pub SaysUnread : List (List ℕ) → Outside → Outside → Type 0
 SaysUnread words before after =
-    (name : List ℕ) × Appends before.output.written after.output.written (line_of (Unread name))
+    (name : List ℕ) × Appends before.output.written after.output.written (refusal_text (Unread name))
     × ((held : Held) → before.disk.held ≡ Some held → IsReadBy words held name)
 
 -- where the count of reads rose, that is answered and said, unless memory ran out; the sink may
@@ -125,7 +125,7 @@ WritesPrefix words before after = (held : Held) → before.disk.held ≡ Some he
     ⊎ ((p : Printed) × IsPrinted words held p × WritesFile before.disk after.disk p.file
     × ((n : ℕ) × WritesFirst before after n p.text))
     ⊎ (Rises before.reads after.reads × ((name : List ℕ) × IsReadBy words held name
-    × ((n : ℕ) × WritesFirst before after n (line_of (Unread name)))))
+    × ((n : ℕ) × WritesFirst before after n (refusal_text (Unread name)))))
 
 -- Where no put failed, files hold what they held, or the command's file is there whole.
 abbrev pub WritesWhole : List (List ℕ) → Outside → Outside → Type 0
@@ -136,7 +136,7 @@ WritesWhole words before after = (held : Held) → before.disk.held ≡ Some hel
 
 -- the file that the words name to be written
 abbrev pub target_in : List (List ℕ) → Option (List ℕ)
-target_in words = option_and_then target_of (row_of words)
+target_in words = option_and_then target_of (row_of_words words)
 
 -- no name changes but the one that the command writes
 abbrev pub ChangesOnly : List (List ℕ) → Outside → Outside → Type 0
@@ -167,7 +167,7 @@ IsUnprinted before after = before.disk.writes < after.disk.writes → after.outp
 -- recorded steps are those of its owner's program, run alone with the values that it received.
 abbrev pub GuestsRunAlone : List (List ℕ) → Outside → Outside → ℕ → Type 0
 GuestsRunAlone words before after status = (held : Held) → before.disk.held ≡ Some held
-    → (run : List ℕ) (journal : Option (List ℕ)) → row_of words ≡ Some (Trace run journal)
+    → (run : List ℕ) (journal : Option (List ℕ)) → row_of_words words ≡ Some (Trace run journal)
     → IsDone status
     → (parts : Parts) × (parts_of held run ≡ Ok parts) × Appends before.output.written
     after.output.written (trace_text (report_of parts) (last_record parts))
@@ -178,17 +178,17 @@ GuestsRunAlone words before after status = (held : Held) → before.disk.held �
 -- run file, and its status is that of this trace; and the same is so of each guest's steps.
 abbrev pub PrintsConsole : List (List ℕ) → Outside → Outside → ℕ → Type 0
 PrintsConsole words before after status = (held : Held) → before.disk.held ≡ Some held
-    → (run : List ℕ) → row_of words ≡ Some (Run run) → IsDone status
+    → (run : List ℕ) → row_of_words words ≡ Some (Run run) → IsDone status
     → (parts : Parts) × (parts_of held run ≡ Ok parts)
-    × (trace_of held run None ≡ Ok (traced None parts)) × (status ≡ (traced None parts).status)
+    × (trace_of held run None ≡ Ok (trace_answer None parts)) × (status ≡ (trace_answer None parts).status)
     × Appends before.output.written after.output.written
     (console_of (last_record parts).core.entries) × GuestsFollow parts
 
 -- the words ask for the run of this run file
 abbrev pub AsksForRun : List (List ℕ) → List ℕ → Type 0
 AsksForRun words run =
-    (row_of words ≡ Some (Run run))
-    ⊎ ((journal : Option (List ℕ)) × (row_of words ≡ Some (Trace run journal)))
+    (row_of_words words ≡ Some (Run run))
+    ⊎ ((journal : Option (List ℕ)) × (row_of_words words ≡ Some (Trace run journal)))
 
 -- Under `run` and `trace` 9 comes only where the report names a forged entry or a collision: no
 -- guest departs there, and each has an owner.
@@ -216,7 +216,7 @@ pub record IsJudged (held : Held) (before after : Outside) (run journal : List �
 
 abbrev pub JudgesJournal : List (List ℕ) → Outside → Outside → ℕ → Type 0
 JudgesJournal words before after status = (held : Held) → before.disk.held ≡ Some held
-    → (run journal : List ℕ) → row_of words ≡ Some (Judge run journal) → IsDone status
+    → (run journal : List ℕ) → row_of_words words ≡ Some (Judge run journal) → IsDone status
     → IsJudged held before after run journal status
 
 -- ---- What a debugger prints
@@ -226,7 +226,7 @@ JudgesJournal words before after status = (held : Held) → before.disk.held ≡
 -- and of what is seen of the machine before the first and after each.
 abbrev pub PrintsDebug : List (List ℕ) → Outside → Outside → ℕ → Type 0
 PrintsDebug words before after status = (held : Held) → before.disk.held ≡ Some held
-    → (run commands : List ℕ) → row_of words ≡ Some (Debug run commands) → IsDone status
+    → (run commands : List ℕ) → row_of_words words ≡ Some (Debug run commands) → IsDone status
     → (parts : Parts) × (list : List Command) × (parts_of held run ≡ Ok parts)
     × (commands_of held commands ≡ Ok list) × (status ≡ 0)
     × Appends before.output.written after.output.written

@@ -67,12 +67,12 @@ abbrev pub row_of_five : List ℕ → List ℕ → List ℕ → List ℕ → Lis
 row_of_five command a b c d e = if bytes_eq command (codes "seal") then seal_row a b c d e else None
 
 -- the row that the words match, or none
-abbrev pub row_of : List (List ℕ) → Option Row
-row_of (command ∷ a ∷ []) = row_of_one command a
-row_of (command ∷ a ∷ b ∷ []) = row_of_two command a b
-row_of (command ∷ a ∷ b ∷ c ∷ []) = row_of_three command a b c
-row_of (command ∷ a ∷ b ∷ c ∷ d ∷ e ∷ []) = row_of_five command a b c d e
-row_of other = None
+abbrev pub row_of_words : List (List ℕ) → Option Row
+row_of_words (command ∷ a ∷ []) = row_of_one command a
+row_of_words (command ∷ a ∷ b ∷ []) = row_of_two command a b
+row_of_words (command ∷ a ∷ b ∷ c ∷ []) = row_of_three command a b c
+row_of_words (command ∷ a ∷ b ∷ c ∷ d ∷ e ∷ []) = row_of_five command a b c d e
+row_of_words other = None
 
 -- the file that a row's command writes, if it writes one
 abbrev pub target_of : Row → Option (List ℕ)

@@ -1,7 +1,7 @@
 ghost use Rattle.std.specs.Prelude.{◌≡◌, ◌++◌, IfOk, string_bytes};
 ghost use Rattle.xom_cli.specs.Endings.{Delivers, Finishes, Prints, PrintsRefusal, PutsFile, disk, ending_of_refusal as refused_by, output};
 ghost use Rattle.cli_base.specs.Commands.{IsDone};
-ghost use Rattle.cli_base.specs.Refusals.{fault_text as fault_text_of, line_of, source_word as source_word_of};
+ghost use Rattle.cli_base.specs.Refusals.{input_fault_text as fault_text_of, refusal_text, source_word as source_word_of};
 
 use crate::ending::Ending;
 use cli_base::{Answer, InputFault, OutputFile, Refusal, SourceFault, Stop};
@@ -70,7 +70,7 @@ fn print_refusal<O: Sink>(alloc: Global, refusal: &Refusal, out: &mut O) -> Endi
 
 /// The line of a refusal.
 fn refusal_line(alloc: Global, refusal: &Refusal) -> Result<String, AllocError>
-    ensures { IfOk result (λ line. string_bytes line ≡ line_of refusal.now) }
+    ensures { IfOk result (λ line. string_bytes line ≡ refusal_text refusal.now) }
 {
     match refusal {
         Refusal::Unread(name) => line_around(alloc, "xom: cannot read ", name, "\n"),

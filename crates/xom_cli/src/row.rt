@@ -1,5 +1,5 @@
 ghost use Rattle.std.specs.Prelude.{◌≡◌, map, option_map, string_bytes};
-ghost use Rattle.xom_cli.specs.Rows.{plain_row as plain_row_of, row_of, row_of_five as row_of_five_words, row_of_one as row_of_one_word, row_of_three as row_of_three_words, row_of_two as row_of_two_words, seal_row as seal_row_of};
+ghost use Rattle.xom_cli.specs.Rows.{plain_row as plain_row_of, row_of_five as row_of_five_words, row_of_one as row_of_one_word, row_of_three as row_of_three_words, row_of_two as row_of_two_words, row_of_words, seal_row as seal_row_of};
 ghost use Rattle.xom_cli.specs.Words.{row_of_words_of};
 
 use xom_base::{ImageId, Key256, hex16, hex32, number_below};
@@ -56,7 +56,7 @@ pub enum Row<'a> {
 
 /// The row that the words match, or none. The words come after the program's name.
 pub fn row_named(words: &[String]) -> Option<Row<'_>>
-    ensures { option_map row_of_words_of result ≡ row_of (map string_bytes words.now) }
+    ensures { option_map row_of_words_of result ≡ row_of_words (map string_bytes words.now) }
 {
     match words {
         [command, a] => row_of_one(command, a),

@@ -14,8 +14,8 @@ use Rattle.xom_machine.specs.Runs.{IsRun, Made}
 use Rattle.xom_machine.specs.Whole.{Whole}
 use Rattle.xom_debug.specs.declared.command.Command.{Command}
 use Rattle.xom_debug.specs.declared.session.Session.{Session}
-use Rattle.xom_debug.specs.DebugTexts.{Place, debug_text, last_of, moved, place, said, text_from}
-use Rattle.xom_debug.specs.Moments.{Moment, is_over, moments, moments_from}
+use Rattle.xom_debug.specs.DebugTexts.{Place, debug_text, last_events, place, place_after_command, said, text_from}
+use Rattle.xom_debug.specs.Moments.{Moment, is_run_over, moments, moments_from}
 use Rattle.xom_debug.specs.Sessions.{Advances, CarriedOut, Debugs, Goes, GoesOn, HasNoted, IsDebugged, events_in}
 use Rattle.xom_debug.proofs.Going.{goes-none, goes-then}
 use Rattle.xom_debug.proofs.MomentLaws.{IfSome-then, from-none, from-over, moments-append}
@@ -67,18 +67,18 @@ module _ {K : Type 0} (told : K → View → Option (Turn × (List ℕ × K))) (
     noted = went.goes.noted past long (carried-noted s m k count s1 m1 k1 text first has done)
 
     -- a run that was over is over
-    over-still : is_over budget m1.state ≡ true → is_over budget m'.state ≡ true
+    over-still : is_run_over budget m1.state ≡ true → is_run_over budget m'.state ≡ true
     over-still over =
         let same : m'.state ≡ m1.state = subst (λ events. IsRun schedule v s1.guests m1.state events
         m'.state) (went.still over) went.goes.made in
-        subst (λ (r : Record). is_over budget r ≡ true) (sym same) over
+        subst (λ (r : Record). is_run_over budget r ≡ true) (sym same) over
 
-    ends-then : (rest : List Moment) → (is_over budget m'.state ≡ true → rest ≡ [])
-        → is_over budget m1.state ≡ true → moments v m1.state went.events ++ rest ≡ []
+    ends-then : (rest : List Moment) → (is_run_over budget m'.state ≡ true → rest ≡ [])
+        → is_run_over budget m1.state ≡ true → moments v m1.state went.events ++ rest ≡ []
     ends-then rest ends over =
         ap (λ events. moments v m1.state events ++ rest) (went.still over) ∙ ends (over-still over)
 
-    text-then : (rest : List Moment) → (is_over budget m'.state ≡ true → rest ≡ [])
+    text-then : (rest : List Moment) → (is_run_over budget m'.state ≡ true → rest ≡ [])
         → (text ++ said c s'.last.items (view_of m'.state)) ++ text_from more
         (place (events_in (done.events ++ went.events)) (view_of m'.state) rest)
         ≡ debug_text commands (view_of m.state) (moments v m.state (done.events ++ went.events)
@@ -86,14 +86,14 @@ module _ {K : Type 0} (told : K → View → Option (Turn × (List ℕ × K))) (
     text-then rest ends =
         let later = moments v m1.state went.events ++ rest in
         let after : Place = place (past ++ events_in went.events) (view_of m'.state) rest in
-        let kept : s'.last.items ≡ last_of (past ++ events_in went.events) =
+        let kept : s'.last.items ≡ last_events (past ++ events_in went.events) =
         ap (λ b. b.items) noted in
         append_assoc text (said c s'.last.items (view_of m'.state))
         (text_from more (place (events_in (done.events ++ went.events)) (view_of m'.state) rest))
         ∙ ap (λ p. text ++ (said c s'.last.items (view_of m'.state) ++ text_from more
         (place p (view_of m'.state) rest))) behind
         ∙ ap (λ items. text ++ (said c items (view_of m'.state) ++ text_from more after)) kept
-        ∙ ap (λ (p : Place). text ++ (said c (last_of p.past) p.view ++ text_from more p))
+        ∙ ap (λ (p : Place). text ++ (said c (last_events p.past) p.view ++ text_from more p))
         (sym (went.moved past rest ends))
         ∙ ap (λ cs. text ++ text_from cs (place past (view_of m1.state) later)) (sym here)
         ∙ done.says later (ends-then rest ends)
@@ -121,7 +121,7 @@ module _ {K : Type 0} (told : K → View → Option (Turn × (List ℕ × K))) (
 
   module _ (m : Whole) (k : K) (m' : Whole) (k' : K) (text : List ℕ) (first : m.state.events ≡ 0)
       (debugs : Debugs told schedule v budget commands m k m' k' text) where
-    whole : (rest : List Moment) → (is_over budget m'.state ≡ true → rest ≡ [])
+    whole : (rest : List Moment) → (is_run_over budget m'.state ≡ true → rest ≡ [])
         → text ≡ debug_text commands (view_of m.state) (moments v m.state debugs.done.events
         ++ rest)
     whole rest ends =
@@ -146,7 +146,7 @@ module _ {K : Type 0} (told : K → View → Option (Turn × (List ℕ × K))) (
     -- a run that is over has nothing to come
     nothing-left : (rest : List Moment)
         → moments_from v told schedule left debugs.last.guests m'.state k' ≡ Some rest
-        → is_over budget m'.state ≡ true → rest ≡ []
+        → is_run_over budget m'.state ≡ true → rest ≡ []
     nothing-left rest found over = elim (over-or m'.state.halted (nat_le budget m'.state.events)
         over) [
           | inl halted ↦ let none = from-over told schedule v left debugs.last.guests m'.state k'

@@ -8,11 +8,11 @@ use Rattle.std.proofs.lemmas.List.Elements.{All-append}
 use Rattle.std.proofs.lemmas.Option.{none-some, option_and_then_some as steps, same_Some}
 use Rattle.std.proofs.lemmas.Slice.Eq.{bytes_eq-Decides}
 use Rattle.xom_base.specs.Lines.{AnswersRead, AnswersText, Reads, Rows, lines_of}
-use Rattle.xom_base.specs.Numbers.{number_below_of, number_of}
+use Rattle.xom_base.specs.Numbers.{number_below_of, number_of_word}
 use Rattle.xom_base.proofs.NumberLaws.{number_below_of-exact, number_of-exact}
 use Rattle.xom_base.proofs.TextLaws.{AnswersText-rows}
 use Rattle.xom_base.specs.declared.lines.TextFault.{TextFault}
-use Rattle.xom_debug.specs.Commands.{AreCommands, IsBadLine, IsCommand, KeepsRules, command_of, commands_at, of_one, of_three, of_two, ram_of, reg_of, slot_of, step_of, until_of}
+use Rattle.xom_debug.specs.Commands.{AreCommands, CommandKeepsRules, IsBadCommandLine, IsCommand, command_of, command_of_one, command_of_three, command_of_two, commands_at, ram_command, reg_command, slot_command, step_command, until_command}
 use Rattle.xom_debug.specs.declared.command.Command.{Command}
 use Rattle.xom_debug.specs.declared.command.Command.TheVariants as command
 
@@ -44,17 +44,17 @@ named P word name here there value h at_name behind =
 none_left : (P : Type 0) (value : Command) → None ≡ Some value → P
 none_left P value h = absurd (none-some value h)
 
-step_found : (a : List ℕ) (value : Command) → step_of a ≡ Some value
+step_found : (a : List ℕ) (value : Command) → step_command a ≡ Some value
     → IsCommand (codes "step" ∷ a ∷ []) value
-unfolding step_of
+unfolding step_command
 step_found a value h =
-    steps _ (number_of a) value h (λ n read same.
+    steps _ (number_of_word a) value h (λ n read same.
     given (codes "step" ∷ a ∷ []) (command.Step n) value (a, refl, (number_of-exact a n).0 read)
     same)
 
-until_found : (a : List ℕ) (value : Command) → until_of a ≡ Some value
+until_found : (a : List ℕ) (value : Command) → until_command a ≡ Some value
     → IsCommand (codes "until" ∷ a ∷ []) value
-unfolding until_of
+unfolding until_command
 until_found a value h =
     named (IsCommand (codes "until" ∷ a ∷ []) value) a (codes "trap") (Some command.UntilTrap) None
     value h
@@ -62,9 +62,9 @@ until_found a value h =
     (ap (λ a. codes "until" ∷ a ∷ []) is) same)
     (none_left (IsCommand (codes "until" ∷ a ∷ []) value) value)
 
-reg_found : (a : List ℕ) (value : Command) → reg_of a ≡ Some value
+reg_found : (a : List ℕ) (value : Command) → reg_command a ≡ Some value
     → IsCommand (codes "reg" ∷ a ∷ []) value
-unfolding reg_of
+unfolding reg_command
 reg_found a value h =
     steps _ (number_below_of 34 a) value h (λ n read h.
     elim (chosen (leb 1 n) (Some (command.Reg n)) None (Some value) h) [
@@ -73,9 +73,9 @@ reg_found a value h =
       | inr t ↦ none_left (IsCommand (codes "reg" ∷ a ∷ []) value) value t.1
     ])
 
-slot_found : (a : List ℕ) (value : Command) → slot_of a ≡ Some value
+slot_found : (a : List ℕ) (value : Command) → slot_command a ≡ Some value
     → IsCommand (codes "slot" ∷ a ∷ []) value
-unfolding slot_of
+unfolding slot_command
 slot_found a value h =
     steps _ (number_below_of 17 a) value h (λ n read h.
     elim (chosen (leb 1 n) (Some (command.Slot n)) None (Some value) h) [
@@ -84,9 +84,9 @@ slot_found a value h =
       | inr t ↦ none_left (IsCommand (codes "slot" ∷ a ∷ []) value) value t.1
     ])
 
-ram_found : (a b : List ℕ) (value : Command) → ram_of a b ≡ Some value
+ram_found : (a b : List ℕ) (value : Command) → ram_command a b ≡ Some value
     → IsCommand (codes "ram" ∷ a ∷ b ∷ []) value
-unfolding ram_of
+unfolding ram_command
 ram_found a b value h =
     steps _ (number_below_of (2 ^ 32) a) value h (λ address read_a h.
     steps _ (number_below_of 65 b) value h (λ count read_b same.
@@ -98,9 +98,9 @@ ram_found a b value h =
       (number_below_of-exact 65 b count).0 read_b,
     ) same))
 
-one_found : (name : List ℕ) (value : Command) → of_one name ≡ Some value
+one_found : (name : List ℕ) (value : Command) → command_of_one name ≡ Some value
     → IsCommand (name ∷ []) value
-unfolding of_one
+unfolding command_of_one
 one_found name value h =
     named (IsCommand (name ∷ []) value) name (codes "last") (Some command.Last) None value h
     (λ is same. given (name ∷ []) command.Last value (ap (λ name. name ∷ []) is) same)
@@ -112,9 +112,9 @@ with_name : (name known a : List ℕ) (value : Command) → name ≡ known
 with_name name known a value is found =
     subst (λ name. IsCommand (name ∷ a ∷ []) value) (sym is) found
 
-two_found : (name a : List ℕ) (value : Command) → of_two name a ≡ Some value
+two_found : (name a : List ℕ) (value : Command) → command_of_two name a ≡ Some value
     → IsCommand (name ∷ a ∷ []) value
-unfolding of_two
+unfolding command_of_two
 two_found name a value h =
     let P = IsCommand (name ∷ a ∷ []) value in
     named P name (codes "step") _ _ value h
@@ -130,11 +130,11 @@ two_found name a value h =
     (λ is found. with_name name (codes "slot") a value is (slot_found a value found))
     (none_left P value))))
 
-three_found : (name a b : List ℕ) (value : Command) → of_three name a b ≡ Some value
+three_found : (name a b : List ℕ) (value : Command) → command_of_three name a b ≡ Some value
     → IsCommand (name ∷ a ∷ b ∷ []) value
-unfolding of_three
+unfolding command_of_three
 three_found name a b value h =
-    named (IsCommand (name ∷ a ∷ b ∷ []) value) name (codes "ram") (ram_of a b) None value h
+    named (IsCommand (name ∷ a ∷ b ∷ []) value) name (codes "ram") (ram_command a b) None value h
     (λ is found. subst (λ name. IsCommand (name ∷ a ∷ b ∷ []) value) (sym is)
     (ram_found a b value found))
     (none_left (IsCommand (name ∷ a ∷ b ∷ []) value) value)
@@ -152,7 +152,7 @@ command_found (name ∷ a ∷ b ∷ c ∷ words) value h = absurd (none-some val
 
 command_only : (words : List (List ℕ)) (value : Command) → IsCommand words value
     → command_of words ≡ Some value
-unfolding command_of of_one of_two of_three step_of until_of reg_of slot_of ram_of
+unfolding command_of command_of_one command_of_two command_of_three step_command until_command reg_command slot_command ram_command
 command_only words (command.Step count) w = rw w.1 (rw ((number_of-exact w.0 count).1 w.2) refl)
 command_only words command.UntilTrap w = rw w refl
 command_only words (command.Reg reg) w =
@@ -177,13 +177,13 @@ no_words = refl
 -- ---- the whole
 
 pub commands_answer : (text : List ℕ) (r : Result (List Command) TextFault)
-    → AnswersRead (commands_at text) r → AnswersText (AreCommands text) (IsBadLine text) r
+    → AnswersRead (commands_at text) r → AnswersText (AreCommands text) (IsBadCommandLine text) r
 unfolding commands_at
 commands_answer text = AnswersText-rows command_of IsCommand command_of-exact no_words text
 
 -- ---- the rules
 
-command-rules : (words : List (List ℕ)) (value : Command) → IsCommand words value → KeepsRules value
+command-rules : (words : List (List ℕ)) (value : Command) → IsCommand words value → CommandKeepsRules value
 command-rules words (command.Step count) w = tt
 command-rules words command.UntilTrap w = tt
 command-rules words (command.Reg reg) w = let below : reg < 34 = w.2.1 in (w.3, omega arith)
@@ -191,28 +191,28 @@ command-rules words (command.Slot slot) w = let below : slot < 17 = w.2.1 in (w.
 command-rules words command.Last w = tt
 command-rules words (command.Ram address count) w = let below : count < 65 = w.4.1 in omega arith
 
-no_rules : All KeepsRules []
+no_rules : All CommandKeepsRules []
 no_rules k d within = absurd (omega arith)
 
 one-rules : (words : List (List ℕ)) (value : Command) → IsCommand words value
-    → All KeepsRules (value ∷ [])
+    → All CommandKeepsRules (value ∷ [])
 one-rules words value is zero d within = command-rules words value is
 one-rules words value is (suc k) d within = absurd (omega arith)
 
 item-rules : (n : ℕ) (line : List ℕ) (value : Option Command) → Rows IsCommand tt n line value tt
-    → All KeepsRules (option_to_list value)
+    → All CommandKeepsRules (option_to_list value)
 item-rules n line None is = no_rules
 item-rules n line (Some value) is = one-rules _ value is
 
 pub lines-rules : (n : ℕ) (lines : List (List ℕ)) (values : List Command)
-    → Reads (Rows IsCommand) tt n lines values tt → All KeepsRules values
-lines-rules n [] values reads = subst (All KeepsRules) (sym reads.0) no_rules
+    → Reads (Rows IsCommand) tt n lines values tt → All CommandKeepsRules values
+lines-rules n [] values reads = subst (All CommandKeepsRules) (sym reads.0) no_rules
 lines-rules n (line ∷ lines) values reads =
-    subst (All KeepsRules) (sym reads.4)
-    (All-append KeepsRules (option_to_list reads.0) reads.2 (item-rules n line reads.0 reads.3)
+    subst (All CommandKeepsRules) (sym reads.4)
+    (All-append CommandKeepsRules (option_to_list reads.0) reads.2 (item-rules n line reads.0 reads.3)
     (lines-rules (n + 1) lines reads.2 reads.5))
 
 pub commands-rules : (text : List ℕ) (r : Result (List Command) TextFault)
-    → AnswersText (AreCommands text) (IsBadLine text) r → IfOk r (All KeepsRules)
+    → AnswersText (AreCommands text) (IsBadCommandLine text) r → IfOk r (All CommandKeepsRules)
 commands-rules text (Ok commands) answers = lines-rules 1 (lines_of text) commands answers.found
 commands-rules text (Err fault) answers = tt

@@ -12,14 +12,14 @@ use Rattle.xom_model.specs.Event.{on, running_slot}
 use Rattle.xom_model.specs.Run.{poke_at}
 use Rattle.xom_model.specs.Seen.{View, view_of}
 use Rattle.xom_model.specs.State.{Record}
-use Rattle.xom_machine.specs.Runs.{IsDueWhere, IsNextWhere, IsRun, Made, guests_in, guests_of}
+use Rattle.xom_machine.specs.Runs.{IsDueWhere, IsNextWhere, IsRun, Made, guest_events_in, guests_in}
 use Rattle.xom_machine.specs.Whole.{Whole}
 use Rattle.xom_debug.specs.declared.command.Command.{Command}
 use Rattle.xom_debug.specs.declared.command.Command.TheVariants as command
 use Rattle.xom_debug.specs.declared.session.Session.{Session}
 use Rattle.xom_debug.specs.declared.session.Noted.{Noted}
-use Rattle.xom_debug.specs.DebugTexts.{kept_events, last_of, moved, place}
-use Rattle.xom_debug.specs.Moments.{Moment, has_left, is_over, moments, moments_from}
+use Rattle.xom_debug.specs.DebugTexts.{kept_events, last_events, place, place_after_command}
+use Rattle.xom_debug.specs.Moments.{Moment, has_left, is_run_over, moments, moments_from}
 use Rattle.xom_debug.specs.Sessions.{Advances, Goes, GoesOn, Gone, HasNoted, Makes, Stayed, Stays, events_in}
 use Rattle.xom_base.specs.declared.schedule.Poke.{Poke}
 use Rattle.xom_debug.proofs.Kept.{last_of-push}
@@ -171,17 +171,17 @@ module _ {K : Type 0} (told : K → View → Option (Turn × (List ℕ × K))) (
 
     -- a run at whose beginning it was over stays over
     over-still : (s : Session) (m : Whole) (k : K) (count : ℕ) (s' : Session) (m' : Whole) (k' : K)
-        → (gone : Gone told schedule v budget s m k count s' m' k') → is_over budget m.state ≡ true
-        → is_over budget m'.state ≡ true
+        → (gone : Gone told schedule v budget s m k count s' m' k') → is_run_over budget m.state ≡ true
+        → is_run_over budget m'.state ≡ true
     over-still s m k count s' m' k' gone over =
         let none = gone.still over in
         let same : m'.state ≡ m.state = subst (λ events. IsRun schedule v s.guests m.state events
         m'.state) none gone.goes.made in
-        subst (λ (r : Record). is_over budget r ≡ true) (sym same) over
+        subst (λ (r : Record). is_run_over budget r ≡ true) (sym same) over
 
     pub gone-more : (s : Session) (m : Whole) (k : K) (count : ℕ) (s1 : Session) (m1 : Whole)
         (k1 : K) (e : Event) (s' : Session) (m' : Whole) (k' : K)
-        → Gone told schedule v budget s m k count s1 m1 k1 → is_over budget m1.state ≡ false
+        → Gone told schedule v budget s m k count s1 m1 k1 → is_run_over budget m1.state ≡ false
         → m1.state.events < budget → Makes told schedule v s1 m1 k1 e s' m' k'
         → Gone told schedule v budget s m k (count + 1) s' m' k'
     gone-more s m k count s1 m1 k1 e s' m' k' gone going low makes = record {
@@ -206,8 +206,8 @@ module _ {K : Type 0} (told : K → View → Option (Turn × (List ℕ × K))) (
       goes = gone.goes;
       within = gone.within;
       still = gone.still;
-      moved = λ past rest ends.
-          subst (λ n. moved (command.Step n)
+      place_after_command = λ past rest ends.
+          subst (λ n. place_after_command (command.Step n)
           (place past (view_of m.state) (moments v m.state gone.events ++ rest)) ≡ place
           (past ++ events_in gone.events) (view_of m'.state) rest) gone.all
           (steps_made schedule v s.guests m.state gone.events m'.state gone.goes.made past rest);
@@ -216,14 +216,14 @@ module _ {K : Type 0} (told : K → View → Option (Turn × (List ℕ × K))) (
     pub stepped_to_end : (s : Session) (m : Whole) (k : K) (count n : ℕ) (s' : Session) (m' : Whole)
         (k' : K)
         → Gone told schedule v budget s m k count s' m' k' → count ≤ n
-        → is_over budget m'.state ≡ true
+        → is_run_over budget m'.state ≡ true
         → Advances told schedule v budget (command.Step n) s m k s' m' k'
     stepped_to_end s m k count n s' m' k' gone low over = record {
       events = gone.events;
       goes = gone.goes;
       within = gone.within;
       still = gone.still;
-      moved = λ past rest ends. steps_ended schedule v s.guests m.state gone.events m'.state
+      place_after_command = λ past rest ends. steps_ended schedule v s.guests m.state gone.events m'.state
           gone.goes.made n (n - count) (omega (arith, gone.all)) past rest (ends over);
     }
 
@@ -236,7 +236,7 @@ module _ {K : Type 0} (told : K → View → Option (Turn × (List ℕ × K))) (
 
     pub stayed-more : (s : Session) (m : Whole) (k : K) (count : ℕ) (s1 : Session) (m1 : Whole)
         (k1 : K) (e : Event) (s' : Session) (m' : Whole) (k' : K)
-        → Stayed told schedule v budget s m k count s1 m1 k1 → is_over budget m1.state ≡ false
+        → Stayed told schedule v budget s m k count s1 m1 k1 → is_run_over budget m1.state ≡ false
         → m1.state.events < budget → Makes told schedule v s1 m1 k1 e s' m' k'
         → has_left e (view_of m'.state) ≡ false
         → Stayed told schedule v budget s m k (count + 1) s' m' k'
@@ -249,14 +249,14 @@ module _ {K : Type 0} (told : K → View → Option (Turn × (List ℕ × K))) (
 
     pub trapped_at_end : (s : Session) (m : Whole) (k : K) (count : ℕ) (s' : Session) (m' : Whole)
         (k' : K)
-        → Stayed told schedule v budget s m k count s' m' k' → is_over budget m'.state ≡ true
+        → Stayed told schedule v budget s m k count s' m' k' → is_run_over budget m'.state ≡ true
         → Advances told schedule v budget command.UntilTrap s m k s' m' k'
     trapped_at_end s m k count s' m' k' stayed over = record {
       events = stayed.gone.events;
       goes = stayed.gone.goes;
       within = stayed.gone.within;
       still = stayed.gone.still;
-      moved = λ past rest ends. trap_ended schedule v s.guests m.state stayed.gone.events m'.state
+      place_after_command = λ past rest ends. trap_ended schedule v s.guests m.state stayed.gone.events m'.state
           stayed.gone.goes.made stayed.stays past rest (ends over);
     }
 
@@ -265,7 +265,7 @@ module _ {K : Type 0} (told : K → View → Option (Turn × (List ℕ × K))) (
         → (stayed : Stayed told schedule v budget s m k count s1 m1 k1)
         → (makes : Makes told schedule v s1 m1 k1 e s' m' k') → has_left e (view_of m'.state) ≡ true
         → (past : List Event) (rest : List Moment)
-        → moved command.UntilTrap
+        → place_after_command command.UntilTrap
         (place past (view_of m.state) (moments v m.state (stayed.gone.events ++ (e, makes.chunk)
         ∷ []) ++ rest)) ≡ place (past ++ events_in (stayed.gone.events ++ (e, makes.chunk) ∷ []))
         (view_of m'.state) rest
@@ -284,14 +284,14 @@ module _ {K : Type 0} (told : K → View → Option (Turn × (List ℕ × K))) (
         let joined : (past ++ events_in events) ++ e ∷ [] ≡ past ++ events_in (events ++ one) =
         append_assoc past (events_in events) (e ∷ []) ∙ ap (λ es. past ++ es)
         (sym (map-append (λ made. made.0) events one)) in
-        ap (λ ms. moved command.UntilTrap (place past (view_of m.state) ms)) split
+        ap (λ ms. place_after_command command.UntilTrap (place past (view_of m.state) ms)) split
         ∙ trap_left schedule v s.guests m.state events m1.state stayed.gone.goes.made stayed.stays e
         (view_of m'.state) left past rest
         ∙ ap (λ p. place p (view_of m'.state) rest) joined
 
     pub trapped : (s : Session) (m : Whole) (k : K) (count : ℕ) (s1 : Session) (m1 : Whole) (k1 : K)
         (e : Event) (s' : Session) (m' : Whole) (k' : K)
-        → Stayed told schedule v budget s m k count s1 m1 k1 → is_over budget m1.state ≡ false
+        → Stayed told schedule v budget s m k count s1 m1 k1 → is_run_over budget m1.state ≡ false
         → m1.state.events < budget → Makes told schedule v s1 m1 k1 e s' m' k'
         → has_left e (view_of m'.state) ≡ true
         → Advances told schedule v budget command.UntilTrap s m k s' m' k'
@@ -303,7 +303,7 @@ module _ {K : Type 0} (told : K → View → Option (Turn × (List ℕ × K))) (
           goes = gone.goes;
           within = gone.within;
           still = gone.still;
-          moved = λ past rest ends. trap-moved s m k count s1 m1 k1 e s' m' k' stayed makes left
+          place_after_command = λ past rest ends. trap-moved s m k count s1 m1 k1 e s' m' k' stayed makes left
               past rest;
         }
 
@@ -311,13 +311,13 @@ module _ {K : Type 0} (told : K → View → Option (Turn × (List ℕ × K))) (
 
     pub stays_there : (c : Command)
         → ((past : List Event) (view : View) (rest : List Moment)
-        → moved c (place past view rest) ≡ place past view rest)
+        → place_after_command c (place past view rest) ≡ place past view rest)
         → (s : Session) (m : Whole) (k : K) → Advances told schedule v budget c s m k s m k
     stays_there c same s m k = record {
       events = [];
       goes = goes-none s m k;
       within = λ within. within;
       still = λ over. refl;
-      moved = λ past rest ends. same past (view_of m.state) rest
+      place_after_command = λ past rest ends. same past (view_of m.state) rest
           ∙ ap (λ p. place p (view_of m.state) rest) (sym (append-nil past));
     }

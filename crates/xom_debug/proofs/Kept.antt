@@ -4,7 +4,7 @@ use Rattle.std.proofs.lemmas.List.{drop-append-le, drop-drop, length_push}
 use Rattle.circular_buffer.specs.Buffer.{keep_last}
 use Rattle.xom_base.specs.declared.event.Event.{Event}
 use Rattle.xom_debug.specs.declared.session.Noted.{Noted}
-use Rattle.xom_debug.specs.DebugTexts.{kept_events, last_of, numbered}
+use Rattle.xom_debug.specs.DebugTexts.{events_by_number, kept_events, last_events}
 
 -- what was kept, and one more, has the same last items as all of them
 keep_last-push : {A : Type 0} (n : ℕ) (xs : List A) (y : A)
@@ -28,15 +28,15 @@ at_place : (a b : ℕ) (e : Event) → a ≡ b → noted a e ∷ [] ≡ noted b 
 at_place a b e same = ap (λ n. noted n e ∷ []) same
 
 numbered-push : (n : ℕ) (past : List Event) (e : Event) (number : ℕ) → number ≡ n + length past
-    → numbered n (past ++ e ∷ []) ≡ numbered n past ++ record { number = number; event = e } ∷ []
+    → events_by_number n (past ++ e ∷ []) ≡ events_by_number n past ++ record { number = number; event = e } ∷ []
 numbered-push n [] e number is = at_place n number e (omega (arith, is))
 numbered-push n (first ∷ past) e number is =
     ap (λ rest. record { number = n; event = first } ∷ rest)
     (numbered-push (n + 1) past e number (omega (arith, is)))
 
 pub last_of-push : (past : List Event) (e : Event) (number : ℕ) → number ≡ length past + 1
-    → keep_last kept_events (last_of past ++ record { number = number; event = e } ∷ []) ≡ last_of
+    → keep_last kept_events (last_events past ++ record { number = number; event = e } ∷ []) ≡ last_events
     (past ++ e ∷ [])
 last_of-push past e number is =
-    keep_last-push kept_events (numbered 1 past) (record { number = number; event = e })
+    keep_last-push kept_events (events_by_number 1 past) (record { number = number; event = e })
     ∙ ap (keep_last kept_events) (sym (numbered-push 1 past e number (omega (arith, is))))

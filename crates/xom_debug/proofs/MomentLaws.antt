@@ -14,28 +14,28 @@ use Rattle.xom_model.specs.Event.{on, running_slot}
 use Rattle.xom_model.specs.Run.{event_of, is_flagged, poke_at}
 use Rattle.xom_model.specs.Seen.{View, view_of}
 use Rattle.xom_model.specs.State.{Record}
-use Rattle.xom_machine.specs.Runs.{IsNextWhere, IsRun, Made, bytes_of, guests_in, guests_of}
+use Rattle.xom_machine.specs.Runs.{IsNextWhere, IsRun, Made, bytes_of_event, guest_events_in, guests_in}
 use Rattle.xom_machine.proofs.Events.{on-bytes}
 use Rattle.xom_debug.specs.Moments.{Moment, made_of_turn, moments, moments_from, next_made, own_next, with_made}
 use Rattle.xom_debug.specs.Sessions.{GoesOn}
 
 -- ---- Events one after another
 
-pub guests_of-append : (a b : List Made) → guests_of (a ++ b) ≡ guests_of a + guests_of b
+pub guests_of-append : (a b : List Made) → guest_events_in (a ++ b) ≡ guest_events_in a + guest_events_in b
 guests_of-append [] b = omega arith
 guests_of-append (first ∷ a) b = let more = guests_of-append a b in omega (arith, more)
 
 module _ (schedule : Schedule) (v : Versions) where
   pub IsRun-append : (g : ℕ) (r : Record) (a : List Made) (mid : Record) (b : List Made)
       (last : Record)
-      → IsRun schedule v g r a mid → IsRun schedule v (g + guests_of a) mid b last
+      → IsRun schedule v g r a mid → IsRun schedule v (g + guest_events_in a) mid b last
       → IsRun schedule v g r (a ++ b) last
   IsRun-append g r [] mid b last run behind =
       let place : g + 0 ≡ g = omega arith in
       subst (λ n. IsRun schedule v n r b last) place (subst (λ s. IsRun schedule v (g + 0) s b last)
       run behind)
   IsRun-append g r (first ∷ a) mid b last run behind =
-      let place : g + (guests_in first.0 + guests_of a) ≡ (g + guests_in first.0) + guests_of a =
+      let place : g + (guests_in first.0 + guest_events_in a) ≡ (g + guests_in first.0) + guest_events_in a =
       omega arith in (
         run.0,
         run.1,
@@ -83,7 +83,7 @@ module _ {K : Type 0} (told : K → View → Option (Turn × (List ℕ × K))) (
 
   -- so it is of an event that is the one that was told
   alike : (g : ℕ) (r : Record) (e other : Event) (chunk its : List ℕ) (k' k1 : K) → e ≡ other
-      → bytes_of e chunk ≡ bytes_of e its → k' ≡ k1
+      → bytes_of_event e chunk ≡ bytes_of_event e its → k' ≡ k1
       → IfSome (with_made v told schedule later g r (Some ((other, its), k1)))
       (GoesOn told schedule v r ((e, chunk) ∷ []) (later (g + guests_in e) (on v r e chunk).0 k'))
   alike g r e other chunk its k' k1 is bytes same =
@@ -105,7 +105,7 @@ module _ {K : Type 0} (told : K → View → Option (Turn × (List ℕ × K))) (
   -- the turn that a kernel told
   turn_told : (g : ℕ) (r : Record) (e : Event) (chunk : List ℕ) (k' : K)
       (o : Option (Turn × (List ℕ × K)))
-      → IfSome o (λ t. (e ≡ event_of t.0) × (bytes_of e chunk ≡ bytes_of e t.1.0) × (k' ≡ t.1.1))
+      → IfSome o (λ t. (e ≡ event_of t.0) × (bytes_of_event e chunk ≡ bytes_of_event e t.1.0) × (k' ≡ t.1.1))
       → IfSome (with_made v told schedule later g r (option_map (made_of_turn v told schedule) o))
       (GoesOn told schedule v r ((e, chunk) ∷ []) (later (g + guests_in e) (on v r e chunk).0 k'))
   turn_told g r e chunk k' None next = tt
@@ -118,7 +118,7 @@ module _ {K : Type 0} (told : K → View → Option (Turn × (List ℕ × K))) (
       (GoesOn told schedule v r ((e, chunk) ∷ []) (later (g + guests_in e) (on v r e chunk).0 k'))
   own_told g r k e chunk k' (Some slot) next =
       let is : e ≡ event.Guest (is_flagged schedule.interrupts (g + 1)) = next.0 in
-      let nothing : bytes_of e chunk ≡ bytes_of e [] = subst (λ x. bytes_of x chunk ≡ bytes_of x [])
+      let nothing : bytes_of_event e chunk ≡ bytes_of_event e [] = subst (λ x. bytes_of_event x chunk ≡ bytes_of_event x [])
       (sym is) refl in
       alike g r e (event.Guest (is_flagged schedule.interrupts (g + 1))) chunk [] k' k is nothing
       next.1
@@ -132,7 +132,7 @@ module _ {K : Type 0} (told : K → View → Option (Turn × (List ℕ × K))) (
       (GoesOn told schedule v r ((e, chunk) ∷ []) (later (g + guests_in e) (on v r e chunk).0 k'))
   next_told g r k e chunk k' (Some poke) next =
       let is : e ≡ event.Poke poke.address (length poke.bytes) = next.0.0 in
-      let its : bytes_of e poke.bytes ≡ poke.bytes = subst (λ x. bytes_of x poke.bytes ≡ poke.bytes)
+      let its : bytes_of_event e poke.bytes ≡ poke.bytes = subst (λ x. bytes_of_event x poke.bytes ≡ poke.bytes)
       (sym is) (take_all (length poke.bytes) poke.bytes (omega arith)) in
       alike g r e (event.Poke poke.address (length poke.bytes)) chunk poke.bytes k' k is
       (next.0.1 ∙ sym its) next.1

@@ -9,7 +9,7 @@ use Rattle.xom_model.specs.Event.{on}
 use Rattle.xom_model.specs.Seen.{View, view_of}
 use Rattle.xom_model.specs.State.{Record}
 use Rattle.xom_machine.specs.Runs.{IsRun, Made, guests_in}
-use Rattle.xom_debug.specs.DebugTexts.{Place, at_trap, place, stepped}
+use Rattle.xom_debug.specs.DebugTexts.{Place, at_trap, place, place_after_steps}
 use Rattle.xom_debug.specs.Moments.{Moment, has_left, moments}
 use Rattle.xom_debug.specs.Sessions.{Stays, events_in}
 
@@ -37,32 +37,32 @@ module _ (schedule : Schedule) (v : Versions) where
   stepped-made : (g : ℕ) (r : Record) (events : List Made) (last : Record)
       → IsRun schedule v g r events last → (n left : ℕ) → n ≡ length events + left
       → (past : List Event) (rest : List Moment)
-      → Reaches (stepped n) (stepped left) r events last past rest
+      → Reaches (place_after_steps n) (place_after_steps left) r events last past rest
   stepped-made g r [] last run n left is past rest =
       let same : n ≡ left = omega (arith, is) in
-      subst (λ m. Reaches (stepped m) (stepped left) r [] last past rest) (sym same)
-      (none_made (stepped left) r last past rest run)
+      subst (λ m. Reaches (place_after_steps m) (place_after_steps left) r [] last past rest) (sym same)
+      (none_made (place_after_steps left) r last past rest run)
   stepped-made g r (first ∷ events) last run zero left is past rest = absurd (omega (arith, is))
   stepped-made g r (first ∷ events) last run (suc n) left is past rest =
       let next : Record = (on v r first.0 first.1).0 in
       stepped-made (g + guests_in first.0) next events last run.2 n left (omega (arith, is))
       (past ++ first.0 ∷ []) rest
-      ∙ ap (λ p. stepped left p (view_of last) rest) (next_past past first.0 (events_in events))
+      ∙ ap (λ p. place_after_steps left p (view_of last) rest) (next_past past first.0 (events_in events))
 
   stepped-none : (past : List Event) (view : View) (rest : List Moment)
-      → stepped zero past view rest ≡ place past view rest
+      → place_after_steps zero past view rest ≡ place past view rest
   stepped-none past view [] = refl
   stepped-none past view (first ∷ rest) = refl
 
   stepped-end : (n : ℕ) (past : List Event) (view : View) (rest : List Moment) → rest ≡ []
-      → stepped n past view rest ≡ place past view rest
+      → place_after_steps n past view rest ≡ place past view rest
   stepped-end n past view rest is =
-      subst (λ more. stepped n past view more ≡ place past view more) (sym is) refl
+      subst (λ more. place_after_steps n past view more ≡ place past view more) (sym is) refl
 
   -- all the steps were made, or the run is at its end
   pub steps_made : (g : ℕ) (r : Record) (events : List Made) (last : Record)
       → IsRun schedule v g r events last → (past : List Event) (rest : List Moment)
-      → stepped (length events) past (view_of r) (moments v r events ++ rest) ≡ place
+      → place_after_steps (length events) past (view_of r) (moments v r events ++ rest) ≡ place
       (past ++ events_in events) (view_of last) rest
   steps_made g r events last run past rest =
       stepped-made g r events last run (length events) 0 (omega arith) past rest
@@ -71,7 +71,7 @@ module _ (schedule : Schedule) (v : Versions) where
   pub steps_ended : (g : ℕ) (r : Record) (events : List Made) (last : Record)
       → IsRun schedule v g r events last → (n left : ℕ) → n ≡ length events + left
       → (past : List Event) (rest : List Moment) → rest ≡ []
-      → stepped n past (view_of r) (moments v r events ++ rest) ≡ place (past ++ events_in events)
+      → place_after_steps n past (view_of r) (moments v r events ++ rest) ≡ place (past ++ events_in events)
       (view_of last) rest
   steps_ended g r events last run n left is past rest none =
       stepped-made g r events last run n left is past rest ∙ stepped-end left

@@ -2,7 +2,7 @@
 use Rattle.std.specs.Prelude.{◌≡◌, ℕ, ◌^◌, ◌≤◌, nat_le, if◌then◌else◌, List, [], ◌∷◌, codes, Option, Some, None, Result}
 use Rattle.std.specs.Str.{bytes_eq}
 use Rattle.xom_base.specs.Lines.{IsFirstBad, IsRows, LineStep, Rows, lines_of, rows_of, rows_step}
-use Rattle.xom_base.specs.Numbers.{IsNumber, Writes, number_below_of, number_of}
+use Rattle.xom_base.specs.Numbers.{IsNumber, WritesBelow, number_below_of, number_of_word}
 use Rattle.xom_base.specs.Options.{◌>>=◌}
 use Rattle.xom_debug.specs.declared.command.Command.{Command}
 use Rattle.xom_debug.specs.declared.command.Command.TheVariants as command
@@ -14,75 +14,75 @@ IsCommand words (command.Step count) =
     (n : List ℕ) × (words ≡ codes "step" ∷ n ∷ []) × IsNumber n count
 IsCommand words command.UntilTrap = words ≡ codes "until" ∷ codes "trap" ∷ []
 IsCommand words (command.Reg reg) =
-    (r : List ℕ) × (words ≡ codes "reg" ∷ r ∷ []) × Writes 34 r reg × (1 ≤ reg)
+    (r : List ℕ) × (words ≡ codes "reg" ∷ r ∷ []) × WritesBelow 34 r reg × (1 ≤ reg)
 IsCommand words (command.Slot slot) =
-    (s : List ℕ) × (words ≡ codes "slot" ∷ s ∷ []) × Writes 17 s slot × (1 ≤ slot)
+    (s : List ℕ) × (words ≡ codes "slot" ∷ s ∷ []) × WritesBelow 17 s slot × (1 ≤ slot)
 IsCommand words command.Last = words ≡ codes "last" ∷ []
 IsCommand words (command.Ram address count) =
-    (a n : List ℕ) × (words ≡ codes "ram" ∷ a ∷ n ∷ []) × Writes (2 ^ 32) a address
-    × Writes 65 n count
+    (a n : List ℕ) × (words ≡ codes "ram" ∷ a ∷ n ∷ []) × WritesBelow (2 ^ 32) a address
+    × WritesBelow 65 n count
 
 -- the text is these commands: one a line, in their order, blank lines passed over
 abbrev pub AreCommands : List ℕ → List Command → Type 0
 AreCommands = IsRows IsCommand
 
 -- the line of this number, counted from 1, is the first that is neither blank nor a command
-abbrev pub IsBadLine : List ℕ → ℕ → Type 0
-IsBadLine text bad = IsFirstBad (Rows IsCommand) tt 1 (lines_of text) bad
+abbrev pub IsBadCommandLine : List ℕ → ℕ → Type 0
+IsBadCommandLine text bad = IsFirstBad (Rows IsCommand) tt 1 (lines_of text) bad
 
 -- the ranges that a command keeps
-abbrev pub KeepsRules : Command → Type 0
-KeepsRules (command.Step count) = Unit {0}
-KeepsRules command.UntilTrap = Unit {0}
-KeepsRules (command.Reg reg) = (1 ≤ reg) × (reg ≤ 33)
-KeepsRules (command.Slot slot) = (1 ≤ slot) × (slot ≤ 16)
-KeepsRules command.Last = Unit {0}
-KeepsRules (command.Ram address count) = count ≤ 64
+abbrev pub CommandKeepsRules : Command → Type 0
+CommandKeepsRules (command.Step count) = Unit {0}
+CommandKeepsRules command.UntilTrap = Unit {0}
+CommandKeepsRules (command.Reg reg) = (1 ≤ reg) × (reg ≤ 33)
+CommandKeepsRules (command.Slot slot) = (1 ≤ slot) × (slot ≤ 16)
+CommandKeepsRules command.Last = Unit {0}
+CommandKeepsRules (command.Ram address count) = count ≤ 64
 
 -- ---- the same as a function, by the number of words
 
-unfoldable pub step_of : List ℕ → Option Command
-step_of count = do
-  count ← number_of count
+unfoldable pub step_command : List ℕ → Option Command
+step_command count = do
+  count ← number_of_word count
   Some (command.Step count)
 
-unfoldable pub until_of : List ℕ → Option Command
-until_of event = if bytes_eq event (codes "trap") then Some command.UntilTrap else None
+unfoldable pub until_command : List ℕ → Option Command
+until_command event = if bytes_eq event (codes "trap") then Some command.UntilTrap else None
 
-unfoldable pub reg_of : List ℕ → Option Command
-reg_of reg = do
+unfoldable pub reg_command : List ℕ → Option Command
+reg_command reg = do
   reg ← number_below_of 34 reg
   if nat_le 1 reg then Some (command.Reg reg) else None
 
-unfoldable pub slot_of : List ℕ → Option Command
-slot_of slot = do
+unfoldable pub slot_command : List ℕ → Option Command
+slot_command slot = do
   slot ← number_below_of 17 slot
   if nat_le 1 slot then Some (command.Slot slot) else None
 
-unfoldable pub ram_of : List ℕ → List ℕ → Option Command
-ram_of address count = do
+unfoldable pub ram_command : List ℕ → List ℕ → Option Command
+ram_command address count = do
   address ← number_below_of (2 ^ 32) address
   count ← number_below_of 65 count
   Some (command.Ram address count)
 
-unfoldable pub of_one : List ℕ → Option Command
-of_one name = if bytes_eq name (codes "last") then Some command.Last else None
+unfoldable pub command_of_one : List ℕ → Option Command
+command_of_one name = if bytes_eq name (codes "last") then Some command.Last else None
 
-unfoldable pub of_two : List ℕ → List ℕ → Option Command
-of_two name a =
-    if bytes_eq name (codes "step") then step_of a
-    else (if bytes_eq name (codes "until") then until_of a
-    else (if bytes_eq name (codes "reg") then reg_of a
-    else (if bytes_eq name (codes "slot") then slot_of a else None)))
+unfoldable pub command_of_two : List ℕ → List ℕ → Option Command
+command_of_two name a =
+    if bytes_eq name (codes "step") then step_command a
+    else (if bytes_eq name (codes "until") then until_command a
+    else (if bytes_eq name (codes "reg") then reg_command a
+    else (if bytes_eq name (codes "slot") then slot_command a else None)))
 
-unfoldable pub of_three : List ℕ → List ℕ → List ℕ → Option Command
-of_three name a b = if bytes_eq name (codes "ram") then ram_of a b else None
+unfoldable pub command_of_three : List ℕ → List ℕ → List ℕ → Option Command
+command_of_three name a b = if bytes_eq name (codes "ram") then ram_command a b else None
 
 -- the command that words write, or none
 unfoldable pub command_of : List (List ℕ) → Option Command
-command_of (name ∷ []) = of_one name
-command_of (name ∷ a ∷ []) = of_two name a
-command_of (name ∷ a ∷ b ∷ []) = of_three name a b
+command_of (name ∷ []) = command_of_one name
+command_of (name ∷ a ∷ []) = command_of_two name a
+command_of (name ∷ a ∷ b ∷ []) = command_of_three name a b
 command_of other = None
 
 abbrev pub command_step : LineStep (Unit {0}) Command

@@ -16,7 +16,7 @@ use Rattle.session_table.specs.declared.session.SlotView.{SlotView}
 use Rattle.tag_regs.specs.declared.cell.Cell.{Cell}
 use Rattle.tag_regs.specs.TaggedCells.{cell_at}
 use Rattle.xom_model.specs.Seen.{View, open_cell, ram_byte}
-use Rattle.xom_machine.specs.Shown.{slot_at}
+use Rattle.xom_machine.specs.Shown.{shown_slot_at}
 use Rattle.xom_debug.specs.declared.command.Command.{Command}
 use Rattle.xom_debug.specs.declared.command.Command.TheVariants as command
 use Rattle.xom_debug.specs.declared.session.Noted.{Noted}
@@ -53,9 +53,9 @@ abbrev pub noted_line : Noted → List ℕ
 noted_line noted = decimal noted.number ++ (codes " " ++ (event_text noted.event ++ codes "\n"))
 
 -- events with their numbers, of which the first is this one
-abbrev pub numbered : ℕ → List Event → List Noted
-numbered n [] = []
-numbered n (e ∷ events) = record { number = n; event = e } ∷ numbered (n + 1) events
+abbrev pub events_by_number : ℕ → List Event → List Noted
+events_by_number n [] = []
+events_by_number n (e ∷ events) = record { number = n; event = e } ∷ events_by_number (n + 1) events
 
 -- so many events are kept
 abbrev pub kept_events : ℕ
@@ -63,8 +63,8 @@ kept_events = 64
 
 -- the last of all events of a run so far, with their numbers, which count from 1; the oldest comes
 -- first
-abbrev pub last_of : List Event → List Noted
-last_of past = keep_last kept_events (numbered 1 past)
+abbrev pub last_events : List Event → List Noted
+last_events past = keep_last kept_events (events_by_number 1 past)
 
 -- ---- What is seen of the machine
 
@@ -110,7 +110,7 @@ abbrev pub said : Command → List Noted → View → List ℕ
 said (command.Step count) last view = []
 said command.UntilTrap last view = []
 said (command.Reg reg) last view = cell_line reg (cell_at view.cells reg)
-said (command.Slot slot) last view = slot_line slot (slot_at view.slots slot)
+said (command.Slot slot) last view = slot_line slot (shown_slot_at view.slots slot)
 said command.Last last view = flat_map noted_line last
 said (command.Ram address count) last view = ram_line view address count
 
@@ -125,10 +125,10 @@ abbrev pub place : List Event → View → List Moment → Place
 place past view rest = record { past = past; view = view; rest = rest }
 
 -- so many events further on, or at the run's end
-abbrev pub stepped : ℕ → List Event → View → List Moment → Place
-stepped n past view [] = place past view []
-stepped zero past view (first ∷ rest) = place past view (first ∷ rest)
-stepped (suc n) past view (first ∷ rest) = stepped n (past ++ first.event ∷ []) first.view rest
+abbrev pub place_after_steps : ℕ → List Event → View → List Moment → Place
+place_after_steps n past view [] = place past view []
+place_after_steps zero past view (first ∷ rest) = place past view (first ∷ rest)
+place_after_steps (suc n) past view (first ∷ rest) = place_after_steps n (past ++ first.event ∷ []) first.view rest
 
 -- behind the next event after which a guest has left, or at the run's end
 abbrev pub at_trap : List Event → View → List Moment → Place
@@ -138,20 +138,20 @@ at_trap past view (first ∷ rest) =
     else at_trap (past ++ first.event ∷ []) first.view rest
 
 -- where a command leaves the debugger; the commands that print make no event
-abbrev pub moved : Command → Place → Place
-moved (command.Step count) p = stepped count p.past p.view p.rest
-moved command.UntilTrap p = at_trap p.past p.view p.rest
-moved (command.Reg reg) p = p
-moved (command.Slot slot) p = p
-moved command.Last p = p
-moved (command.Ram address count) p = p
+abbrev pub place_after_command : Command → Place → Place
+place_after_command (command.Step count) p = place_after_steps count p.past p.view p.rest
+place_after_command command.UntilTrap p = at_trap p.past p.view p.rest
+place_after_command (command.Reg reg) p = p
+place_after_command (command.Slot slot) p = p
+place_after_command command.Last p = p
+place_after_command (command.Ram address count) p = p
 
 -- what commands print, one after another, from a place on: each moves, and then prints
 abbrev pub text_from : List Command → Place → List ℕ
 text_from [] p = []
 text_from (first ∷ commands) p =
-    let after : Place = moved first p in
-    said first (last_of after.past) after.view ++ text_from commands after
+    let after : Place = place_after_command first p in
+    said first (last_events after.past) after.view ++ text_from commands after
 
 -- the text of a debugger: of its commands, of what is seen of the machine before the first event of
 -- a run, and of the moments of this run

@@ -50,8 +50,8 @@ module _ (v : Versions) where
 
 -- a run is over where the kernel halted it or null code faulted, and where the events reached the
 -- budget
-abbrev pub is_over : ℕ → Record → Bool
-is_over budget r = r.halted || nat_le budget r.events
+abbrev pub is_run_over : ℕ → Record → Bool
+is_run_over budget r = r.halted || nat_le budget r.events
 
 -- Where a kernel tells its turns, the moments of its run are a function of where it begins.
 module _ (v : Versions) {K : Type 0} (told : K → View → Option (Turn × (List ℕ × K)))

@@ -8,12 +8,12 @@ use Rattle.xom_model.specs.declared.outcome.Turn.{Turn}
 use Rattle.xom_model.specs.Event.{fits, on}
 use Rattle.xom_model.specs.Seen.{View, view_of}
 use Rattle.xom_model.specs.State.{Record}
-use Rattle.xom_machine.specs.Runs.{IsNext, IsRun, Made, guests_in, guests_of}
+use Rattle.xom_machine.specs.Runs.{IsNext, IsRun, Made, guest_events_in, guests_in}
 use Rattle.xom_machine.specs.Whole.{Whole}
 use Rattle.xom_debug.specs.declared.command.Command.{Command}
 use Rattle.xom_debug.specs.declared.session.Session.{Session}
-use Rattle.xom_debug.specs.DebugTexts.{debug_text, kept_events, last_of, moved, place, text_from}
-use Rattle.xom_debug.specs.Moments.{Moment, has_left, is_over, moments, moments_from}
+use Rattle.xom_debug.specs.DebugTexts.{debug_text, kept_events, last_events, place, place_after_command, text_from}
+use Rattle.xom_debug.specs.Moments.{Moment, has_left, is_run_over, moments, moments_from}
 
 -- ---- What a debugger did, whatever its kernel is
 
@@ -25,7 +25,7 @@ pub record IsDebugged (schedule : Schedule) (v : Versions) (budget : ℕ) (comma
   pub events : List Made
   pub made : IsRun schedule v 0 first events last
   pub few : length events ≤ budget
-  pub says : (rest : List Moment) → (is_over budget last ≡ true → rest ≡ [])
+  pub says : (rest : List Moment) → (is_run_over budget last ≡ true → rest ≡ [])
       → text ≡ debug_text commands (view_of first) (moments v first events ++ rest)
 
 -- ---- At work
@@ -36,7 +36,7 @@ events_in made = map (λ m. m.0) made
 
 -- the last of these events are kept
 abbrev pub HasNoted : List Event → Session → Type 0
-HasNoted past s = s.last ≡ buffer (last_of past) kept_events
+HasNoted past s = s.last ≡ buffer (last_events past) kept_events
 
 -- none of these events is one at which a guest leaves
 abbrev pub Stays : Versions → Record → List Made → Type 0
@@ -71,7 +71,7 @@ module _ {K : Type 0} (told : K → View → Option (Turn × (List ℕ × K))) (
       (k' : K) : Type 0 where
     pub made : IsRun schedule v s.guests m.state events m'.state
     pub counted : m'.state.events ≡ m.state.events + length events
-    pub guests : s'.guests ≡ s.guests + guests_of events
+    pub guests : s'.guests ≡ s.guests + guest_events_in events
     pub few : s.guests ≤ m.state.events → s'.guests ≤ m'.state.events
     pub noted : (past : List Event) → length past ≡ m.state.events → HasNoted past s
         → HasNoted (past ++ events_in events) s'
@@ -88,7 +88,7 @@ module _ {K : Type 0} (told : K → View → Option (Turn × (List ℕ × K))) (
     pub all : length events ≡ count
     pub few : s'.guests ≤ m'.state.events
     pub within : m.state.events ≤ budget → m'.state.events ≤ budget
-    pub still : is_over budget m.state ≡ true → events ≡ []
+    pub still : is_run_over budget m.state ≡ true → events ≡ []
 
   -- the same, and no guest left
   pub record Stayed (budget : ℕ) (s : Session) (m : Whole) (k : K) (count : ℕ) (s' : Session)
@@ -102,10 +102,10 @@ module _ {K : Type 0} (told : K → View → Option (Turn × (List ℕ × K))) (
     pub events : List Made
     pub goes : Goes s m k events s' m' k'
     pub within : m.state.events ≤ budget → m'.state.events ≤ budget
-    pub still : is_over budget m.state ≡ true → events ≡ []
+    pub still : is_run_over budget m.state ≡ true → events ≡ []
     pub moved : (past : List Event) (rest : List Moment)
-        → (is_over budget m'.state ≡ true → rest ≡ [])
-        → moved c (place past (view_of m.state) (moments v m.state events ++ rest)) ≡ place
+        → (is_run_over budget m'.state ≡ true → rest ≡ [])
+        → place_after_command c (place past (view_of m.state) (moments v m.state events ++ rest)) ≡ place
         (past ++ events_in events) (view_of m'.state) rest
 
   -- So many of the commands were carried out, and this was printed: with what the others print it
@@ -116,7 +116,7 @@ module _ {K : Type 0} (told : K → View → Option (Turn × (List ℕ × K))) (
     pub goes : Goes s m k events s' m' k'
     pub few : s'.guests ≤ m'.state.events
     pub within : m'.state.events ≤ budget
-    pub says : (rest : List Moment) → (is_over budget m'.state ≡ true → rest ≡ [])
+    pub says : (rest : List Moment) → (is_run_over budget m'.state ≡ true → rest ≡ [])
         → text ++ text_from (drop count commands) (place (events_in events) (view_of m'.state) rest)
         ≡ debug_text commands (view_of m.state) (moments v m.state events ++ rest)
 

@@ -1,7 +1,7 @@
 ghost use Rattle.std.specs.Prelude.{◌≡◌, ◌<◌, ◌^◌, All, IfOk, IfSome};
 ghost use Rattle.xom_model.specs.Run.{IsSchedule};
 ghost use Rattle.xom_model.specs.Seen.{view_of};
-ghost use Rattle.xom_debug.specs.Commands.{KeepsRules};
+ghost use Rattle.xom_debug.specs.Commands.{CommandKeepsRules};
 ghost use Rattle.xom_debug.specs.DebugTexts.{debug_text};
 ghost use Rattle.xom_debug.specs.Moments.{moments_from};
 ghost use Rattle.xom_debug.specs.Sessions.{Debugs, IsDebugged};
@@ -30,7 +30,7 @@ pub fn debug<V: VersionStore, K: Kernel>(
     requires first { machine.old.state.events ≡ 0 }
     requires schedule { IsSchedule schedule.now }
     requires few { budget < 2 ^ 63 }
-    requires rules { All KeepsRules commands.now }
+    requires rules { All CommandKeepsRules commands.now }
 
     // Events that may come, each in its turn, were made, and the text is that of the commands over their
     // moments, and over any that might follow, unless the run is over.
@@ -55,7 +55,7 @@ fn debugged<V: VersionStore, K: Kernel>(
     requires first { machine.old.state.events ≡ 0 }
     requires schedule { IsSchedule schedule.now }
     requires few { budget < 2 ^ 63 }
-    requires rules { All KeepsRules commands.now }
+    requires rules { All CommandKeepsRules commands.now }
     ensures { IfOk result (λ text. Debugs K.told schedule.now V.versions budget commands.now machine.old kernel.old machine.new kernel.new text) }
 {
     let mut session = Session::new(alloc)?;

@@ -2,8 +2,8 @@ ghost use Rattle.std.specs.Prelude.{◌≡◌, ◌≤◌, ◌++◌, IfOk, OnOk};
 ghost use Rattle.std.specs.List.{flat_map};
 ghost use Rattle.tag_regs.specs.TaggedCells.{cell_at};
 ghost use Rattle.xom_model.specs.Seen.{open_cell};
-ghost use Rattle.xom_machine.specs.Shown.{slot_at};
-ghost use Rattle.xom_debug.specs.Commands.{KeepsRules};
+ghost use Rattle.xom_machine.specs.Shown.{shown_slot_at};
+ghost use Rattle.xom_debug.specs.Commands.{CommandKeepsRules};
 ghost use Rattle.xom_debug.specs.DebugTexts.{byte_at as byte_at_of, bytes_from as bytes_from_of, cell_line, cell_text, event_text, noted_line, op_word as op_word_of, ram_line, range_text, said, slot_line, state_word as state_word_of};
 
 use crate::command::Command;
@@ -22,7 +22,7 @@ pub fn show(
     view: &View,
     session: &Session,
 ) -> Result<(), NoMemory>
-    requires { KeepsRules command }
+    requires { CommandKeepsRules command }
     ensures { OnOk result (text.new.items ≡ text.old.items ++ said command session.now.last.items view.now) }
 {
     match command {
@@ -68,7 +68,7 @@ fn push_owner(text: &mut Vec<u8>, value: Option<u32>, tag: u8) -> Result<(), NoM
 fn push_slot(text: &mut Vec<u8>, view: &View, slot: u8) -> Result<(), NoMemory>
     requires some { 1 ≤ slot }
     requires known { slot ≤ 16 }
-    ensures { OnOk result (text.new.items ≡ text.old.items ++ slot_line slot (slot_at view.now.slots slot)) }
+    ensures { OnOk result (text.new.items ≡ text.old.items ++ slot_line slot (shown_slot_at view.now.slots slot)) }
 {
     let shown = view.slot(slot);
     push_text(text, "slot ")?;

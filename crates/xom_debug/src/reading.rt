@@ -1,6 +1,6 @@
 ghost use Rattle.std.specs.Prelude.{◌≡◌, All, IfOk, map};
 ghost use Rattle.xom_base.specs.Lines.{AnswersRead, AnswersText};
-ghost use Rattle.xom_debug.specs.Commands.{AreCommands, IsBadLine, KeepsRules, command_of, commands_at, of_one as of_one_word, of_two as of_two_words, of_three as of_three_words, ram_of, reg_of, slot_of, step_of, until_of};
+ghost use Rattle.xom_debug.specs.Commands.{AreCommands, CommandKeepsRules, IsBadCommandLine, command_of, command_of_one as of_one_word, command_of_three as of_three_words, command_of_two as of_two_words, commands_at, ram_command, reg_command, slot_command, step_command, until_command};
 
 use crate::command::{Command, CommandList};
 use std::alloc::Global;
@@ -13,11 +13,11 @@ use xom_base::{LineFault, LineFormat, TextFault, number, number_below, read_line
 /// from 1, or `NoMemory`. It costs time linear in the text.
 pub fn read_commands(alloc: Global, text: &[u8]) -> Result<CommandList, TextFault>
     // What is read is in the grammar, what is in the grammar is read, and a line is the first bad one.
-    ensures text { AnswersText (AreCommands text.now) (IsBadLine text.now) result }
+    ensures text { AnswersText (AreCommands text.now) (IsBadCommandLine text.now) result }
     ensures value { AnswersRead (commands_at text.now) result }
 
     // What `debug` wants of its commands.
-    ensures rules { IfOk result (λ commands. All KeepsRules commands) }
+    ensures rules { IfOk result (λ commands. All CommandKeepsRules commands) }
 {
     commands_in(alloc, text)
 }
@@ -73,7 +73,7 @@ fn command(words: &[&[u8]]) -> Option<Command>
     }
 }
 
-#[tactic(auto, unfolding(crate::specs::Commands::of_one))]
+#[tactic(auto, unfolding(crate::specs::Commands::command_of_one))]
 fn of_one(name: &[u8]) -> Option<Command>
     ensures { result ≡ of_one_word name.now }
 {
@@ -84,7 +84,7 @@ fn of_one(name: &[u8]) -> Option<Command>
     }
 }
 
-#[tactic(auto, unfolding(crate::specs::Commands::of_two))]
+#[tactic(auto, unfolding(crate::specs::Commands::command_of_two))]
 fn of_two(name: &[u8], a: &[u8]) -> Option<Command>
     ensures { result ≡ of_two_words name.now a.now }
 {
@@ -101,7 +101,7 @@ fn of_two(name: &[u8], a: &[u8]) -> Option<Command>
     }
 }
 
-#[tactic(auto, unfolding(crate::specs::Commands::of_three))]
+#[tactic(auto, unfolding(crate::specs::Commands::command_of_three))]
 fn of_three(name: &[u8], a: &[u8], b: &[u8]) -> Option<Command>
     ensures { result ≡ of_three_words name.now a.now b.now }
 {
@@ -112,17 +112,17 @@ fn of_three(name: &[u8], a: &[u8], b: &[u8]) -> Option<Command>
     }
 }
 
-#[tactic(auto, unfolding(crate::specs::Commands::step_of))]
+#[tactic(auto, unfolding(crate::specs::Commands::step_command))]
 fn step(count: &[u8]) -> Option<Command>
-    ensures { result ≡ step_of count.now }
+    ensures { result ≡ step_command count.now }
 {
     let count = number(count)?;
     Some(Command::Step(count))
 }
 
-#[tactic(auto, unfolding(crate::specs::Commands::until_of))]
+#[tactic(auto, unfolding(crate::specs::Commands::until_command))]
 fn until(event: &[u8]) -> Option<Command>
-    ensures { result ≡ until_of event.now }
+    ensures { result ≡ until_command event.now }
 {
     if event == b"trap".as_slice() {
         Some(Command::UntilTrap)
@@ -131,25 +131,25 @@ fn until(event: &[u8]) -> Option<Command>
     }
 }
 
-#[tactic(auto, unfolding(crate::specs::Commands::reg_of))]
+#[tactic(auto, unfolding(crate::specs::Commands::reg_command))]
 fn reg(reg: &[u8]) -> Option<Command>
-    ensures { result ≡ reg_of reg.now }
+    ensures { result ≡ reg_command reg.now }
 {
     let reg = number_below(reg, 34)?;
     (reg >= 1).then_some(Command::Reg(reg as u8))
 }
 
-#[tactic(auto, unfolding(crate::specs::Commands::slot_of))]
+#[tactic(auto, unfolding(crate::specs::Commands::slot_command))]
 fn slot(slot: &[u8]) -> Option<Command>
-    ensures { result ≡ slot_of slot.now }
+    ensures { result ≡ slot_command slot.now }
 {
     let slot = number_below(slot, 17)?;
     (slot >= 1).then_some(Command::Slot(slot as u8))
 }
 
-#[tactic(auto, unfolding(crate::specs::Commands::ram_of))]
+#[tactic(auto, unfolding(crate::specs::Commands::ram_command))]
 fn ram(address: &[u8], count: &[u8]) -> Option<Command>
-    ensures { result ≡ ram_of address.now count.now }
+    ensures { result ≡ ram_command address.now count.now }
 {
     let address = number_below(address, 1 << 32)?;
     let count = number_below(count, 65)?;

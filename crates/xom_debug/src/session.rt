@@ -4,7 +4,7 @@ ghost use Rattle.xom_model.specs.Run.{IsSchedule};
 ghost use Rattle.xom_model.specs.Seen.{view_of};
 ghost use Rattle.xom_machine.specs.Runs.{guests_in};
 ghost use Rattle.xom_debug.specs.DebugTexts.{kept_events};
-ghost use Rattle.xom_debug.specs.Moments.{has_left as has_left_in, is_guest as is_guest_event, is_over as is_over_at};
+ghost use Rattle.xom_debug.specs.Moments.{has_left as has_left_in, is_guest as is_guest_event, is_run_over as is_over_at};
 ghost use Rattle.xom_debug.specs.Sessions.{Advances, HasNoted, Makes};
 ghost use Rattle.xom_debug.specs.declared.command.Command.TheVariants as command_kinds;
 

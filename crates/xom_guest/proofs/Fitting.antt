@@ -17,7 +17,7 @@ use Rattle.line_cache.specs.Ways.{way_at}
 use Rattle.page_map.specs.Pages.{Pages}
 use Rattle.session_table.specs.declared.session.Session.{Session}
 use Rattle.session_table.specs.declared.session.SlotState.TheVariants as state
-use Rattle.session_table.specs.Sessions.{free, is_live, paused, session_at}
+use Rattle.session_table.specs.Sessions.{free, is_live, session_after_pause, session_at}
 use Rattle.slot_keys.specs.GuestKeys.{GuestKeys, OthersKeep, keys_at, with_registers}
 use Rattle.xom_seal.specs.Keys.{register_keys}
 use Rattle.xom_versions.specs.Store.{Store}
@@ -198,7 +198,7 @@ fits_retired sessions pages ways new_ways ram new_ram stores keys boot slot plac
 
 pub fits_paused : (sessions : List Session) (pages : Pages) (ways : List Way) (ram : List ℕ)
     (stores : List Store) (keys new_keys : List GuestKeys) (boot slot : ℕ) (s : Session)
-    → (session_at sessions slot).state ≡ state.Running → s ≡ paused (session_at sessions slot)
+    → (session_at sessions slot).state ≡ state.Running → s ≡ session_after_pause (session_at sessions slot)
     → keys_at new_keys slot ≡ with_registers (keys_at keys slot) (register_keys s.key boot s.install
     s.epoch)
     → OthersKeep keys new_keys slot

@@ -8,20 +8,20 @@ use Rattle.xom_base.specs.declared.step.Step.{Step}
 use Rattle.mips_effect.specs.declared.effects.Effect.{Effect}
 use Rattle.session_table.specs.Sessions.{free}
 use Rattle.xom_seal.specs.Sealing.{unsealed_line}
-use Rattle.line_cache.specs.Ways.{found, place_for, way_at}
+use Rattle.line_cache.specs.Ways.{place_for, place_of_line, way_at}
 use Rattle.page_map.specs.Pages.{frame_of}
 use Rattle.xom_versions.specs.declared.store.Torn.{Torn}
 use Rattle.xom_versions.specs.Versions.{Versions}
 use Rattle.xom_model.specs.declared.reach.Reach.{Reach}
 use Rattle.xom_model.specs.declared.reach.Reach.TheVariants as reach
-use Rattle.xom_model.specs.State.{CoreState, core_with_hashes, page_of, session_of, store_of, with_entry, with_way}
-use Rattle.xom_model.specs.Lines.{accept_entry, ct_place, keys_of, name_of, sealed_at, who_of}
+use Rattle.xom_model.specs.State.{CoreState, core_with_hashes, core_with_way, page_of, session_of, store_of, with_entry}
+use Rattle.xom_model.specs.Lines.{accept_entry, ct_place, keys_of, line_name_of, sealed_at, who_of}
 use Rattle.xom_model.specs.Access.{access, after_opening, brought, cleared_at, reach_after_placing, reach_after_victim, reach_by_cache, reach_in_frame, read_from, with_pointers}
 use Rattle.xom_model.specs.Guest.{after_retirement, session_after_step}
 use Rattle.xom_model.specs.Holds.{IsRunning}
 use Rattle.xom_model.proofs.AccessKept.{found-low, place_for-low}
 use Rattle.xom_model.proofs.Walk.{IsOwnPlace, Parts, Reached, running-within, walk_access}
-use Rattle.xom_guest.specs.Places.{Comes, IsPlaceOf, RunsOn}
+use Rattle.xom_guest.specs.Places.{AccessComes, IsPlaceOf, RunsOn}
 
 -- ---- The place is one of the cache
 
@@ -59,11 +59,11 @@ module _ (v : Versions) (slot line : ℕ) where
       (read_from v core slot line frame version) (λ (r : CoreState × Reach). IsLow r.1)
       (λ _. low_placed core (replicate 32 0))
       (λ _. low_opened core version (ct_place frame line) (sealed_at core.ram frame line).ct
-      (unsealed_line (name_of (who_of core slot) line version)
+      (unsealed_line (line_name_of (who_of core slot) line version)
       (keys_of (who_of core slot) line version) (sealed_at core.ram frame line)))
 
   low_looked : (core : CoreState) (frame : ℕ) (at : Option ℕ) → length core.ways ≡ 128
-      → found core.ways slot line ≡ at → IsLow (reach_by_cache v core slot line frame at).1
+      → place_of_line core.ways slot line ≡ at → IsLow (reach_by_cache v core slot line frame at).1
   low_looked core frame (Some place) places is = found-low core.ways slot line place places is
   low_looked core frame None places is =
       low_brought (core_with_hashes core (v.texts_of_version (store_of core slot) line core.ram))
@@ -73,7 +73,7 @@ module _ (v : Versions) (slot line : ℕ) where
       → IsLow (reach_in_frame v core slot line frame).1
   low_mapped core None places = tt
   low_mapped core (Some frame) places =
-      low_looked core frame (found core.ways slot line) places refl
+      low_looked core frame (place_of_line core.ways slot line) places refl
 
   low_access : (core : CoreState) → length core.ways ≡ 128 → IsLow (access v core slot line).1
   unfolding access
@@ -106,7 +106,7 @@ same_runs core new slot same runs = record {
 }
 
 comes : (core new : CoreState) (slot : ℕ) (answer : Reach) → IsRunning core slot
-    → Reached core slot new answer → IsLow answer → Comes core new slot answer
+    → Reached core slot new answer → IsLow answer → AccessComes core new slot answer
 comes core new slot (reach.Ready place) runs reached low = (
   same_runs core new slot reached.0 runs,
   record {
@@ -120,7 +120,7 @@ comes core new slot (reach.PageFault page) runs reached low =
 comes core new slot (reach.Stopped why) runs reached low = tt
 
 access_comes : (v : Versions) (core : CoreState) (slot line : ℕ) → length core.ways ≡ 128
-    → IsRunning core slot → Comes core (access v core slot line).0 slot (access v core slot line).1
+    → IsRunning core slot → AccessComes core (access v core slot line).0 slot (access v core slot line).1
 access_comes v core slot line places runs =
     comes core (access v core slot line).0 slot (access v core slot line).1 runs
     (walk_access v slot (λ _ _. Unit {0}) (any_part v slot) core line runs).1
@@ -130,7 +130,7 @@ access_comes v core slot line places runs =
 pub made_comes : (v : Versions) (core new : CoreState) (slot line : ℕ) (answer : Reach)
     → length core.ways ≡ 128 → IsRunning core slot
     → new ≡ (access v core slot line).0 → answer ≡ (access v core slot line).1
-    → Comes core new slot answer
+    → AccessComes core new slot answer
 made_comes v core new slot line answer places runs new_is answer_is =
     rw (new_is, answer_is) (access_comes v core slot line places runs)
 

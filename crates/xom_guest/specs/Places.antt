@@ -38,7 +38,7 @@ pub record RunsOn (core new : CoreState) (slot : ℕ) : Type 0 where
   pub epoch : (session_of new slot).epoch ≡ (session_of core slot).epoch
 
 -- what the answer of an access says of the core behind it
-abbrev pub Comes : CoreState → CoreState → ℕ → Reach → Type 0
-Comes core new slot (reach.Ready place) = RunsOn core new slot × IsPlaceOf new.ways slot place
-Comes core new slot (reach.PageFault page) = RunsOn core new slot
-Comes core new slot (reach.Stopped why) = Unit {0}
+abbrev pub AccessComes : CoreState → CoreState → ℕ → Reach → Type 0
+AccessComes core new slot (reach.Ready place) = RunsOn core new slot × IsPlaceOf new.ways slot place
+AccessComes core new slot (reach.PageFault page) = RunsOn core new slot
+AccessComes core new slot (reach.Stopped why) = Unit {0}

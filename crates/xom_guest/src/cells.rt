@@ -1,7 +1,7 @@
 ghost use Rattle.std.specs.Prelude.{◌≡◌, ◌≤◌, ◌<◌};
 ghost use Rattle.mips_effect.specs.Effects.{AreCells, IsInRange};
 ghost use Rattle.mips_plain.specs.Inside.{IsInside, IsLent};
-ghost use Rattle.xom_model.specs.Guest.{cells_after, open_value as open_value_of, received_by, seen_as as seen_as_of, seen_by as seen_by_of, with_release, with_writes};
+ghost use Rattle.xom_model.specs.Guest.{cells_after_step, open_value as open_value_of, received_by, seen_as as seen_as_of, seen_by as seen_by_of, with_release, with_writes};
 
 use crate::memory::null_word;
 use line_ram::LineRam;
@@ -58,7 +58,7 @@ fn open_value(value: u32, tag: u8) -> u32
 pub fn carry_out(slot: u8, cells: &mut Cells, step: &Step)
     requires known { slot ≤ 16 }
     requires inside { IsInside step.now }
-    ensures { cells.new ≡ cells_after slot cells.old step.now }
+    ensures { cells.new ≡ cells_after_step slot cells.old step.now }
 {
     write(slot, cells, step.writes);
     release(cells, step.released);

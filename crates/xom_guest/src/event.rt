@@ -7,7 +7,7 @@ ghost use Rattle.line_cache.specs.Ways.{way_at};
 ghost use Rattle.xom_versions.specs.Store.{line_limit};
 ghost use Rattle.xom_model.specs.Access.{access};
 ghost use Rattle.xom_model.specs.State.{session_of};
-ghost use Rattle.xom_guest.specs.Places.{Comes, IsPlaceOf};
+ghost use Rattle.xom_guest.specs.Places.{AccessComes, IsPlaceOf};
 
 use crate::retire::{retires, trap};
 use crate::{cells, lines};
@@ -58,7 +58,7 @@ fn reach<V: VersionStore>(core: &mut Core<V>, slot: u8, line: u32) -> Reach
     requires room { 10000 ≤ core.old.spare }
     ensures core { core.new.core ≡ (access V.versions core.old.core slot line).0 }
     ensures reach { result ≡ (access V.versions core.old.core slot line).1 }
-    ensures came { Comes core.old.core core.new.core slot result }
+    ensures came { AccessComes core.old.core core.new.core slot result }
     ensures room { core.old.spare ≤ core.new.spare + 10000 }
 {
     // The core's type has more to say than its record.

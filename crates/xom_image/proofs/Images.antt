@@ -4,7 +4,7 @@ use Rattle.std.proofs.Math.Bridge.{le_prop}
 use Rattle.std.proofs.Math.Nat.{ℕ_set}
 use mathlib.Core.HLevel.{is_prop→PathP}
 use Rattle.xom_seal.specs.declared.line.SealedLine.{SealedLine}
-use Rattle.xom_seal.specs.Envelopes.{entry_in, lines_in}
+use Rattle.xom_seal.specs.Envelopes.{entry_of_envelope, lines_in}
 use Rattle.xom_image.specs.declared.sealed_image.SealedImage.{SealedImage}
 use Rattle.xom_image.proofs.LineBytes.{AreWhole}
 
@@ -18,9 +18,9 @@ SealedImage-equal a b envelope lines = λ i. record {
   lines = lines i;
   sized = is_prop→PathP (λ j. length (envelope j) ≡ 88) (λ j. ℕ_set (length (envelope j)) 88)
       a.sized b.sized i;
-  aligned = is_prop→PathP (λ j. entry_in (envelope j) % 4 ≡ 0)
-      (λ j. ℕ_set (entry_in (envelope j) % 4) 0) a.aligned b.aligned i;
-  private = is_prop→PathP (λ j. entry_in (envelope j) < 2 ^ 20) (λ j. le_prop) a.private b.private
+  aligned = is_prop→PathP (λ j. entry_of_envelope (envelope j) % 4 ≡ 0)
+      (λ j. ℕ_set (entry_of_envelope (envelope j) % 4) 0) a.aligned b.aligned i;
+  private = is_prop→PathP (λ j. entry_of_envelope (envelope j) < 2 ^ 20) (λ j. le_prop) a.private b.private
       i;
   counted = is_prop→PathP (λ j. lines_in (envelope j) ≡ length (lines j))
       (λ j. ℕ_set (lines_in (envelope j)) (length (lines j))) a.counted b.counted i;

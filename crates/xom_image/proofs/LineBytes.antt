@@ -8,7 +8,7 @@ use Rattle.std.proofs.lemmas.List.Concat.{flat_map-append}
 use Rattle.std.proofs.lemmas.List.FromFn.{get_or-map-range_with_len, length-map-range_with_len, map-range_with_len_more, fill_by_all}
 use Rattle.std.proofs.lemmas.Option.{slice_get-get_or, slice_get_within, get_or_from_slice_get}
 use Rattle.xom_seal.specs.declared.line.SealedLine.{SealedLine}
-use Rattle.xom_image.specs.SealedFiles.{line_bytes, line_at, lines_at}
+use Rattle.xom_image.specs.SealedFiles.{line_bytes, lines_at, sealed_line_at}
 
 -- each line has its 32 bytes of ciphertext and of tag
 abbrev pub AreWhole : List SealedLine → Type 0
@@ -20,18 +20,18 @@ AreWhole lines =
 
 -- a line is 64 bytes
 line_at-bytes : (file : List ℕ) (place : ℕ)
-    → line_bytes (line_at file place) ≡ take 64 (drop place file)
+    → line_bytes (sealed_line_at file place) ≡ take 64 (drop place file)
 line_at-bytes file place =
     ap (λ rest. take 32 (drop place file) ++ take 32 rest) (sym (drop-drop 32 place file))
     ∙ sym (take-add 32 32 (drop place file))
 
 -- one more line
 pub lines_at_more : (file : List ℕ) (n : ℕ)
-    → lines_at file (n + 1) ≡ lines_at file n ++ line_at file (96 + 64 * n) ∷ []
-lines_at_more file n = map-range_with_len_more (λ i. line_at file (96 + 64 * i)) 0 n n (omega arith)
+    → lines_at file (n + 1) ≡ lines_at file n ++ sealed_line_at file (96 + 64 * n) ∷ []
+lines_at_more file n = map-range_with_len_more (λ i. sealed_line_at file (96 + 64 * i)) 0 n n (omega arith)
 
 pub length-lines_at : (file : List ℕ) (n : ℕ) → length (lines_at file n) ≡ n
-length-lines_at file n = length-map-range_with_len (λ i. line_at file (96 + 64 * i)) 0 n
+length-lines_at file n = length-map-range_with_len (λ i. sealed_line_at file (96 + 64 * i)) 0 n
 
 -- a value at a place of a list that is made place by place
 pub get-made : {X : Type 0} (f : ℕ → X) (n i : ℕ) (x : X)
@@ -49,10 +49,10 @@ get-made f n i x is =
 pub lines_at-whole : (file : List ℕ) (n : ℕ) → 96 + 64 * n ≤ length file
     → AreWhole (lines_at file n)
 lines_at-whole file n there i line is =
-    let (below, same) = get-made (λ k. line_at file (96 + 64 * k)) n i line is in
-    let ct : length (line_at file (96 + 64 * i)).ct ≡ 32 =
+    let (below, same) = get-made (λ k. sealed_line_at file (96 + 64 * k)) n i line is in
+    let ct : length (sealed_line_at file (96 + 64 * i)).ct ≡ 32 =
     length-take-le 32 (drop (96 + 64 * i) file) (simp length-drop (omega arith)) in
-    let tag : length (line_at file (96 + 64 * i)).tag ≡ 32 =
+    let tag : length (sealed_line_at file (96 + 64 * i)).tag ≡ 32 =
     length-take-le 32 (drop (96 + 64 * i + 32) file) (simp length-drop (omega arith)) in (
       ap (λ (l : SealedLine). length l.ct) same ∙ ct,
       ap (λ (l : SealedLine). length l.tag) same
@@ -70,10 +70,10 @@ lines_at-bytes file zero = refl
 lines_at-bytes file (suc n) =
     ap (λ k. flat_map line_bytes (lines_at file k)) (sym (add-one n))
     ∙ ap (λ lines. flat_map line_bytes lines) (lines_at_more file n)
-    ∙ flat_map-append line_bytes (lines_at file n) (line_at file (96 + 64 * n) ∷ [])
-    ∙ ap (λ front. front ++ flat_map line_bytes (line_at file (96 + 64 * n) ∷ []))
+    ∙ flat_map-append line_bytes (lines_at file n) (sealed_line_at file (96 + 64 * n) ∷ [])
+    ∙ ap (λ front. front ++ flat_map line_bytes (sealed_line_at file (96 + 64 * n) ∷ []))
     (lines_at-bytes file n)
-    ∙ ap (λ line. take (64 * n) (drop 96 file) ++ line) (one_line (line_at file (96 + 64 * n))
+    ∙ ap (λ line. take (64 * n) (drop 96 file) ++ line) (one_line (sealed_line_at file (96 + 64 * n))
     _ (line_at-bytes file (96 + 64 * n)))
     ∙ ap (λ rest. take (64 * n) (drop 96 file) ++ take 64 rest) (sym (drop-drop (64 * n) 96 file))
     ∙ sym (take-add (64 * n) 64 (drop 96 file))
@@ -129,7 +129,7 @@ no_line = record { ct = []; tag = [] }
 
 -- the line at the front of the bytes of a line and more
 front_line : (line : SealedLine) (rest : List ℕ) → (length line.ct ≡ 32) × (length line.tag ≡ 32)
-    → line_at (line_bytes line ++ rest) 0 ≡ line
+    → sealed_line_at (line_bytes line ++ rest) 0 ≡ line
 front_line line rest (ct, tag) =
     let joined : line_bytes line ++ rest ≡ line.ct ++ (line.tag ++ rest) =
     append_assoc line.ct line.tag rest in
@@ -141,7 +141,7 @@ front_line line rest (ct, tag) =
     λ i. record { ct = first i; tag = second i }
 
 -- a line of a file is at the front of what is left there
-line_at-front : (file : List ℕ) (place : ℕ) → line_at file place ≡ line_at (drop place file) 0
+line_at-front : (file : List ℕ) (place : ℕ) → sealed_line_at file place ≡ sealed_line_at (drop place file) 0
 line_at-front file place =
     ap (λ rest. record { ct = take 32 (drop place file); tag = take 32 rest })
     (sym (drop-drop 32 place file))
@@ -149,7 +149,7 @@ line_at-front file place =
 -- the line at a place among the bytes of lines
 line_at-lines : (before : List ℕ) (lines : List SealedLine) (k : ℕ) → length before ≡ 96
     → AreWhole lines → k < length lines
-    → get_or lines k no_line ≡ line_at (before ++ flat_map line_bytes lines) (96 + 64 * k)
+    → get_or lines k no_line ≡ sealed_line_at (before ++ flat_map line_bytes lines) (96 + 64 * k)
 line_at-lines before lines k size whole below =
     let file = before ++ flat_map line_bytes lines in
     let line = get_or lines k no_line in
@@ -161,7 +161,7 @@ line_at-lines before lines k size whole below =
     ∙ lines-drop lines k whole
     ∙ ap (λ rest. flat_map line_bytes rest) (drop-cons lines k no_line below)
     in
-    sym (line_at-front file (96 + 64 * k) ∙ ap (λ rest. line_at rest 0) left ∙ front_line line
+    sym (line_at-front file (96 + 64 * k) ∙ ap (λ rest. sealed_line_at rest 0) left ∙ front_line line
     (flat_map line_bytes (drop (suc k) lines))
     (whole k line (slice_get-get_or lines k no_line below)))
 
@@ -170,5 +170,5 @@ pub lines_at-lines : (before : List ℕ) (lines : List SealedLine) → length be
     → AreWhole lines
     → lines_at (before ++ flat_map line_bytes lines) (length lines) ≡ lines
 lines_at-lines before lines size whole =
-    sym (fill_by_all (λ i. line_at (before ++ flat_map line_bytes lines) (96 + 64 * i)) lines
+    sym (fill_by_all (λ i. sealed_line_at (before ++ flat_map line_bytes lines) (96 + 64 * i)) lines
     (length lines) no_line refl (λ k below. line_at-lines before lines k size whole below))

@@ -9,8 +9,8 @@ use Rattle.xom_base.specs.declared.image.PlainImage.{PlainImage}
 use Rattle.xom_image.specs.declared.fault.ImageFault.{ImageFault}
 use Rattle.xom_base.proofs.Images.{PlainImage-equal}
 use Rattle.xom_image.proofs.Reading.{agreed-all, fields-told, whole-fields, AnswersBy-file}
-use Rattle.xom_image.specs.Fields.{number_at, agreed, fields_at, AnswersFile, IsFormat, IsWhole}
-use Rattle.xom_image.specs.PlainFiles.{plain_head, plain_file, plain_format, IsPlainFile, IsFirstBad, plain_image_at, Answers}
+use Rattle.xom_image.specs.Fields.{AnswersFile, IsFormat, IsWhole, common_prefix_size, fields_at, number_in_file}
+use Rattle.xom_image.specs.PlainFiles.{ImageAnswers, IsFirstBad, IsPlainFile, plain_file, plain_format, plain_head, plain_image_at}
 
 pub plain_is_format : IsFormat plain_format
 plain_is_format = record { named = refl; behind = omega arith; before = omega arith }
@@ -29,8 +29,8 @@ field-bytes file place bytes i =
 
 -- a field of four bytes, written again
 field-written : (file : List ℕ) (place : ℕ) → ((i : ℕ) → get_or file i 0 < 256)
-    → place + 4 ≤ length file → to_be_bytes w32 (number_at file place) ≡ take 4 (drop place file)
-unfolding number_at
+    → place + 4 ≤ length file → to_be_bytes w32 (number_in_file file place) ≡ take 4 (drop place file)
+unfolding number_in_file
 field-written file place bytes there =
     be_bytes_4 (take 4 (drop place file)) _ (length-take-le 4 (drop place file)
     (simp length-drop (omega arith))) (field-bytes file place bytes) refl
@@ -51,11 +51,11 @@ pieces file =
 
 -- a file that breaks no rule is that of its own parts
 IsWhole-file : (file : List ℕ) → ((i : ℕ) → get_or file i 0 < 256) → IsWhole plain_format file
-    → file ≡ plain_file (number_at file 8) (drop 16 file)
+    → file ≡ plain_file (number_in_file file 8) (drop 16 file)
 unfolding plain_file
 IsWhole-file file bytes whole =
-    let size : length file ≡ 16 + 1 * number_at file 12 = whole.size in
-    let said : length (drop 16 file) ≡ number_at file 12 = simp length-drop (omega arith) in
+    let size : length file ≡ 16 + 1 * number_in_file file 12 = whole.size in
+    let said : length (drop 16 file) ≡ number_in_file file 12 = simp length-drop (omega arith) in
     let entry = field-written file 8 bytes (omega arith) in
     let length = field-written file 12 bytes (omega arith) in
     sym (pieces file) ∙ four (drop 16 file) (agreed-all plain_head file whole.head) (sym entry)
@@ -67,7 +67,7 @@ module _ (file : List ℕ) (entry count : ℕ)
   breaks_none : IsWhole plain_format file
   breaks_none = (fields-told plain_format file (entry, count) plain_is_format is).0
 
-  entry_told : entry ≡ number_at file 8
+  entry_told : entry ≡ number_in_file file 8
   entry_told =
       ap (λ (fields : ℕ × ℕ). fields.0)
       (fields-told plain_format file (entry, count) plain_is_format is).1
@@ -80,8 +80,8 @@ module _ (file : List ℕ) (entry count : ℕ)
 
   pub told-fits : length (drop 16 file) ≤ 2 ^ 20
   told-fits =
-      let size : length file ≡ 16 + 1 * number_at file 12 = breaks_none.size in
-      let most : number_at file 12 ≤ 2 ^ 20 = breaks_none.most in
+      let size : length file ≡ 16 + 1 * number_in_file file 12 = breaks_none.size in
+      let most : number_in_file file 12 ≤ 2 ^ 20 = breaks_none.most in
       simp length-drop (omega arith)
 
   pub told-file : ((i : ℕ) → get_or file i 0 < 256) → file ≡ plain_file entry (drop 16 file)
@@ -91,11 +91,11 @@ module _ (file : List ℕ) (entry count : ℕ)
 -- the file of an image breaks no rule
 plain_file-whole : (entry : ℕ) (bytes : List ℕ) → entry % 4 ≡ 0 → entry < 2 ^ 20
     → length bytes ≤ 2 ^ 20 → IsWhole plain_format (plain_file entry bytes)
-unfolding plain_file number_at agreed
+unfolding plain_file number_in_file common_prefix_size
 plain_file-whole entry bytes aligned private fits =
-    let entry_is : number_at (plain_file entry bytes) 8 ≡ entry = from_be_bytes-to_be_bytes_4 entry
+    let entry_is : number_in_file (plain_file entry bytes) 8 ≡ entry = from_be_bytes-to_be_bytes_4 entry
     (omega arith) in
-    let length_is : number_at (plain_file entry bytes) 12 ≡ length bytes =
+    let length_is : number_in_file (plain_file entry bytes) 12 ≡ length bytes =
     from_be_bytes-to_be_bytes_4 (length bytes) (omega arith) in
     record {
       head = refl;
@@ -108,7 +108,7 @@ plain_file-whole entry bytes aligned private fits =
 -- the file of an image is read as its entry and its bytes
 pub plain_file-read : (entry : ℕ) (bytes : List ℕ) → entry % 4 ≡ 0 → entry < 2 ^ 20
     → length bytes ≤ 2 ^ 20 → plain_image_at (plain_file entry bytes) ≡ Ok (entry, bytes)
-unfolding plain_image_at plain_file number_at
+unfolding plain_image_at plain_file number_in_file
 plain_file-read entry bytes aligned private fits =
     let file = plain_file entry bytes in
     ap (λ read. read >>= (λ fields. Ok (fields.0, bytes)))
@@ -125,7 +125,7 @@ IsPlainFile-read file image is =
     ∙ plain_file-read image.entry image.bytes image.aligned image.private image.fits
 
 pub Answers-file : (file : List ℕ) (result : Result PlainImage ImageFault)
-    → IfOk result (IsPlainFile file) → Answers (plain_image_at file) result
+    → IfOk result (IsPlainFile file) → ImageAnswers (plain_image_at file) result
     → AnswersFile (IsPlainFile file) (IsFirstBad file) result
 unfolding plain_image_at
 Answers-file file =

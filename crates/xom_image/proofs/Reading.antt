@@ -8,19 +8,19 @@ use Rattle.xom_base.specs.Results.{◌>>=◌}
 use Rattle.xom_image.specs.declared.fault.ImageFault.{ImageFault}
 use Rattle.xom_image.specs.declared.fault.ImageFault.TheVariants as fault
 use Rattle.xom_image.specs.declared.fields.Format.{Format}
-use Rattle.xom_image.specs.Fields.{entry_of, count_of, size_of, DiffersAt, IsBadAt, IsFirstBadOf, is_entry, agreed, fields_at, AnswersBy, AnswersFile, IsWhole, IsFormat}
+use Rattle.xom_image.specs.Fields.{AnswersBy, AnswersFile, DiffersAt, IsBadAt, IsFirstBadOf, IsFormat, IsWhole, common_prefix_size, count_of, entry_of_file, fields_at, is_entry_address, size_of_file}
 
 -- ---- Where two texts agree
 
 -- the first bytes agree, and then the rest decides, or they differ
 agreed-step : (x y : ℕ) (xs ys : List ℕ)
-    → ((x ≡ y) × (agreed (x ∷ xs) (y ∷ ys) ≡ suc (agreed xs ys)))
-    ⊎ ((x ≡ y → ⊥) × (agreed (x ∷ xs) (y ∷ ys) ≡ 0))
-unfolding agreed
+    → ((x ≡ y) × (common_prefix_size (x ∷ xs) (y ∷ ys) ≡ suc (common_prefix_size xs ys)))
+    ⊎ ((x ≡ y → ⊥) × (common_prefix_size (x ∷ xs) (y ∷ ys) ≡ 0))
+unfolding common_prefix_size
 agreed-step x y xs ys = grind (arith, take_while-cons, nat_tests)
 
-pub agreed_within : (xs ys : List ℕ) → (agreed xs ys ≤ length xs) × (agreed xs ys ≤ length ys)
-unfolding agreed
+pub agreed_within : (xs ys : List ℕ) → (common_prefix_size xs ys ≤ length xs) × (common_prefix_size xs ys ≤ length ys)
+unfolding common_prefix_size
 agreed_within [] ys = (omega arith, omega arith)
 agreed_within (x ∷ xs) [] = (omega arith, omega arith)
 agreed_within (x ∷ xs) (y ∷ ys) =
@@ -32,8 +32,8 @@ agreed_within (x ∷ xs) (y ∷ ys) =
     ]
 
 -- before that place both have the same bytes
-pub agreed-same : (xs ys : List ℕ) (k : ℕ) → k < agreed xs ys → get_or ys k 0 ≡ get_or xs k 0
-unfolding agreed
+pub agreed-same : (xs ys : List ℕ) (k : ℕ) → k < common_prefix_size xs ys → get_or ys k 0 ≡ get_or xs k 0
+unfolding common_prefix_size
 agreed-same [] ys k below = absurd (omega arith)
 agreed-same (x ∷ xs) [] k below = absurd (omega arith)
 agreed-same (x ∷ xs) (y ∷ ys) zero below = elim (agreed-step x y xs ys) [
@@ -48,8 +48,8 @@ agreed-same (x ∷ xs) (y ∷ ys) (suc k) below = elim (agreed-step x y xs ys) [
 ]
 
 -- there they differ, where neither has ended
-pub agreed-differs : (xs ys : List ℕ) → agreed xs ys < length xs → agreed xs ys < length ys
-    → get_or ys (agreed xs ys) 0 ≡ get_or xs (agreed xs ys) 0 → ⊥
+pub agreed-differs : (xs ys : List ℕ) → common_prefix_size xs ys < length xs → common_prefix_size xs ys < length ys
+    → get_or ys (common_prefix_size xs ys) 0 ≡ get_or xs (common_prefix_size xs ys) 0 → ⊥
 agreed-differs [] ys short within same = absurd (omega arith)
 agreed-differs (x ∷ xs) [] short within same = absurd (omega arith)
 agreed-differs (x ∷ xs) (y ∷ ys) short within same =
@@ -59,8 +59,8 @@ agreed-differs (x ∷ xs) (y ∷ ys) short within same =
     ]
 
 -- a text that agrees in all bytes of another begins with it
-pub agreed-all : (xs ys : List ℕ) → agreed xs ys ≡ length xs → take (length xs) ys ≡ xs
-unfolding agreed
+pub agreed-all : (xs ys : List ℕ) → common_prefix_size xs ys ≡ length xs → take (length xs) ys ≡ xs
+unfolding common_prefix_size
 agreed-all [] ys all = refl
 agreed-all (x ∷ xs) [] all = absurd (omega arith)
 agreed-all (x ∷ xs) (y ∷ ys) all =
@@ -71,10 +71,10 @@ agreed-all (x ∷ xs) (y ∷ ys) all =
 
 -- ---- The reading is right
 
-is_entry-parts : (entry : ℕ) → is_entry entry ≡ true → (entry % 4 ≡ 0) × (entry < 2 ^ 20)
+is_entry-parts : (entry : ℕ) → is_entry_address entry ≡ true → (entry % 4 ≡ 0) × (entry < 2 ^ 20)
 is_entry-parts entry is = grind (arith, nat_tests)
 
-is_entry-not : (entry : ℕ) → is_entry entry ≡ false → (entry % 4 ≢ 0) ⊎ (2 ^ 20 ≤ entry)
+is_entry-not : (entry : ℕ) → is_entry_address entry ≡ false → (entry % 4 ≢ 0) ⊎ (2 ^ 20 ≤ entry)
 is_entry-not entry isnt =
     elim (and_cases (eqb (entry % 4) 0) (ltb entry (2 ^ 20)) isnt) [
       | inl turned ↦ inl (eqb-false _ _ turned)
@@ -83,9 +83,9 @@ is_entry-not entry isnt =
 
 -- a byte of the head differs at no place before the first where it does
 differs-above : (format : Format) (file : List ℕ) (n : ℕ) → DiffersAt format file n
-    → agreed format.head file ≤ n
+    → common_prefix_size format.head file ≤ n
 differs-above format file n (within, there, differs) =
-    elim (cases_lt n (agreed format.head file)) [
+    elim (cases_lt n (common_prefix_size format.head file)) [
       | inl below ↦ absurd (differs (agreed-same format.head file n below))
       | inr above ↦ above
     ]
@@ -93,37 +93,37 @@ differs-above format file n (within, there, differs) =
 -- what is read is right: the file's own fields where it breaks no rule, else its first bad place
 abbrev pub IsRight : Format → List ℕ → Result (ℕ × ℕ) ℕ → Type 0
 IsRight format file (Ok fields) =
-    IsWhole format file × (fields ≡ (entry_of format file, count_of format file))
+    IsWhole format file × (fields ≡ (entry_of_file format file, count_of format file))
 IsRight format file (Err n) = IsFirstBadOf format file n
 
 module _ (format : Format) (file : List ℕ) (is_format : IsFormat format) where
-  bad_head : agreed format.head file < 8 → IsFirstBadOf format file (agreed format.head file)
+  bad_head : common_prefix_size format.head file < 8 → IsFirstBadOf format file (common_prefix_size format.head file)
   bad_head short =
-      let within : agreed format.head file ≤ length file = (agreed_within format.head file).1 in
+      let within : common_prefix_size format.head file ≤ length file = (agreed_within format.head file).1 in
       record {
-        bad = elim (cases_lt (agreed format.head file) (length file)) [
+        bad = elim (cases_lt (common_prefix_size format.head file) (length file)) [
           | inl there ↦ inl (short, there, agreed-differs format.head file (omega arith) there)
           | inr ended ↦ inr (inr (inr (inl (omega arith, omega arith))))
         ];
         least = λ m bad. grind (arith, differs-above);
       }
 
-  no_entry : agreed format.head file ≡ 8 → length file < format.entry + 4
+  no_entry : common_prefix_size format.head file ≡ 8 → length file < format.entry + 4
       → IsFirstBadOf format file (length file)
   no_entry head short = record {
     bad = inr (inr (inr (inl (refl, omega arith))));
     least = λ m bad. grind (arith, differs-above);
   }
 
-  bad_entry : agreed format.head file ≡ 8 → format.entry + 4 ≤ length file
-      → (entry_of format file % 4 ≢ 0) ⊎ (2 ^ 20 ≤ entry_of format file)
+  bad_entry : common_prefix_size format.head file ≡ 8 → format.entry + 4 ≤ length file
+      → (entry_of_file format file % 4 ≢ 0) ⊎ (2 ^ 20 ≤ entry_of_file format file)
       → IsFirstBadOf format file format.entry
   bad_entry head there bad = record {
     bad = inr (inl (refl, there, bad));
     least = λ m bad. grind (arith, differs-above);
   }
 
-  no_count : agreed format.head file ≡ 8 → is_entry (entry_of format file) ≡ true
+  no_count : common_prefix_size format.head file ≡ 8 → is_entry_address (entry_of_file format file) ≡ true
       → format.entry + 4 ≤ length file → length file < format.entry + 8
       → IsFirstBadOf format file (length file)
   no_count head entry there short = record {
@@ -131,7 +131,7 @@ module _ (format : Format) (file : List ℕ) (is_format : IsFormat format) where
     least = λ m bad. grind (arith, differs-above, is_entry-parts);
   }
 
-  bad_count : agreed format.head file ≡ 8 → is_entry (entry_of format file) ≡ true
+  bad_count : common_prefix_size format.head file ≡ 8 → is_entry_address (entry_of_file format file) ≡ true
       → format.entry + 8 ≤ length file → format.most < count_of format file
       → IsFirstBadOf format file (format.entry + 4)
   bad_count head entry there bad = record {
@@ -139,12 +139,12 @@ module _ (format : Format) (file : List ℕ) (is_format : IsFormat format) where
     least = λ m bad. grind (arith, differs-above, is_entry-parts);
   }
 
-  other_size : agreed format.head file ≡ 8 → is_entry (entry_of format file) ≡ true
+  other_size : common_prefix_size format.head file ≡ 8 → is_entry_address (entry_of_file format file) ≡ true
       → format.entry + 8 ≤ length file → count_of format file ≤ format.most
-      → (length file ≡ size_of format file → ⊥)
-      → IsFirstBadOf format file (min (length file) (size_of format file))
+      → (length file ≡ size_of_file format file → ⊥)
+      → IsFirstBadOf format file (min (length file) (size_of_file format file))
   other_size head entry there most differs = record {
-    bad = elim (cases_lt (length file) (size_of format file)) [
+    bad = elim (cases_lt (length file) (size_of_file format file)) [
       | inl early ↦ inr (inr (inr (inl (omega arith, early))))
       | inr late ↦ inr (inr (inr (inr (omega arith, omega arith))))
     ];
@@ -154,14 +154,14 @@ module _ (format : Format) (file : List ℕ) (is_format : IsFormat format) where
   pub fields-right : IsRight format file (fields_at format file)
   unfolding fields_at
   fields-right =
-      cond_both (ltb (agreed format.head file) 8) _ _ (IsRight format file)
+      cond_both (ltb (common_prefix_size format.head file) 8) _ _ (IsRight format file)
       (λ t. bad_head (ltb-true _ _ t))
-      (λ t. let head : agreed format.head file ≡ 8 = let named : length format.head ≡ 8 =
+      (λ t. let head : common_prefix_size format.head file ≡ 8 = let named : length format.head ≡ 8 =
       is_format.named in omega (arith, ltb-false _ _ t, (agreed_within format.head file).0) in
       cond_both (ltb (length file) (format.entry + 4)) _ _ (IsRight format file)
       (λ t. no_entry head (ltb-true _ _ t))
       (λ t. let first = ltb-false _ _ t in
-      cond_both (is_entry (entry_of format file)) _ _ (IsRight format file)
+      cond_both (is_entry_address (entry_of_file format file)) _ _ (IsRight format file)
       (λ entry.
       cond_both (ltb (length file) (format.entry + 8)) _ _ (IsRight format file)
       (λ t. no_count head entry first (ltb-true _ _ t))
@@ -169,8 +169,8 @@ module _ (format : Format) (file : List ℕ) (is_format : IsFormat format) where
       cond_both (ltb format.most (count_of format file)) _ _ (IsRight format file)
       (λ t. bad_count head entry there (ltb-true _ _ t))
       (λ t. let most = ltb-false _ _ t in
-      cond_both (eqb (length file) (size_of format file)) _ _ (IsRight format file)
-      (λ t. let parts = is_entry-parts (entry_of format file) entry in (
+      cond_both (eqb (length file) (size_of_file format file)) _ _ (IsRight format file)
+      (λ t. let parts = is_entry-parts (entry_of_file format file) entry in (
         record {
           head = head;
           aligned = parts.0;
@@ -182,7 +182,7 @@ module _ (format : Format) (file : List ℕ) (is_format : IsFormat format) where
         refl,
       ))
       (λ t. other_size head entry there most (eqb-false _ _ t)))))
-      (λ entry. bad_entry head first (is_entry-not (entry_of format file) entry))))
+      (λ entry. bad_entry head first (is_entry-not (entry_of_file format file) entry))))
 
 right-read : (format : Format) (file : List ℕ) (read : Result (ℕ × ℕ) ℕ) → IsRight format file read
     → IfOk read (λ _. IsWhole format file)
@@ -197,7 +197,7 @@ fields_whole format file is_format =
 
 right-told : (format : Format) (file : List ℕ) (read : Result (ℕ × ℕ) ℕ) (fields : ℕ × ℕ)
     → IsRight format file read → read ≡ Ok fields
-    → IsWhole format file × (fields ≡ (entry_of format file, count_of format file))
+    → IsWhole format file × (fields ≡ (entry_of_file format file, count_of format file))
 right-told format file (Ok found) fields right is =
     let same : fields ≡ found = cc in (right.0, same ∙ right.1)
 right-told format file (Err n) fields right is = absurd (cc)
@@ -205,7 +205,7 @@ right-told format file (Err n) fields right is = absurd (cc)
 -- and they are its own
 pub fields-told : (format : Format) (file : List ℕ) (fields : ℕ × ℕ) → IsFormat format
     → fields_at format file ≡ Ok fields
-    → IsWhole format file × (fields ≡ (entry_of format file, count_of format file))
+    → IsWhole format file × (fields ≡ (entry_of_file format file, count_of format file))
 fields-told format file fields is_format is =
     right-told format file (fields_at format file) fields (fields-right format file is_format) is
 
@@ -216,14 +216,14 @@ IsWhole-good format file n is_format whole bad = grind (arith, differs-above)
 
 right-whole : (format : Format) (file : List ℕ) (read : Result (ℕ × ℕ) ℕ) → IsFormat format
     → IsRight format file read → IsWhole format file
-    → read ≡ Ok (entry_of format file, count_of format file)
+    → read ≡ Ok (entry_of_file format file, count_of format file)
 right-whole format file (Ok fields) is_format right whole = ap Ok right.1
 right-whole format file (Err n) is_format right whole =
     absurd (IsWhole-good format file n is_format whole right.bad)
 
 -- the fields of a file that breaks no rule
 pub whole-fields : (format : Format) (file : List ℕ) → IsFormat format → IsWhole format file
-    → fields_at format file ≡ Ok (entry_of format file, count_of format file)
+    → fields_at format file ≡ Ok (entry_of_file format file, count_of format file)
 whole-fields format file is_format whole =
     right-whole format file (fields_at format file) is_format (fields-right format file is_format)
     whole

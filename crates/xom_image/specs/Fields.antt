@@ -11,20 +11,20 @@ use Rattle.xom_image.specs.declared.fields.Format.{Format}
 -- ---- What a file says
 
 -- the number in the four bytes from this place on
-unfoldable pub number_at : List ℕ → ℕ → ℕ
-number_at file place = from_be_bytes w32 (take 4 (drop place file))
+unfoldable pub number_in_file : List ℕ → ℕ → ℕ
+number_in_file file place = from_be_bytes w32 (take 4 (drop place file))
 
 -- the entry that a file says
-abbrev pub entry_of : Format → List ℕ → ℕ
-entry_of format file = number_at file format.entry
+abbrev pub entry_of_file : Format → List ℕ → ℕ
+entry_of_file format file = number_in_file file format.entry
 
 -- how many parts a file says there are, which stands behind the entry
 abbrev pub count_of : Format → List ℕ → ℕ
-count_of format file = number_at file (format.entry + 4)
+count_of format file = number_in_file file (format.entry + 4)
 
 -- how many bytes it has if there are that many
-abbrev pub size_of : Format → List ℕ → ℕ
-size_of format file = format.start + format.part * count_of format file
+abbrev pub size_of_file : Format → List ℕ → ℕ
+size_of_file format file = format.start + format.part * count_of format file
 
 -- ---- Where a file is bad
 
@@ -37,7 +37,7 @@ DiffersAt format file n =
 abbrev pub HasBadEntryAt : Format → List ℕ → ℕ → Type 0
 HasBadEntryAt format file n =
     (n ≡ format.entry) × (format.entry + 4 ≤ length file)
-    × ((entry_of format file % 4 ≢ 0) ⊎ (2 ^ 20 ≤ entry_of format file))
+    × ((entry_of_file format file % 4 ≢ 0) ⊎ (2 ^ 20 ≤ entry_of_file format file))
 
 -- the count, which is all there, is above the most that there may be
 abbrev pub HasBadCountAt : Format → List ℕ → ℕ → Type 0
@@ -47,11 +47,11 @@ HasBadCountAt format file n =
 -- the file ends here, which is too early: before its parts begin, or before all the parts that it
 -- says
 abbrev pub EndsEarlyAt : Format → List ℕ → ℕ → Type 0
-EndsEarlyAt format file n = (n ≡ length file) × (length file < size_of format file)
+EndsEarlyAt format file n = (n ≡ length file) × (length file < size_of_file format file)
 
 -- here is the first of further bytes
 abbrev pub GoesOnAt : Format → List ℕ → ℕ → Type 0
-GoesOnAt format file n = (n ≡ size_of format file) × (n < length file)
+GoesOnAt format file n = (n ≡ size_of_file format file) × (n < length file)
 
 -- the file is bad at this place, for one of these causes
 abbrev pub IsBadAt : Format → List ℕ → ℕ → Type 0
@@ -68,32 +68,32 @@ pub record IsFirstBadOf (format : Format) (file : List ℕ) (n : ℕ) : Type 0 w
 -- ---- The same as one function, to compute with
 
 -- whether an entry is an address of private memory where an instruction may stand
-abbrev pub is_entry : ℕ → Bool
-is_entry entry = (entry % 4 == 0) && nat_lt entry (2 ^ 20)
+abbrev pub is_entry_address : ℕ → Bool
+is_entry_address entry = (entry % 4 == 0) && nat_lt entry (2 ^ 20)
 
 -- how many bytes of two texts agree, from the front on
-unfoldable pub agreed : List ℕ → List ℕ → ℕ
-agreed xs ys = length (take_while (λ (p : ℕ × ℕ). p.0 == p.1) (zip xs ys))
+unfoldable pub common_prefix_size : List ℕ → List ℕ → ℕ
+common_prefix_size xs ys = length (take_while (λ (p : ℕ × ℕ). p.0 == p.1) (zip xs ys))
 
 -- the entry and the count of a file, or its first bad place
 unfoldable pub fields_at : Format → List ℕ → Result (ℕ × ℕ) ℕ
 fields_at format file =
-    if nat_lt (agreed format.head file) 8 then Err (agreed format.head file)
+    if nat_lt (common_prefix_size format.head file) 8 then Err (common_prefix_size format.head file)
     else (if nat_lt (length file) (format.entry + 4) then Err (length file)
-    else (if is_entry (entry_of format file) then
+    else (if is_entry_address (entry_of_file format file) then
     (if nat_lt (length file) (format.entry + 8) then Err (length file)
     else (if nat_lt format.most (count_of format file) then Err (format.entry + 4)
-    else (if length file == size_of format file then Ok (entry_of format file, count_of format file)
-    else Err (min (length file) (size_of format file)))))
+    else (if length file == size_of_file format file then Ok (entry_of_file format file, count_of format file)
+    else Err (min (length file) (size_of_file format file)))))
     else Err format.entry))
 
 -- a file that breaks no rule
 pub record IsWhole (format : Format) (file : List ℕ) : Type 0 where
-  pub head : agreed format.head file ≡ 8
-  pub aligned : entry_of format file % 4 ≡ 0
-  pub private : entry_of format file < 2 ^ 20
+  pub head : common_prefix_size format.head file ≡ 8
+  pub aligned : entry_of_file format file % 4 ≡ 0
+  pub private : entry_of_file format file < 2 ^ 20
   pub most : count_of format file ≤ format.most
-  pub size : length file ≡ size_of format file
+  pub size : length file ≡ size_of_file format file
 
 -- the fields stand behind the name and the version, and the parts behind them
 pub record IsFormat (format : Format) : Type 0 where

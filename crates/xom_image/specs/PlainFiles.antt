@@ -42,5 +42,5 @@ plain_image_at file = do
   Ok (fields.0, drop 16 file)
 
 -- what a reader answers: what was read, unless there is an image for which memory ran out
-abbrev pub Answers : Result (ℕ × List ℕ) ℕ → Result PlainImage ImageFault → Type 0
-Answers = AnswersBy (λ (image : PlainImage). (image.entry, image.bytes))
+abbrev pub ImageAnswers : Result (ℕ × List ℕ) ℕ → Result PlainImage ImageFault → Type 0
+ImageAnswers = AnswersBy (λ (image : PlainImage). (image.entry, image.bytes))

@@ -41,25 +41,25 @@ IsFirstBadSealed file n = IsFirstBadOf sealed_format file n
 -- ---- Both as one function, to compute with
 
 -- the line whose bytes begin here
-abbrev pub line_at : List ℕ → ℕ → SealedLine
-line_at file place = record {
+abbrev pub sealed_line_at : List ℕ → ℕ → SealedLine
+sealed_line_at file place = record {
   ct = take 32 (drop place file);
   tag = take 32 (drop (place + 32) file);
 }
 
 -- the first lines of a file
 abbrev pub lines_at : List ℕ → ℕ → List SealedLine
-lines_at file count = map (λ i. line_at file (96 + 64 * i)) (range_with_len 0 count)
+lines_at file count = map (λ i. sealed_line_at file (96 + 64 * i)) (range_with_len 0 count)
 
 -- the envelope of a file
-abbrev pub envelope_at : List ℕ → List ℕ
-envelope_at file = take 88 (drop 8 file)
+abbrev pub envelope_of_file : List ℕ → List ℕ
+envelope_of_file file = take 88 (drop 8 file)
 
 -- the envelope and the lines of the image, or the first bad place
 unfoldable pub sealed_image_at : List ℕ → Result (List ℕ × List SealedLine) ℕ
 sealed_image_at file = do
   fields ← fields_at sealed_format file
-  Ok (envelope_at file, lines_at file fields.1)
+  Ok (envelope_of_file file, lines_at file fields.1)
 
 -- what a reader answers: what was read, unless there is an image for which memory ran out
 abbrev pub AnswersSealed : Result (List ℕ × List SealedLine) ℕ → Result SealedImage ImageFault

@@ -1,5 +1,5 @@
 ghost use Rattle.std.specs.Prelude.{◌≡◌, ◌+◌, ◌*◌, ◌≤◌, IfOk, SomeIff, length};
-ghost use Rattle.xom_image.specs.Fields.{IsFormat, IsWhole, agreed as agreed_of, fields_at, number_at as number_of};
+ghost use Rattle.xom_image.specs.Fields.{IsFormat, IsWhole, common_prefix_size as agreed_of, fields_at, number_in_file as number_of};
 
 /// The size of private memory in bytes, which no entry reaches.
 const PRIVATE: u32 = 1 << 20;
@@ -65,7 +65,7 @@ fn size_of(format: &Format, count: u32) -> u64
 }
 
 /// How many bytes two texts have in common from the front on.
-#[tactic(auto, using(crate::proofs::Reading::agreed_within), unfolding(crate::specs::Fields::agreed))]
+#[tactic(auto, using(crate::proofs::Reading::agreed_within), unfolding(crate::specs::Fields::common_prefix_size))]
 fn agreed(a: &[u8], b: &[u8]) -> usize
     ensures value { result ≡ agreed_of a.now b.now }
     ensures within { result ≤ length b.now }
@@ -77,7 +77,7 @@ fn agreed(a: &[u8], b: &[u8]) -> usize
 }
 
 /// The number in the four bytes from this place on, if they are all there.
-#[tactic(auto, unfolding(crate::specs::Fields::number_at))]
+#[tactic(auto, unfolding(crate::specs::Fields::number_in_file))]
 fn number_at(file: &[u8], place: usize) -> Option<u32>
     ensures { SomeIff result (place + 4 ≤ length file.now) (number_of file.now place) }
 {

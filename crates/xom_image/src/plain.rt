@@ -1,6 +1,6 @@
 ghost use Rattle.std.specs.Prelude.{◌≡◌, IfOk};
 ghost use Rattle.xom_image.specs.Fields.{AnswersFile};
-ghost use Rattle.xom_image.specs.PlainFiles.{Answers, IsFirstBad, IsPlainFile, plain_file, plain_image_at};
+ghost use Rattle.xom_image.specs.PlainFiles.{ImageAnswers, IsFirstBad, IsPlainFile, plain_file, plain_image_at};
 
 use crate::ImageFault;
 use crate::fields::{Format, fields};
@@ -24,7 +24,7 @@ pub fn read_plain(alloc: Global, bytes: &ByteList) -> Result<PlainImage, ImageFa
     // What is read is in the format, and what is in the format is read, unless memory ran out. The place
     // that is answered is just the first bad one.
     ensures file { AnswersFile (IsPlainFile bytes.now) (IsFirstBad bytes.now) result }
-    ensures value { Answers (plain_image_at bytes.now) result }
+    ensures value { ImageAnswers (plain_image_at bytes.now) result }
 {
     image_of(alloc, bytes.as_slice())
 }
@@ -33,7 +33,7 @@ pub fn read_plain(alloc: Global, bytes: &ByteList) -> Result<PlainImage, ImageFa
 #[tactic(auto, unfolding(crate::specs::PlainFiles::plain_image_at))]
 fn image_of(alloc: Global, file: &[u8]) -> Result<PlainImage, ImageFault>
     ensures found { IfOk result (IsPlainFile file.now) }
-    ensures value { Answers (plain_image_at file.now) result }
+    ensures value { ImageAnswers (plain_image_at file.now) result }
 {
     let (entry, _length) = fields(&PLAIN, file).map_err(ImageFault::Bad)?;
     let bytes = Vec::from_slice(alloc, &file[START..])?;

@@ -1,7 +1,7 @@
 ghost use Rattle.std.specs.Prelude.{◌≡◌, ◌+◌, ◌*◌, ◌≤◌, IfOk, length, OnOk, ◌++◌};
 ghost use Rattle.std.specs.List.{flat_map};
 ghost use Rattle.xom_image.specs.Fields.{AnswersFile};
-ghost use Rattle.xom_image.specs.SealedFiles.{AnswersSealed, IsFirstBadSealed, IsSealedFile, line_at as line_of, line_bytes, lines_at as lines_of, sealed_file, sealed_image_at};
+ghost use Rattle.xom_image.specs.SealedFiles.{AnswersSealed, IsFirstBadSealed, IsSealedFile, line_bytes, lines_at as lines_of, sealed_file, sealed_image_at, sealed_line_at as line_of};
 
 use crate::fields::{Format, HEAD, fields};
 use crate::{ImageFault, SealedImage, SealedLineList};

@@ -1,6 +1,6 @@
 ghost use Rattle.std.specs.Prelude.{◌≡◌, ◌≤◌, ◌<◌, ◌%◌, ◌^◌, ℕ, Some, length, slice_get};
 ghost use Rattle.xom_seal.specs.declared.line.SealedLine.{SealedLine};
-ghost use Rattle.xom_seal.specs.Envelopes.{entry_in, lines_in};
+ghost use Rattle.xom_seal.specs.Envelopes.{entry_of_envelope, lines_in};
 
 use xom_base::List;
 use xom_seal::SealedLine;
@@ -18,8 +18,8 @@ pub struct SealedImage {
     /// Its lines from address 0 on, as many as the envelope says, and at most 32,768.
     pub lines: SealedLineList,
     pub ghost sized: { length envelope ≡ 88 },
-    pub ghost aligned: { entry_in envelope % 4 ≡ 0 },
-    pub ghost private: { entry_in envelope < 2 ^ 20 },
+    pub ghost aligned: { entry_of_envelope envelope % 4 ≡ 0 },
+    pub ghost private: { entry_of_envelope envelope < 2 ^ 20 },
     pub ghost counted: { lines_in envelope ≡ length lines },
     pub ghost fits: { length lines ≤ 2 ^ 15 },
     pub ghost whole: { (i : ℕ) (line : SealedLine) → slice_get lines i ≡ Some line → (length line.ct ≡ 32) × (length line.tag ≡ 32) },

@@ -5,7 +5,7 @@ use Rattle.xom_io.specs.declared.files.FileFault.{FileFault}
 use Rattle.xom_io.specs.declared.files.FileFault.TheVariants.{Failed, TooLong, NoMemory}
 use Rattle.xom_io.specs.declared.sink.SinkFault.{SinkFault}
 use Rattle.xom_io.specs.declared.sink.SinkFault.TheVariants.{Failed as SinkFailed, NoMemory as SinkNoMemory}
-use Rattle.xom_io.specs.Answers.{Rises, Told, Gets, Puts, TakesAll}
+use Rattle.xom_io.specs.Answers.{FilesTold, Gets, Puts, Rises, TakesAll}
 
 -- a count that rose before the last calls, or in them, rose over all of them
 pub Rises-early : (before middle after : ℕ) → Rises before middle → before ≤ middle → middle ≤ after
@@ -17,7 +17,7 @@ pub Rises-late : (before middle after : ℕ) → before ≤ middle → Rises mid
 Rises-late before middle after first rose = grind arith
 
 -- no get lowers the count of reads
-pub Gets-grows : (told : Told) (name : List ℕ) (limit before after : ℕ)
+pub Gets-grows : (told : FilesTold) (name : List ℕ) (limit before after : ℕ)
     (answer : Result (List ℕ) FileFault)
     → Gets told name limit before after answer → before ≤ after
 Gets-grows told name limit before after (Ok bytes) gets = omega (arith, gets.0)
@@ -26,7 +26,7 @@ Gets-grows told name limit before after (Err TooLong) gets = omega (arith, gets.
 Gets-grows told name limit before after (Err NoMemory) gets = omega (arith, gets.0)
 
 -- no put lowers the count of writes
-pub Puts-grows : (old new : Told) (name bytes : List ℕ) (before after : ℕ)
+pub Puts-grows : (old new : FilesTold) (name bytes : List ℕ) (before after : ℕ)
     (answer : Result (Unit {0}) FileFault)
     → Puts old new name bytes before after answer → before ≤ after
 Puts-grows old new name bytes before after (Ok done) puts = omega (arith, puts.0)

@@ -15,7 +15,7 @@ use Rattle.std.proofs.lemmas.Map.Text.{is_eq-slice_cmp, btree_map_updates_text, 
 use Rattle.std.specs.BTreeMap.{is_at}
 use Rattle.std.proofs.lemmas.Bool.{false_from_ne_true}
 use Rattle.std.proofs.lemmas.Map.Views.{tells_apart}
-use Rattle.xom_io.specs.Names.{Named, named}
+use Rattle.xom_io.specs.Names.{Named, names_of_map}
 
 -- two names of the same bytes are one
 same_name : (x y : List ℕ) → slice_cmp nat_cmp x y ≡ Equal → x ≡ y
@@ -47,7 +47,7 @@ find-lookup q (file ∷ files) =
 
 -- the map has at each name what the ordered list has
 pub get-named : (files : BTreeMap (String Global) (List ℕ)) (q : List ℕ)
-    → get (named files) q ≡ get_by_text files q
+    → get (names_of_map files) q ≡ get_by_text files q
 get-named files q = get-from_entries nat_list_cmp_total _ q ∙ find-lookup q files.entries
 
 -- two texts are compared alike from both sides
@@ -58,7 +58,7 @@ same_bytes q name = sym (is_eq-slice_cmp name q) ∙ (eq_by_cmp_equiv nat_list_c
 pub named-insert : (old new : BTreeMap (String Global) (List ℕ)) (name : String Global)
     (bytes : List ℕ)
     → Updates string_cmp old new name (Some bytes)
-    → named new ≡ insert (named old) (string_bytes name) bytes
+    → names_of_map new ≡ insert (names_of_map old) (string_bytes name) bytes
 named-insert old new name bytes updates =
     same_map nat_list_cmp_total same_name _ _ (λ q.
     get-named new q
@@ -66,7 +66,7 @@ named-insert old new name bytes updates =
     ∙ ap (λ same. cond same (Some bytes) (get_by_text old q)) (same_bytes q (string_bytes name))
     ∙ ap (cond (eq_by_cmp (slice_cmp nat_cmp) q (string_bytes name)) (Some bytes))
     (sym (get-named old q))
-    ∙ sym (get-insert nat_list_cmp_total (named old) (string_bytes name) bytes q))
+    ∙ sym (get-insert nat_list_cmp_total (names_of_map old) (string_bytes name) bytes q))
 
 -- for `grind`: what a map has after one name was set
 pub ruleset after_set = (get-insert_same, get-insert_other)

@@ -11,24 +11,24 @@ abbrev pub Rises : ℕ → ℕ → Type 0
 Rises before after = (before < after) ⊎ (after ≡ 2 ^ 64 - 1)
 
 -- What is told of files: what each name holds, by the bytes of the name, or nothing at all.
-abbrev pub Told : Type 0
-Told = Option (List ℕ → Option (List ℕ))
+abbrev pub FilesTold : Type 0
+FilesTold = Option (List ℕ → Option (List ℕ))
 
 -- where it is told, the name holds these bytes
-abbrev pub Holds : Told → List ℕ → List ℕ → Type 0
+abbrev pub Holds : FilesTold → List ℕ → List ℕ → Type 0
 Holds told name bytes = IfSome told (λ held. held name ≡ Some bytes)
 
 -- where it is told, the name holds some bytes, and of so many
-abbrev pub HoldsMany : Told → List ℕ → (ℕ → Type 0) → Type 0
+abbrev pub HoldsMany : FilesTold → List ℕ → (ℕ → Type 0) → Type 0
 HoldsMany told name IsMany =
     IfSome told (λ held. IsSomeAnd (held name) (λ bytes. IsMany (length bytes)))
 
 -- it is told that the name isn't held
-abbrev pub Lacks : Told → List ℕ → Type 0
+abbrev pub Lacks : FilesTold → List ℕ → Type 0
 Lacks told name = IsSomeAnd told (λ held. held name ≡ None)
 
 -- What a get of a name answers. The count is that of reads, before the call and after it.
-abbrev pub Gets : Told → List ℕ → ℕ → ℕ → ℕ → Result (List ℕ) FileFault → Type 0
+abbrev pub Gets : FilesTold → List ℕ → ℕ → ℕ → ℕ → Result (List ℕ) FileFault → Type 0
 Gets told name limit before after (Ok bytes) =
     (after ≡ before) × (length bytes ≤ limit) × Holds told name bytes
 Gets told name limit before after (Err Failed) =
@@ -39,13 +39,13 @@ Gets told name limit before after (Err NoMemory) =
     (after ≡ before) × HoldsMany told name (λ many. many ≤ limit)
 
 -- Every name but this one holds what it held.
-abbrev pub KeepsOthers : Told → Told → List ℕ → Type 0
+abbrev pub KeepsOthers : FilesTold → FilesTold → List ℕ → Type 0
 KeepsOthers None None name = Unit {0}
 KeepsOthers (Some old) (Some new) name = (other : List ℕ) → other ≢ name → new other ≡ old other
 KeepsOthers _ _ name = ⊥
 
 -- What a put of these bytes under a name answers. The count is that of writes.
-abbrev pub Puts : Told → Told → List ℕ → List ℕ → ℕ → ℕ → Result (Unit {0}) FileFault → Type 0
+abbrev pub Puts : FilesTold → FilesTold → List ℕ → List ℕ → ℕ → ℕ → Result (Unit {0}) FileFault → Type 0
 Puts old new name bytes before after (Ok _) = (after ≡ before) × Holds new name bytes
 Puts old new name bytes before after (Err Failed) = (before ≤ after) × Rises before after
 Puts old new name bytes before after (Err TooLong) = ⊥
@@ -56,13 +56,13 @@ abbrev pub Appends : Option (List ℕ) → Option (List ℕ) → List ℕ → Ty
 Appends old new bytes = new ≡ option_map (λ written. written ++ bytes) old
 
 -- What a sink answers to a put of a piece. The count is that of its faults.
-abbrev pub Takes : Option (List ℕ) → Option (List ℕ) → List ℕ → ℕ → ℕ → Result ℕ SinkFault → Type 0
-Takes old new piece before after (Ok n) =
+abbrev pub SinkTakes : Option (List ℕ) → Option (List ℕ) → List ℕ → ℕ → ℕ → Result ℕ SinkFault → Type 0
+SinkTakes old new piece before after (Ok n) =
     (after ≡ before) × (n ≤ length piece) × (0 < length piece → 0 < n)
     × Appends old new (take n piece)
-Takes old new piece before after (Err SinkFailed) =
+SinkTakes old new piece before after (Err SinkFailed) =
     (0 < length piece) × (new ≡ old) × (before ≤ after) × Rises before after
-Takes old new piece before after (Err SinkNoMemory) =
+SinkTakes old new piece before after (Err SinkNoMemory) =
     (0 < length piece) × (new ≡ old) × (after ≡ before)
 
 -- Some first bytes of a text were appended, and not all of it.

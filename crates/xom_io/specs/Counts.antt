@@ -2,8 +2,8 @@
 use Rattle.std.specs.Prelude.{ℕ, ◌+◌, ◌-◌, ◌^◌, min}
 
 -- A count after one more fault. It stops at its top.
-abbrev pub raised : ℕ → ℕ
-raised count = min (count + 1) (2 ^ 64 - 1)
+abbrev pub count_after_fault : ℕ → ℕ
+count_after_fault count = min (count + 1) (2 ^ 64 - 1)
 
 -- What is seen of files that tell nothing of what they hold: how many reads and how many writes
 -- failed.

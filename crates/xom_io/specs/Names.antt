@@ -12,5 +12,5 @@ abbrev pub Named : Type 0
 Named = FinMap (slice_cmp nat_cmp) (List ℕ)
 
 -- the map of an ordered list of names
-abbrev pub named : BTreeMap (String Global) (List ℕ) → Named
-named files = from_entries (map (λ file. (string_bytes file.0, file.1)) files.entries)
+abbrev pub names_of_map : BTreeMap (String Global) (List ℕ) → Named
+names_of_map files = from_entries (map (λ file. (string_bytes file.0, file.1)) files.entries)

@@ -1,5 +1,5 @@
 ghost use Rattle.std.specs.Prelude.{◌≡◌, ◌↔◌, IsTrue, OnOk, OnErr};
-ghost use Rattle.xom_io.specs.Memory.{Fails, fresh, listed, passed};
+ghost use Rattle.xom_io.specs.Memory.{Fails, fresh_plan, plan_after_call, plan_with_failure};
 
 use std::alloc::Global;
 use std::marker::Model;
@@ -23,7 +23,7 @@ impl Model for Calls {
 impl Calls {
     /// No call is to fail, and the next one is the first.
     pub fn new(alloc: Global) -> Calls
-        ensures { result ≡ fresh }
+        ensures { result ≡ fresh_plan }
     {
         Calls {
             failing: NumberList::new(alloc),
@@ -33,7 +33,7 @@ impl Calls {
 
     /// Makes the call of this number fail.
     pub fn fail(&mut self, call: u64) -> Result<(), NoMemory>
-        ensures ok { OnOk result (self.new ≡ listed self.old call) }
+        ensures ok { OnOk result (self.new ≡ plan_with_failure self.old call) }
         ensures err { OnErr result (self.new ≡ self.old) }
     {
         self.failing.push(call)
@@ -42,7 +42,7 @@ impl Calls {
     /// Counts a call, and says whether it is to fail. It looks through all the numbers.
     pub fn count(&mut self) -> bool
         ensures listed { IsTrue result ↔ Fails self.old }
-        ensures counted { self.new ≡ passed self.old }
+        ensures counted { self.new ≡ plan_after_call self.old }
     {
         let Some(call) = self.next else {
             return false;

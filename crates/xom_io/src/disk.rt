@@ -1,6 +1,6 @@
 ghost use Rattle.std.specs.Prelude.{◌≡◌, None, string_bytes};
 ghost use Rattle.xom_io.specs.Answers.{Gets, Puts};
-ghost use Rattle.xom_io.specs.Counts.{raised};
+ghost use Rattle.xom_io.specs.Counts.{count_after_fault};
 
 use crate::{FileFault, Files};
 use std::alloc::Global;
@@ -52,7 +52,7 @@ impl<R: SystemFiles + Drop> Files for DiskFiles<R> {
     // want of memory is answered as that.
     fn get(&mut self, name: &String, limit: u64) -> Result<ByteList, FileFault>
         ensures answer { Gets None (string_bytes name.now) limit self.old.reads self.new.reads result }
-        ensures raised { result ≡ Err FileFault.Failed → self.new.reads ≡ raised self.old.reads }
+        ensures raised { result ≡ Err FileFault.Failed → self.new.reads ≡ count_after_fault self.old.reads }
         ensures other_count { self.new.writes ≡ self.old.writes }
     {
         let bytes = match read_within(self.alloc, &self.rt, name.as_str(), limit) {
@@ -72,7 +72,7 @@ impl<R: SystemFiles + Drop> Files for DiskFiles<R> {
     // A file is created where there is none, and emptied before it is written.
     fn put(&mut self, name: &String, bytes: &ByteList) -> Result<(), FileFault>
         ensures answer { Puts None None (string_bytes name.now) bytes.now self.old.writes self.new.writes result }
-        ensures raised { result ≡ Err FileFault.Failed → self.new.writes ≡ raised self.old.writes }
+        ensures raised { result ≡ Err FileFault.Failed → self.new.writes ≡ count_after_fault self.old.writes }
         ensures other_count { self.new.reads ≡ self.old.reads }
     {
         match fs::write(&self.rt, name.as_str(), bytes.as_slice()) {

@@ -1,8 +1,8 @@
 ghost use Rattle.std.specs.Prelude.{◌≡◌, ◌≤◌, ◌↔◌, ◌⊎◌, None, OnOk, OnErr, IsSome, option_copied, string_bytes};
 ghost use Rattle.std.specs.FinMap as map;
 ghost use Rattle.xom_io.specs.Answers.{Gets, Puts, KeepsOthers};
-ghost use Rattle.xom_io.specs.Counts.{raised};
-ghost use Rattle.xom_io.specs.Memory.{Fails, fresh, listed, passed, told};
+ghost use Rattle.xom_io.specs.Counts.{count_after_fault};
+ghost use Rattle.xom_io.specs.Memory.{Fails, fresh_plan, memory_tells, plan_after_call, plan_with_failure};
 
 use crate::calls::Calls;
 use crate::shelf::{Shelf, copied};
@@ -34,7 +34,7 @@ impl Model for MemFiles {
 impl MemFiles {
     /// No name holds anything, and no call is to fail. It takes no memory.
     pub fn new(alloc: Global) -> MemFiles
-        ensures { result ≡ record { names = map.empty; plan = fresh; reads = 0; writes = 0 } }
+        ensures { result ≡ record { names = map.empty; plan = fresh_plan; reads = 0; writes = 0 } }
     {
         MemFiles {
             shelf: Shelf::new(alloc),
@@ -55,7 +55,7 @@ impl MemFiles {
 
     /// Makes the call of this number fail. Calls of `get` and `put` are counted together, from 1 on.
     pub fn fail(&mut self, call: u64) -> Result<(), NoMemory>
-        ensures ok { OnOk result (self.new ≡ record self.old { plan = listed self.old.plan call }) }
+        ensures ok { OnOk result (self.new ≡ record self.old { plan = plan_with_failure self.old.plan call }) }
         ensures err { OnErr result (self.new ≡ self.old) }
     {
         self.calls.fail(call)
@@ -73,7 +73,7 @@ impl MemFiles {
 }
 
 impl Files for MemFiles {
-    ghost held = { told };
+    ghost held = { memory_tells };
 
     ghost reads = { λ f. f.reads };
 
@@ -81,12 +81,12 @@ impl Files for MemFiles {
 
     // Of a name that isn't held it says so also where the call is to fail, and counts no fault.
     fn get(&mut self, name: &String, limit: u64) -> Result<ByteList, FileFault>
-        ensures answer { Gets (told self.old) (string_bytes name.now) limit self.old.reads self.new.reads result }
-        ensures names { told self.new ≡ told self.old }
+        ensures answer { Gets (memory_tells self.old) (string_bytes name.now) limit self.old.reads self.new.reads result }
+        ensures names { memory_tells self.new ≡ memory_tells self.old }
         ensures other_count { self.new.writes ≡ self.old.writes }
         ensures failed { (result ≡ Err FileFault.Failed) ↔ ((map.get self.old.names (string_bytes name.now) ≡ None) ⊎ Fails self.old.plan) }
-        ensures raised { result ≡ Err FileFault.Failed → IsSome (map.get self.old.names (string_bytes name.now)) → self.new.reads ≡ raised self.old.reads }
-        ensures others { self.new ≡ record self.old { plan = passed self.old.plan; reads = self.new.reads } }
+        ensures raised { result ≡ Err FileFault.Failed → IsSome (map.get self.old.names (string_bytes name.now)) → self.new.reads ≡ count_after_fault self.old.reads }
+        ensures others { self.new ≡ record self.old { plan = plan_after_call self.old.plan; reads = self.new.reads } }
     {
         let fails = self.calls.count();
         let Some(bytes) = self.shelf.get(name) else {
@@ -104,12 +104,12 @@ impl Files for MemFiles {
 
     #[tactic(auto, using(crate::proofs::Named::after_set))]
     fn put(&mut self, name: &String, bytes: &ByteList) -> Result<(), FileFault>
-        ensures answer { Puts (told self.old) (told self.new) (string_bytes name.now) bytes.now self.old.writes self.new.writes result }
-        ensures others { KeepsOthers (told self.old) (told self.new) (string_bytes name.now) }
+        ensures answer { Puts (memory_tells self.old) (memory_tells self.new) (string_bytes name.now) bytes.now self.old.writes self.new.writes result }
+        ensures others { KeepsOthers (memory_tells self.old) (memory_tells self.new) (string_bytes name.now) }
         ensures other_count { self.new.reads ≡ self.old.reads }
         ensures failed { (result ≡ Err FileFault.Failed) ↔ Fails self.old.plan }
-        ensures raised { result ≡ Err FileFault.Failed → self.new.writes ≡ raised self.old.writes }
-        ensures plan { self.new.plan ≡ passed self.old.plan }
+        ensures raised { result ≡ Err FileFault.Failed → self.new.writes ≡ count_after_fault self.old.writes }
+        ensures plan { self.new.plan ≡ plan_after_call self.old.plan }
     {
         if self.calls.count() {
             self.writes = self.writes.saturating_add(1);

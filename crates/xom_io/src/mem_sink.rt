@@ -1,7 +1,7 @@
 ghost use Rattle.std.specs.Prelude.{◌≡◌, ◌≤◌, ◌<◌, ◌+◌, ◌↔◌, [], ◌++◌, length, Some, OnOk, OnErr, IfOk};
-ghost use Rattle.xom_io.specs.Answers.{Takes};
-ghost use Rattle.xom_io.specs.Counts.{raised};
-ghost use Rattle.xom_io.specs.Memory.{Fails, fresh, listed, after_put, part_of};
+ghost use Rattle.xom_io.specs.Answers.{SinkTakes};
+ghost use Rattle.xom_io.specs.Counts.{count_after_fault};
+ghost use Rattle.xom_io.specs.Memory.{Fails, after_put, fresh_plan, part_of, plan_with_failure};
 
 use crate::calls::Calls;
 use crate::{Sink, SinkFault};
@@ -30,7 +30,7 @@ impl MemSink {
     /// Nothing is written, and no put is to fail. It takes no memory.
     pub fn new(alloc: Global) -> MemSink
         ensures bytes { result.bytes ≡ [] }
-        ensures plan { result.plan ≡ fresh }
+        ensures plan { result.plan ≡ fresh_plan }
         ensures faults { result.faults ≡ 0 }
     {
         MemSink {
@@ -42,7 +42,7 @@ impl MemSink {
 
     /// Makes the put of this number fail. Puts are counted from 1; one of an empty piece isn't counted.
     pub fn fail(&mut self, call: u64) -> Result<(), NoMemory>
-        ensures ok { OnOk result (self.new ≡ record self.old { plan = listed self.old.plan call }) }
+        ensures ok { OnOk result (self.new ≡ record self.old { plan = plan_with_failure self.old.plan call }) }
         ensures err { OnErr result (self.new ≡ self.old) }
     {
         self.calls.fail(call)
@@ -90,10 +90,10 @@ impl Sink for MemSink {
     ghost faults = { λ s. s.faults };
 
     fn put(&mut self, bytes: &[u8]) -> Result<usize, SinkFault>
-        ensures takes { Takes (Some self.old.bytes) (Some self.new.bytes) bytes.now self.old.faults self.new.faults result }
+        ensures takes { SinkTakes (Some self.old.bytes) (Some self.new.bytes) bytes.now self.old.faults self.new.faults result }
         ensures part { IfOk result (λ n. n ≡ part_of self.old.room bytes.now) }
         ensures failed { (result ≡ Err SinkFault.Failed) ↔ ((0 < length bytes.now) × Fails self.old.plan) }
-        ensures raised { result ≡ Err SinkFault.Failed → self.new.faults ≡ raised self.old.faults }
+        ensures raised { result ≡ Err SinkFault.Failed → self.new.faults ≡ count_after_fault self.old.faults }
         ensures no_memory { result ≡ Err SinkFault.NoMemory → self.old.room ≡ 0 }
         ensures plan { self.new.plan ≡ after_put self.old.plan bytes.now }
         ensures room_after { IfOk result (λ n. self.old.room ≤ self.new.room + n) }

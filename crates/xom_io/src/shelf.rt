@@ -16,13 +16,13 @@ pub struct Shelf {
 impl Model for Shelf {
     ghost use Rattle.std.specs.Coded.{coded_ℕ, coded_list};
     ghost use Rattle.std.specs.FinMap as map;
-    ghost use Rattle.xom_io.specs.Names.{Named, named};
+    ghost use Rattle.xom_io.specs.Names.{Named, names_of_map};
 
     ghost Value = { Named };
 
     ghost coded = { map.code (coded_list coded_ℕ) (coded_list coded_ℕ) };
 
-    ghost view = { λ s. named s.files };
+    ghost view = { λ s. names_of_map s.files };
 }
 
 impl Shelf {

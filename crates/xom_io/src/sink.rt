@@ -1,6 +1,6 @@
 ghost use Rattle.std.specs.Prelude.{◌≡◌, ℕ, List, Option};
 ghost use Rattle.xom_io.specs.declared.sink.SinkFault.TheVariants.{NoMemory as OutOfMemory};
-ghost use Rattle.xom_io.specs.Answers.{Takes, TakesAll};
+ghost use Rattle.xom_io.specs.Answers.{SinkTakes, TakesAll};
 
 use thiserror::Error;
 use xom_base::NoMemory;
@@ -38,7 +38,7 @@ pub trait Sink {
     /// `Failed`: the device took no byte. `NoMemory`: there was no room. Then nothing was appended.
     /// An empty piece is answered by 0 and changes nothing.
     fn put(&mut self, bytes: &[u8]) -> Result<usize, SinkFault>
-        ensures { Takes (written self.old) (written self.new) bytes.now (faults self.old) (faults self.new) result };
+        ensures { SinkTakes (written self.old) (written self.new) bytes.now (faults self.old) (faults self.new) result };
 }
 
 /// Appends all the bytes, by as many puts as it takes.

@@ -1,6 +1,6 @@
 ghost use Rattle.std.specs.Prelude.{◌≡◌, ◌≤◌, length, None, IfOk};
-ghost use Rattle.xom_io.specs.Answers.{Takes};
-ghost use Rattle.xom_io.specs.Counts.{raised};
+ghost use Rattle.xom_io.specs.Answers.{SinkTakes};
+ghost use Rattle.xom_io.specs.Counts.{count_after_fault};
 
 use crate::{Sink, SinkFault};
 use std::io;
@@ -38,8 +38,8 @@ impl<R: Print + Drop> Sink for StdSink<R> {
     ghost faults = { λ count. count };
 
     fn put(&mut self, bytes: &[u8]) -> Result<usize, SinkFault>
-        ensures takes { Takes None None bytes.now self.old self.new result }
-        ensures raised { result ≡ Err SinkFault.Failed → self.new ≡ raised self.old }
+        ensures takes { SinkTakes None None bytes.now self.old self.new result }
+        ensures raised { result ≡ Err SinkFault.Failed → self.new ≡ count_after_fault self.old }
     {
         if bytes.is_empty() {
             return Ok(0);

@@ -10,11 +10,11 @@ use Rattle.xom_base.specs.declared.entry.Entry.TheVariants as entry
 use Rattle.xom_journal.specs.declared.record.Record.{Record}
 use Rattle.xom_journal.specs.declared.record.Record.TheVariants as record_
 use Rattle.xom_journal.specs.Log.{cost}
-use Rattle.xom_journal.specs.Records.{part, entry_at, payload, record_at, IsWithin}
+use Rattle.xom_journal.specs.Records.{IsWithin, entry_at, part_of_block, payload, record_at}
 
 -- a payload within the bytes stays
 part-more : (at count : ℕ) (bytes more : List ℕ) → at + count ≤ length bytes
-    → part at count (bytes ++ more) ≡ part at count bytes
+    → part_of_block at count (bytes ++ more) ≡ part_of_block at count bytes
 part-more at count bytes more within =
     ap (take count) (drop-append-le at bytes more (omega arith))
     ∙ take-append-le count (drop at bytes) more (let l : length (drop at bytes) ≡ length
@@ -57,20 +57,20 @@ IsWithin-more m n le (record_.Out byte) w = w
 
 -- a payload that was added
 part_at : (bytes mid more : List ℕ)
-    → part (length bytes) (length mid) (bytes ++ (mid ++ more)) ≡ mid
+    → part_of_block (length bytes) (length mid) (bytes ++ (mid ++ more)) ≡ mid
 part_at bytes mid more =
     ap (take (length mid)) (drop_at bytes (mid ++ more) (length bytes) refl)
     ∙ take_at mid more (length mid) refl
 
 part_last : (bytes mid more : List ℕ)
-    → part (length bytes + length mid) (length more) (bytes ++ (mid ++ more)) ≡ more
+    → part_of_block (length bytes + length mid) (length more) (bytes ++ (mid ++ more)) ≡ more
 part_last bytes mid more =
-    ap (part (length bytes + length mid) (length more)) (sym (append_assoc bytes mid more))
+    ap (part_of_block (length bytes + length mid) (length more)) (sym (append_assoc bytes mid more))
     ∙ ap (take (length more)) (drop_at (bytes ++ mid) more (length bytes + length mid)
     (length-append bytes mid))
     ∙ take_all (length more) more (omega arith)
 
-part_whole : (bytes more : List ℕ) → part (length bytes) (length more) (bytes ++ more) ≡ more
+part_whole : (bytes more : List ℕ) → part_of_block (length bytes) (length more) (bytes ++ more) ≡ more
 part_whole bytes more =
     ap (take (length more)) (drop_at bytes more (length bytes) refl)
     ∙ take_all (length more) more (omega arith)

@@ -20,5 +20,5 @@ cost (entry.Kill n) = 48
 cost (entry.Out byte) = 48
 
 -- the journal with one more entry
-abbrev pub logged : Log → Entry → Log
-logged log entry = record { entries = log.entries ++ entry ∷ []; spare = log.spare - cost entry }
+abbrev pub log_with_entry : Log → Entry → Log
+log_with_entry log entry = record { entries = log.entries ++ entry ∷ []; spare = log.spare - cost entry }

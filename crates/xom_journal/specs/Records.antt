@@ -6,8 +6,8 @@ use Rattle.xom_journal.specs.declared.record.Record.{Record}
 use Rattle.xom_journal.specs.declared.record.Record.TheVariants as record_
 
 -- so many bytes of the block, from this place on
-abbrev pub part : ℕ → ℕ → List ℕ → List ℕ
-part at count bytes = take count (drop at bytes)
+abbrev pub part_of_block : ℕ → ℕ → List ℕ → List ℕ
+part_of_block at count bytes = take count (drop at bytes)
 
 -- the entry of a record, whose payload stands in these bytes
 abbrev pub entry_at : List ℕ → Record → Entry
@@ -16,10 +16,10 @@ entry_at bytes (record_.Install n slot id place begin lines) =
 entry_at bytes (record_.Step n step) = entry.Step n step
 entry_at bytes (record_.Trap n cause) = entry.Trap n cause
 entry_at bytes (record_.Seal at key message) =
-    entry.Seal (part at key bytes) (part (at + key) message bytes)
+    entry.Seal (part_of_block at key bytes) (part_of_block (at + key) message bytes)
 entry_at bytes (record_.Accept at key message place) =
-    entry.Accept (part at key bytes) (part (at + key) message bytes) place
-entry_at bytes (record_.Hash at preimage digest) = entry.Hash (part at preimage bytes) digest
+    entry.Accept (part_of_block at key bytes) (part_of_block (at + key) message bytes) place
+entry_at bytes (record_.Hash at preimage digest) = entry.Hash (part_of_block at preimage bytes) digest
 entry_at bytes (record_.Stop n rule) = entry.Stop n rule
 entry_at bytes (record_.Kill n) = entry.Kill n
 entry_at bytes (record_.Out byte) = entry.Out byte

@@ -1,5 +1,5 @@
 ghost use Rattle.std.specs.Prelude.{◌≡◌, ◌≤◌, ◌<◌, ◌+◌, IsOk, OnOk, OnErr, length, slice_get, max, [], ◌∷◌, ◌++◌, ◌==◌, vec_len, vec_capacity};
-ghost use Rattle.xom_journal.specs.Log.{Log, cost as cost_of, logged};
+ghost use Rattle.xom_journal.specs.Log.{Log, cost as cost_of, log_with_entry};
 ghost use Rattle.xom_journal.specs.Records.{payload};
 
 use crate::record::{ENTRY_COST, Record, cost, entry_of, record_of};
@@ -68,7 +68,7 @@ impl Journal {
     #[tactic(auto, using(crate::proofs::RecordLaws::entries_pushed, crate::proofs::RecordLaws::within_pushed))]
     pub fn push(&mut self, entry: &Entry)
         requires { cost_of entry.now ≤ self.old.spare }
-        ensures { self.new ≡ logged self.old entry.now }
+        ensures { self.new ≡ log_with_entry self.old entry.now }
     {
         let price = cost(entry);
         let record = record_of(entry, self.bytes.len() as u64);

@@ -1,6 +1,6 @@
 ghost use Rattle.std.specs.Prelude.{◌≡◌, ◌≤◌, ◌<◌, ◌+◌, ◌^◌, length};
 ghost use Rattle.xom_journal.specs.Log.{cost as cost_of};
-ghost use Rattle.xom_journal.specs.Records.{IsWithin, entry_at, part as part_of, payload, record_at};
+ghost use Rattle.xom_journal.specs.Records.{IsWithin, entry_at, part_of_block as part_of, payload, record_at};
 
 use xom_base::{Block, Cause, Entry, ImageId, Rule, Short, Step};
 

@@ -26,14 +26,14 @@ use Rattle.xom_model.proofs.Growth.{IsTrusted, honest_before}
 use Rattle.xom_model.proofs.Onward.{Onward, onward_event, onward_none, onward_on}
 use Rattle.xom_model.proofs.Turns.{events_keep}
 use Rattle.xom_machine.specs.Kept.{KeepsHolding}
-use Rattle.xom_machine.specs.Runs.{EndsBy, IsDue, IsDueWhere, IsNextWhere, IsRun, Made, Ran, SoFar, WentOn, bytes_of, guests_in, guests_of}
+use Rattle.xom_machine.specs.Runs.{EndsBy, IsDue, IsDueWhere, IsNextWhere, IsRun, Made, Ran, SoFar, WentOn, bytes_of_event, guest_events_in, guests_in}
 use Rattle.xom_machine.specs.Whole.{Whole}
 use Rattle.xom_machine.proofs.Events.{on-bytes, on-events}
 
 -- ---- Events alone
 
 guests_of-more : (events : List Made) (last : Made)
-    → guests_of (events ++ last ∷ []) ≡ guests_of events + guests_in last.0
+    → guest_events_in (events ++ last ∷ []) ≡ guest_events_in events + guests_in last.0
 guests_of-more [] last = omega arith
 guests_of-more (first ∷ events) last = let more = guests_of-more events last in omega (arith, more)
 
@@ -49,7 +49,7 @@ module _ (schedule : Schedule) (v : Versions) where
   IsRun-more : (guests : ℕ) (r : Record) (events : List Made) (last : Record) (e : Event)
       (chunk : List ℕ)
       → IsRun schedule v guests r events last → fits last e ≡ true
-      → IsDue schedule (guests + guests_of events) last e chunk
+      → IsDue schedule (guests + guest_events_in events) last e chunk
       → IsRun schedule v guests r (events ++ (e, chunk) ∷ []) (on v last e chunk).0
   IsRun-more guests r [] last e chunk run fit due =
       let place : guests + 0 ≡ guests = omega arith in (
@@ -59,8 +59,8 @@ module _ (schedule : Schedule) (v : Versions) where
         ap (λ s. (on v s e chunk).0) run,
       )
   IsRun-more guests r (first ∷ events) last e chunk run fit due =
-      let place : guests + (guests_in first.0 + guests_of events) ≡ (guests + guests_in first.0)
-      + guests_of events = omega arith in (
+      let place : guests + (guests_in first.0 + guest_events_in events) ≡ (guests + guests_in first.0)
+      + guest_events_in events = omega arith in (
         run.0,
         run.1,
         IsRun-more (guests + guests_in first.0) (on v r first.0 first.1).0 events last
@@ -140,7 +140,7 @@ module _ {K : Type 0} (told : K → View → Option (Turn × (List ℕ × K))) (
     -- what is next, and what a run makes next, are one
     alike : (more guests : ℕ) (r : Record) (e other : Event) (chunk its : List ℕ) (k' k1 : K)
         (s : Record) (n : ℕ)
-        → e ≡ other → bytes_of e chunk ≡ bytes_of e its → k' ≡ k1 → n ≡ guests + guests_in e
+        → e ≡ other → bytes_of_event e chunk ≡ bytes_of_event e its → k' ≡ k1 → n ≡ guests + guests_in e
         → run_from v told schedule more n (on v r other its).0 k1 ≡ Some s
         → run_from v told schedule more (guests + guests_in e) (on v r e chunk).0 k' ≡ Some s
     alike more guests r e other chunk its k' k1 s n is bytes same counts made =
@@ -156,7 +156,7 @@ module _ {K : Type 0} (told : K → View → Option (Turn × (List ℕ × K))) (
     -- a turn that was told is the event that is made
     told-turn : (guests : ℕ) (r : Record) (e : Event) (chunk : List ℕ) (k' : K) (more : ℕ)
         (s : Record) (o : Option (Turn × (List ℕ × K)))
-        → IfSome o (λ t. (e ≡ event_of t.0) × (bytes_of e chunk ≡ bytes_of e t.1.0) × (k' ≡ t.1.1))
+        → IfSome o (λ t. (e ≡ event_of t.0) × (bytes_of_event e chunk ≡ bytes_of_event e t.1.0) × (k' ≡ t.1.1))
         → after_turn v told schedule (run_from v told schedule more) guests r o ≡ Some s
         → run_from v told schedule more (guests + guests_in e) (on v r e chunk).0 k' ≡ Some s
     told-turn guests r e chunk k' more s None next made = absurd (cc)
@@ -174,8 +174,8 @@ module _ {K : Type 0} (told : K → View → Option (Turn × (List ℕ × K))) (
     next-own guests r k e chunk k' more s (Some slot) next made =
         let is : e ≡ event.Guest (is_flagged schedule.interrupts (guests + 1)) = next.0 in
         let one : guests_in e ≡ 1 = ap guests_in is in
-        let nothing : bytes_of e chunk ≡ bytes_of e [] =
-        subst (λ x. bytes_of x chunk ≡ bytes_of x []) (sym is) refl in
+        let nothing : bytes_of_event e chunk ≡ bytes_of_event e [] =
+        subst (λ x. bytes_of_event x chunk ≡ bytes_of_event x []) (sym is) refl in
         alike more guests r e (event.Guest (is_flagged schedule.interrupts (guests + 1))) chunk []
         k' k s (guests + 1) is nothing next.1 (omega (arith, one)) made
     next-own guests r k e chunk k' more s None next made =
@@ -189,8 +189,8 @@ module _ {K : Type 0} (told : K → View → Option (Turn × (List ℕ × K))) (
     next-turn guests r k e chunk k' more s (Some poke) next made =
         let is : e ≡ event.Poke poke.address (length poke.bytes) = next.0.0 in
         let none : guests_in e ≡ 0 = ap guests_in is in
-        let its : bytes_of e poke.bytes ≡ poke.bytes =
-        subst (λ x. bytes_of x poke.bytes ≡ poke.bytes) (sym is)
+        let its : bytes_of_event e poke.bytes ≡ poke.bytes =
+        subst (λ x. bytes_of_event x poke.bytes ≡ poke.bytes) (sym is)
         (take_all (length poke.bytes) poke.bytes (omega arith)) in
         alike more guests r e (event.Poke poke.address (length poke.bytes)) chunk poke.bytes k' k s
         guests is (next.0.1 ∙ sym its) next.1 (omega (arith, none)) made
@@ -254,7 +254,7 @@ module _ {K : Type 0} (told : K → View → Option (Turn × (List ℕ × K))) (
       made =
           let due = next-due guests m.state k went.event went.chunk k'
           (poke_at schedule.pokes (m.state.events + 1)) (running_slot m.state) went.next in
-          let place : guests ≡ 0 + guests_of far.events = omega (arith, far.guests_are) in
+          let place : guests ≡ 0 + guest_events_in far.events = omega (arith, far.guests_are) in
           subst (IsRun schedule v 0 first.state (far.events ++ (went.event, went.chunk) ∷ []))
           (sym went.state)
           (IsRun-more schedule v 0 first.state far.events m.state went.event went.chunk far.made

@@ -21,7 +21,7 @@ use Rattle.xom_model.specs.Laws.{AreOwners, FaultsAlone}
 use Rattle.xom_model.specs.Others.{StaysAside}
 use Rattle.xom_model.specs.Quiet.{IsQuiet, TrapsQuietly}
 use Rattle.xom_model.specs.Touched.{slot_of_event}
-use Rattle.xom_model.specs.Refused.{IsRefusal}
+use Rattle.xom_model.specs.Refused.{IsRefusalStatus}
 use Rattle.xom_model.specs.Saves.{IsOnce}
 use Rattle.xom_model.specs.Sequence.{RunHolds}
 
@@ -37,9 +37,9 @@ KeepsHolding v Stands r new =
 -- instruction of null code asked for it, the null pair, which goes on.
 abbrev pub LeavesRefused : Record → Event → Record → Type 0
 LeavesRefused r (event.Do op) new =
-    IsRefusal new.status → new ≡ record r { status = new.status; events = r.events + 1 }
+    IsRefusalStatus new.status → new ≡ record r { status = new.status; events = r.events + 1 }
 LeavesRefused r event.Null new =
-    (op : Op) → (null_step (told_in r) (open_in r)).1 ≡ Ok (Some op) → IsRefusal new.status
+    (op : Op) → (null_step (told_in r) (open_in r)).1 ≡ Ok (Some op) → IsRefusalStatus new.status
     → new ≡ record r {
       status = new.status;
       events = r.events + 1;
@@ -75,8 +75,8 @@ LeavesOthers r e new =
 -- No pad twice: while the journal is honest, two Seals of it whose messages are equal before the
 -- ciphertext, so in kind, install, line or register, and version or epoch, are equal. These name
 -- the key and the counter block.
-abbrev pub NoPadTwice : StandsFor → Record → Record → Type 0
-NoPadTwice Stands r new =
+abbrev pub AddsNoPadTwice : StandsFor → Record → Record → Type 0
+AddsNoPadTwice Stands r new =
     (owners : List Owner) → AreOwners owners → IsBounded new.core.entries
     → IsHonest (sealed_by r.core.machine owners) new.core.entries
     → Holds Stands owners r.core → IsOnce (seals_of new.core.entries)

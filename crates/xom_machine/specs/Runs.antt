@@ -18,12 +18,12 @@ use Rattle.xom_machine.specs.Whole.{Whole}
 -- ---- Events alone
 
 -- the bytes of an event: of a write so many as it says, the first of the chunk
-abbrev pub bytes_of : Event → List ℕ → List ℕ
-bytes_of (event.Write address count) chunk = take count chunk
-bytes_of (event.Poke address count) chunk = take count chunk
-bytes_of (event.Do op) chunk = []
-bytes_of (event.Guest interrupt) chunk = []
-bytes_of event.Null chunk = []
+abbrev pub bytes_of_event : Event → List ℕ → List ℕ
+bytes_of_event (event.Write address count) chunk = take count chunk
+bytes_of_event (event.Poke address count) chunk = take count chunk
+bytes_of_event (event.Do op) chunk = []
+bytes_of_event (event.Guest interrupt) chunk = []
+bytes_of_event event.Null chunk = []
 
 -- 1 for a guest event
 abbrev pub guests_in : Event → ℕ
@@ -38,9 +38,9 @@ abbrev pub Made : Type 0
 Made = Event × List ℕ
 
 -- how many of the events are guest events
-abbrev pub guests_of : List Made → ℕ
-guests_of [] = 0
-guests_of (first ∷ events) = guests_in first.0 + guests_of events
+abbrev pub guest_events_in : List Made → ℕ
+guest_events_in [] = 0
+guest_events_in (first ∷ events) = guests_in first.0 + guest_events_in events
 
 module _ (schedule : Schedule) where
   -- Whose turn it is: that of the write of the bus that is listed for the event's number, else of
@@ -48,7 +48,7 @@ module _ (schedule : Schedule) where
   -- may ask for anything.
   abbrev pub IsDueWhere : ℕ → Event → List ℕ → Option Poke → Option ℕ → Type 0
   IsDueWhere guests e chunk (Some poke) at =
-      (e ≡ event.Poke poke.address (length poke.bytes)) × (bytes_of e chunk ≡ poke.bytes)
+      (e ≡ event.Poke poke.address (length poke.bytes)) × (bytes_of_event e chunk ≡ poke.bytes)
   IsDueWhere guests e chunk None (Some slot) =
       e ≡ event.Guest (is_flagged schedule.interrupts (guests + 1))
   IsDueWhere guests e chunk None None = (t : Turn) × (e ≡ event_of t)
@@ -73,7 +73,7 @@ module _ {K : Type 0} (told : K → View → Option (Turn × (List ℕ × K))) (
   abbrev pub IsTold : Record → K → Event → List ℕ → K → Type 0
   IsTold r k e chunk k' =
       IfSome (told k (view_of r))
-      (λ t. (e ≡ event_of t.0) × (bytes_of e chunk ≡ bytes_of e t.1.0) × (k' ≡ t.1.1))
+      (λ t. (e ≡ event_of t.0) × (bytes_of_event e chunk ≡ bytes_of_event e t.1.0) × (k' ≡ t.1.1))
 
   -- whose turn it is; the kernel is asked only where it is the kernel's
   abbrev pub IsNextWhere : ℕ → Record → K → Event → List ℕ → K → Option Poke → Option ℕ → Type 0
@@ -107,7 +107,7 @@ module _ {K : Type 0} (told : K → View → Option (Turn × (List ℕ × K))) (
       pub events : List Made
       pub made : IsRun schedule v 0 first.state events m.state
       pub all : length events ≡ count
-      pub guests_are : guests ≡ guests_of events
+      pub guests_are : guests ≡ guest_events_in events
       pub few : guests ≤ count
       pub counted : m.state.events ≡ count
       -- where the kernel tells its turns, so many more events lead to the record to which all of

@@ -4,5 +4,5 @@ use Rattle.session_table.specs.declared.session.SlotView.{SlotView}
 use Rattle.session_table.specs.Sessions.{free}
 use Rattle.xom_model.specs.Seen.{shown_slot}
 
-abbrev pub slot_at : List SlotView → ℕ → SlotView
-slot_at slots slot = slice_index_or slots slot (shown_slot free)
+abbrev pub shown_slot_at : List SlotView → ℕ → SlotView
+shown_slot_at slots slot = slice_index_or slots slot (shown_slot free)

@@ -1,5 +1,5 @@
 ghost use Rattle.std.specs.Prelude.{◌≡◌, ◌<◌, ◌≤◌, ◌+◌, IfOk, length, replicate, slice_index, slice_set, take};
-ghost use Rattle.line_ram.specs.Bytes.{stored};
+ghost use Rattle.line_ram.specs.Bytes.{ram_with_bytes};
 ghost use Rattle.xom_model.specs.Event.{chunk_size};
 
 use std::alloc::Global;
@@ -54,7 +54,7 @@ impl Chunk {
     /// Puts bytes from a place on, up to the last place at most.
     pub fn put(&mut self, place: u32, bytes: &[u8])
         requires { place + length bytes.now ≤ chunk_size }
-        ensures { self.new ≡ stored self.old place bytes.now }
+        ensures { self.new ≡ ram_with_bytes self.old place bytes.now }
     {
         let from = place as usize;
         let end = from + bytes.len();

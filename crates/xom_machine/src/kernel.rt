@@ -2,7 +2,7 @@ ghost use Rattle.std.specs.Prelude.{◌≡◌, Option, List, ℕ, IfSome};
 ghost use Rattle.xom_model.specs.declared.outcome.Turn.{Turn};
 ghost use Rattle.xom_model.specs.Run.{event_of};
 ghost use Rattle.xom_model.specs.Seen.{View as Shown};
-ghost use Rattle.xom_machine.specs.Runs.{bytes_of};
+ghost use Rattle.xom_machine.specs.Runs.{bytes_of_event};
 
 use crate::{Chunk, View};
 use xom_model::outcome::Turn;
@@ -15,5 +15,5 @@ pub trait Kernel {
 
     /// What it does next. The bytes of a kernel write are the first of the chunk.
     fn next(&mut self, view: &View, chunk: &mut Chunk) -> Turn
-        ensures { IfSome (told self.old view.now) (λ t. (result ≡ t.0) × (bytes_of (event_of t.0) chunk.new ≡ bytes_of (event_of t.0) t.1.0) × (self.new ≡ t.1.1)) };
+        ensures { IfSome (told self.old view.now) (λ t. (result ≡ t.0) × (bytes_of_event (event_of t.0) chunk.new ≡ bytes_of_event (event_of t.0) t.1.0) × (self.new ≡ t.1.1)) };
 }

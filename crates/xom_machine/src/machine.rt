@@ -8,10 +8,10 @@ ghost use Rattle.xom_model.specs.Holds.{Holds};
 ghost use Rattle.xom_model.specs.Null.{null_step, ram_after_write};
 ghost use Rattle.xom_model.specs.Operation.{operation};
 ghost use Rattle.xom_model.specs.Seen.{view_of};
-ghost use Rattle.xom_model.specs.State.{holds as holds_in, power_on};
+ghost use Rattle.xom_model.specs.State.{power_on, ram_holds_range as holds_in};
 ghost use Rattle.xom_model.specs.Stops.{StopsAreLast, StopsHold};
 ghost use Rattle.xom_seen.specs.NoWayOut.{GivesNoMoreAway};
-ghost use Rattle.xom_machine.specs.Kept.{FaultsAreAlone, KeepsHolding, LeavesOthers, LeavesRefused, NoPadTwice, TrapsAreQuiet};
+ghost use Rattle.xom_machine.specs.Kept.{AddsNoPadTwice, FaultsAreAlone, KeepsHolding, LeavesOthers, LeavesRefused, TrapsAreQuiet};
 ghost use Rattle.xom_machine.specs.Whole.{with_loaded};
 
 pub mod view;
@@ -152,7 +152,7 @@ impl<V: VersionStore> Machine<V> {
 
         // What the machine keeps of each guest is kept, whatever the kernel does.
         ensures holds { KeepsHolding V.versions V.Stands self.old.state self.new.state }
-        ensures pads { NoPadTwice V.Stands self.old.state self.new.state }
+        ensures pads { AddsNoPadTwice V.Stands self.old.state self.new.state }
         ensures faults { FaultsAreAlone V.Stands self.old.state self.new.state result }
 
         // What is seen of the machine afterwards is told by what was seen before, the event, its

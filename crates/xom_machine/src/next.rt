@@ -4,7 +4,7 @@ ghost use Rattle.std.specs.List.Sorted.{IsStrictlyIncreasing};
 ghost use Rattle.xom_base.specs.declared.event.Event.TheVariants as event;
 ghost use Rattle.xom_model.specs.Event.{chunk_size, fits as fits_of};
 ghost use Rattle.xom_model.specs.Run.{AreInterrupts, IsPoke, IsSchedule, event_number, event_of as event_of_turn, is_flagged as is_flagged_at, poke_at};
-ghost use Rattle.xom_machine.specs.Runs.{IsNext, bytes_of};
+ghost use Rattle.xom_machine.specs.Runs.{IsNext, bytes_of_event};
 
 use crate::{Chunk, Kernel, Machine};
 use xom_base::{Event, Interrupts, Poke, Schedule};
@@ -57,7 +57,7 @@ fn event_of(turn: Turn) -> Event
 fn bring(poke: &Poke, chunk: &mut Chunk) -> Event
     requires { IsPoke poke.now }
     ensures event { result ≡ event.Poke poke.now.address (length poke.now.bytes) }
-    ensures bytes { bytes_of result chunk.new ≡ poke.now.bytes }
+    ensures bytes { bytes_of_event result chunk.new ≡ poke.now.bytes }
     ensures few { length poke.now.bytes ≤ chunk_size }
 {
     let bytes = poke.bytes.as_slice();

@@ -14,7 +14,7 @@ use Rattle.xom_owners.specs.declared.owner.Owner.{Owner}
 use Rattle.xom_owners.specs.Owners.{owner_of}
 use Rattle.session_table.specs.declared.session.Session.{Session}
 use Rattle.session_table.specs.declared.session.SlotState.TheVariants as state
-use Rattle.session_table.specs.Sessions.{free, is_live, left}
+use Rattle.session_table.specs.Sessions.{free, is_live, session_after_leaving}
 use Rattle.xom_model.specs.declared.reach.Reach.{Reach}
 use Rattle.xom_model.specs.declared.reach.Reach.TheVariants as reach
 use Rattle.xom_versions.specs.declared.store.Torn.{Torn}
@@ -25,11 +25,11 @@ use Rattle.xom_model.specs.Honest.{Sealing, seals_of}
 use Rattle.xom_versions.specs.Versions.{VersionLaw, Versions}
 use Rattle.xom_model.specs.Versions.{StandsFor}
 use Rattle.line_cache.specs.declared.way.Way.{Way}
-use Rattle.line_cache.specs.Ways.{chosen, found, free_in_set, free_way, is_free, is_of, new_way, place_for, pointed, pointers_after, set_of, way_at}
+use Rattle.line_cache.specs.Ways.{free_in_set, free_or_pointed, free_way, is_free, is_of, new_way, place_for, place_of_line, pointers_after, set_of, way_at, way_of_pointer}
 use Rattle.line_cache.proofs.Search.{none_passes}
 use Rattle.page_map.specs.Pages.{frame_of}
-use Rattle.xom_model.specs.State.{CoreState, core_with_hashes, page_of, session_of, store_of, with_entry, with_way}
-use Rattle.xom_model.specs.Lines.{accept_entry, ct_place, keys_of, line_seals, name_of, sealed_at, version_of_line, who_in, who_of}
+use Rattle.xom_model.specs.State.{CoreState, core_with_hashes, core_with_way, page_of, session_of, store_of, with_entry}
+use Rattle.xom_model.specs.Lines.{accept_entry, ct_place, keys_of, line_name_of, line_seals, sealed_at, version_of_line, who_in, who_of}
 use Rattle.xom_model.specs.Access.{access, after_opening, after_stop, brought, cleared_at, reach_after_placing, reach_after_victim, reach_by_cache, reach_in_frame, read_from, with_pointers, without_guest}
 use Rattle.xom_model.specs.Holds.{Behind, IsLive, IsOf, Private}
 use Rattle.xom_model.specs.Kept.{Kept}
@@ -64,18 +64,18 @@ IsOf-is_of slot line way is = elim (eqb_tells way.slot slot) [
   | inr other ↦ absurd (other.1 is.0)
 ]
 
-pub found-IsOf : (ways : List Way) (slot line place : ℕ) → found ways slot line ≡ Some place
+pub found-IsOf : (ways : List Way) (slot line place : ℕ) → place_of_line ways slot line ≡ Some place
     → IsOf (way_at ways place) slot line
 found-IsOf ways slot line place is =
     is_of-IsOf slot line (way_at ways place)
     (position-Some (is_of slot line) ways place free_way is).1
 
 pub found-low : (ways : List Way) (slot line place : ℕ) → length ways ≡ 128
-    → found ways slot line ≡ Some place → place < 128
+    → place_of_line ways slot line ≡ Some place → place < 128
 found-low ways slot line place places is =
     let within = (position-Some (is_of slot line) ways place free_way is).0 in omega arith
 
-pub found-none : (ways : List Way) (slot line place : ℕ) → slot ≢ 0 → found ways slot line ≡ None
+pub found-none : (ways : List Way) (slot line place : ℕ) → slot ≢ 0 → place_of_line ways slot line ≡ None
     → ¬ IsOf (way_at ways place) slot line
 found-none ways slot line place some none is = elim (dec_lt place (length ways)) [
   | yes within ↦ let no_way = none_passes (is_of slot line) ways place free_way none within in
@@ -89,7 +89,7 @@ set-small : (ways : List Way) (line : ℕ) → length (set_of ways line) ≤ 4
 set-small ways line = simp (length-take) (omega arith)
 
 chosen-low : (ways : List Way) (line named : ℕ) (free : Option ℕ) → free_in_set ways line ≡ free
-    → named < 4 → chosen free named < 4
+    → named < 4 → free_or_pointed free named < 4
 unfolding free_in_set
 chosen-low ways line named (Some way) is low =
     let within = (position-Some is_free (set_of ways line) way free_way is).0 in let small =
@@ -99,7 +99,7 @@ chosen-low ways line named None is low = low
 pub place_for-low : (ways : List Way) (pointers : List ℕ) (line : ℕ)
     → place_for ways pointers line < 128
 place_for-low ways pointers line =
-    let low = chosen-low ways line (pointed pointers line) (free_in_set ways line) refl
+    let low = chosen-low ways line (way_of_pointer pointers line) (free_in_set ways line) refl
     (omega arith) in omega arith
 
 -- ---- What an access comes to
@@ -126,7 +126,7 @@ module _ (Stands : StandsFor) (owners : List Owner) (v : Versions) (law : Versio
       → ¬ IsLive (after_stop core k why) k
   unfolding without_guest
   stopped_dead core k why places known lives =
-      let here = get_or-set_same core.sessions k (left (session_of core k) (state.Stopped why)) free
+      let here = get_or-set_same core.sessions k (session_after_leaving (session_of core k) (state.Stopped why)) free
       (omega arith) in
       let its = ap (λ s. is_live s.state) here in cc
 
@@ -185,7 +185,7 @@ module _ (Stands : StandsFor) (owners : List Owner) (v : Versions) (law : Versio
             core_sound.shape.way_places in
             let c : length mid.ways ≡ length core.ways = clear.places in omega arith
 
-        filled : Comes Stands owners base slot line (with_way mid place (new_way slot line bytes))
+        filled : Comes Stands owners base slot line (core_with_way mid place (new_way slot line bytes))
             (reach.Ready place)
         filled = record {
           kept = put_kept Stands owners base mid mid_kept place (new_way slot line bytes) within may
@@ -301,7 +301,7 @@ module _ (Stands : StandsFor) (owners : List Owner) (v : Versions) (law : Versio
         (λ owner memory whose holds. sym ((behind_now owner memory holds).zeros none)) honest
 
     module _ (nonzero : version ≢ 0) (place : ℕ) (ct bytes : List ℕ)
-        (bytes_are : bytes ≡ line_masked (name_of (who_of core slot) line version)
+        (bytes_are : bytes ≡ line_masked (line_name_of (who_of core slot) line version)
         (keys_of (who_of core slot) line version) ct) where
       abbrev accept : Entry
       accept = accept_entry (who_of core slot) line version ct place
@@ -328,18 +328,18 @@ module _ (Stands : StandsFor) (owners : List Owner) (v : Versions) (law : Versio
           omega arith in few in
           let was = honest.honest.forgery core.entries []
           (keys_of (who_of core slot) line version).tag.0
-          (line_message (name_of (who_of core slot) line version) ct) place refl in
+          (line_message (line_name_of (who_of core slot) line version) ct) place refl in
           let was_base = subst (λ w. is_sealed (keys_of w line version).tag.0
-          (line_message (name_of w line version) ct) (sealed ++ seals_of core.entries) ≡ true)
+          (line_message (line_name_of w line version) ct) (sealed ++ seals_of core.entries) ≡ true)
           who_same was in
           let was_owners = subst (λ l. is_sealed (keys_of who line version).tag.0
-          (line_message (name_of who line version) ct) (l ++ seals_of core.entries) ≡ true)
+          (line_message (line_name_of who line version) ct) (l ++ seals_of core.entries) ≡ true)
           sealings was_base in
           let was_seals = subst (λ l. is_sealed (keys_of who line version).tag.0
-          (line_message (name_of who line version) ct) (sealed_by base.machine owners ++ l)
+          (line_message (line_name_of who line version) ct) (sealed_by base.machine owners ++ l)
           ≡ true) seals_same was_owners in
           bytes_are
-          ∙ ap (λ w. line_masked (name_of w line version) (keys_of w line version) ct) who_same
+          ∙ ap (λ w. line_masked (line_name_of w line version) (keys_of w line version) ct) who_same
           ∙ opens_plain base.machine owners tell owner who line version (seals_of base.entries)
           (memory line) ct whose (sound.shape.ids slot) sound.shape.boot
           (let a : (session_of base slot).install ≤ base.installs = sound.shape.numbers slot in
@@ -392,7 +392,7 @@ module _ (Stands : StandsFor) (owners : List Owner) (v : Versions) (law : Versio
           → version ≡ version_of_line (who_of base slot) (seals_of base.entries) line → version ≢ 0
           → (address : ℕ) (ct : List ℕ) (found_bytes : Option (List ℕ))
           → ((bytes : List ℕ) → found_bytes ≡ Some bytes → bytes ≡ line_masked
-          (name_of (who_of asked slot) line version) (keys_of (who_of asked slot) line version)
+          (line_name_of (who_of asked slot) line version) (keys_of (who_of asked slot) line version)
           ct)
           → IsTrusted sealed (after_opening v asked slot line version address ct
           found_bytes).0.entries
@@ -417,9 +417,9 @@ module _ (Stands : StandsFor) (owners : List Owner) (v : Versions) (law : Versio
           (read_from v asked slot line frame version).1
       read_comes version is nonzero honest =
           opened_comes version is nonzero (ct_place frame line) (sealed_at base.ram frame line).ct
-          (unsealed_line (name_of (who_of asked slot) line version)
+          (unsealed_line (line_name_of (who_of asked slot) line version)
           (keys_of (who_of asked slot) line version) (sealed_at base.ram frame line))
-          (λ bytes opens. unsealed_is (name_of (who_of asked slot) line version)
+          (λ bytes opens. unsealed_is (line_name_of (who_of asked slot) line version)
           (keys_of (who_of asked slot) line version) (sealed_at base.ram frame line) bytes opens)
           honest
 
@@ -442,7 +442,7 @@ module _ (Stands : StandsFor) (owners : List Owner) (v : Versions) (law : Versio
           asked.entries r.0.entries)
           (λ _. longer_placed v asked slot line (replicate 32 0))
           (λ _. opened_longer version (ct_place frame line) (sealed_at base.ram frame line).ct
-          (unsealed_line (name_of (who_of asked slot) line version)
+          (unsealed_line (line_name_of (who_of asked slot) line version)
           (keys_of (who_of asked slot) line version) (sealed_at base.ram frame line)))
 
       brought_comes : (answer : Result ℕ Torn)
@@ -467,7 +467,7 @@ module _ (Stands : StandsFor) (owners : List Owner) (v : Versions) (law : Versio
           ]
 
     looked_comes : (frame : ℕ) → frame_of base.pages slot (page_of line) ≡ Some frame
-        → (at : Option ℕ) → found base.ways slot line ≡ at
+        → (at : Option ℕ) → place_of_line base.ways slot line ≡ at
         → IsTrusted sealed (reach_by_cache v base slot line frame at).0.entries
         → Comes Stands owners base slot line (reach_by_cache v base slot line frame at).0
         (reach_by_cache v base slot line frame at).1
@@ -492,7 +492,7 @@ module _ (Stands : StandsFor) (owners : List Owner) (v : Versions) (law : Versio
         (reach_in_frame v base slot line frame).1
     mapped_comes None is honest = record { kept = kept_none Stands owners base; came = refl }
     mapped_comes (Some frame) is honest =
-        looked_comes frame is (found base.ways slot line) refl honest
+        looked_comes frame is (place_of_line base.ways slot line) refl honest
 
     pub access_comes : IsTrusted sealed (access v base slot line).0.entries
         → Comes Stands owners base slot line (access v base slot line).0 (access v base slot line).1

@@ -12,11 +12,11 @@ use Rattle.xom_versions.specs.Versions.{Versions}
 use Rattle.xom_versions.specs.Store.{hash_entry}
 use Rattle.line_cache.specs.declared.way.Way.{Way}
 use Rattle.line_cache.specs.Ways.{way_at}
-use Rattle.xom_model.specs.State.{CoreState, core_with_hashes, session_of, store_of, with_way}
+use Rattle.xom_model.specs.State.{CoreState, core_with_hashes, core_with_way, session_of, store_of}
 use Rattle.xom_model.specs.Lines.{accept_entry, seal_entry, who_of}
 use Rattle.xom_model.specs.Access.{after_raise, after_seal, after_stop, without_guest}
 use Rattle.xom_model.specs.Guest.{after_exit, after_trap}
-use Rattle.xom_model.specs.Operation.{after_install, after_kill, envelope_at}
+use Rattle.xom_model.specs.Operation.{after_install, after_kill, envelope_in_ram}
 use Rattle.xom_model.specs.Touched.{slot_of_event}
 use Rattle.xom_model.proofs.Naming.{HasOne-either, HasOne-hashes, HasOne-only}
 use Rattle.xom_model.proofs.Walk.{Ends, Parts, torn_off, written_back}
@@ -102,7 +102,7 @@ install_appends : (v : Versions) (core : CoreState) (slot place area : ℕ) (pla
 unfolding after_install
 install_appends v core slot place area plain =
     let texts = v.texts_of_build area plain.lines core.ram in
-    let accept = entry.Accept core.machine.0 (envelope_message (envelope_at core place)) place in
+    let accept = entry.Accept core.machine.0 (envelope_message (envelope_in_ram core place)) place in
     let install = entry.Install (core.installs + 1) slot plain.id place plain.entry plain.lines in
     record {
       added = accept ∷ install ∷ map hash_entry texts;
@@ -128,8 +128,8 @@ appends_parts v slot = record {
   bring = λ core place way clean may. appends_none core _ refl refl;
   seal = λ core place version way dirty raised may.
       let mid = written_back v core (way_at core.ways place) version in
-      appends_on core mid (with_way mid place way) (written_appends v core (way_at core.ways place)
-      version) (appends_none mid (with_way mid place way) refl refl);
+      appends_on core mid (core_with_way mid place way) (written_appends v core (way_at core.ways place)
+      version) (appends_none mid (core_with_way mid place way) refl refl);
   tear = λ core place torn dirty raised.
       let its = way_at core.ways place in
       appends_on core (after_raise v core its.slot its.line) (torn_off v core its torn)

@@ -8,13 +8,13 @@ use Rattle.xom_base.specs.declared.entry.Entry.{Entry}
 use Rattle.xom_base.specs.declared.entry.Entry.TheVariants as entry
 use Rattle.xom_base.specs.declared.event.Cause.{Cause}
 use Rattle.xom_owners.specs.declared.owner.Owner.{Owner}
-use Rattle.mips_plain.specs.Machine.{start, cell_at as plain_cell}
+use Rattle.mips_plain.specs.Machine.{plain_cell_at as plain_cell, start}
 use Rattle.mips_plain.specs.declared.cell.PlainCell.TheVariants.{Lent}
 use Rattle.mips_plain.specs.Follows.{Reaches}
 use Rattle.tag_regs.specs.TaggedCells.{cell_at}
 use Rattle.session_table.specs.declared.session.Session.{Session}
 use Rattle.session_table.specs.declared.session.SlotState.TheVariants as state
-use Rattle.session_table.specs.Sessions.{entered, free, is_live, paused, resumed}
+use Rattle.session_table.specs.Sessions.{free, is_live, session_after_enter, session_after_pause, session_after_resume}
 use Rattle.xom_model.specs.Honest.{seals_of}
 use Rattle.xom_versions.specs.Versions.{VersionLaw, Versions}
 use Rattle.xom_model.specs.Versions.{StandsFor}
@@ -24,7 +24,7 @@ use Rattle.xom_model.specs.State.{CoreState, session_of}
 use Rattle.xom_model.specs.Lines.{who_in, who_of}
 use Rattle.xom_model.specs.Saves.{SavesAgree, reg_name}
 use Rattle.xom_model.specs.Guest.{after_trap}
-use Rattle.xom_model.specs.Holds.{Agrees, FollowsAlone, Holds, IsHeld, IsLive, IsRunning, Private, SlotsHold, line_in, own_bit}
+use Rattle.xom_model.specs.Holds.{Agrees, FollowsAlone, Holds, IsHeld, IsLive, IsRunning, Private, SlotsHold, line_of_bytes, own_bit}
 use Rattle.xom_model.proofs.Growth.{Goes, goes_entry, goes_none, seals_none}
 use Rattle.xom_model.proofs.KeptLaws.{aside, aside_private, aside_shape}
 use Rattle.xom_model.proofs.Parts.{session_private, session_shape}
@@ -103,7 +103,7 @@ module _ (Stands : StandsFor) (owners : List Owner) (v : Versions) (law : Versio
           (session_of core slot).id held.0 held.1 (grows.steps (session_of core slot).install)
           held.2)),
       subst (λ (t : Session). Agrees t core.cells entries slot held.0 held.1) (sym here) agrees,
-      private_out slot held.0 (line_in held.1.bytes) held.4,
+      private_out slot held.0 (line_of_bytes held.1.bytes) held.4,
       subst (λ (t : Session). SavesAgree (who_in core.boot t) t (seals_of entries) held.1)
           (sym here) saves,
     );
@@ -148,7 +148,7 @@ module _ (Stands : StandsFor) (owners : List Owner) (v : Versions) (law : Versio
       let old = (holds.slots.held slot live).3 in
       let grows = goes_entry core.entries trap
       (record { step = λ n. refl; install = λ n id no. no }) in
-      change_holds Stands owners v law core slot some known live holds.slots (paused s)
+      change_holds Stands owners v law core slot some known live holds.slots (session_after_pause s)
       (core.entries ++ trap ∷ []) grows (seals_none core.entries trap refl) refl refl refl refl
       (record {
         key = old.key;
@@ -171,7 +171,7 @@ module _ (Stands : StandsFor) (owners : List Owner) (v : Versions) (law : Versio
         few = let more =
             length-append core.entries (trap ∷ []) in omega arith;
       })
-      (λ paused install low reg from to key ct is.
+      (λ session_after_pause install low reg from to key ct is.
       let name = reg_name (who_of core slot) (s.epoch + 1) reg in
       let named : IsRegName name = record {
         boot = holds.slots.shape.boot;
@@ -189,7 +189,7 @@ module _ (Stands : StandsFor) (owners : List Owner) (v : Versions) (law : Versio
   -- a fresh guest owns nothing yet, and stands at its entry
   pub entered_holds : ((other : ℕ) → ¬ IsRunning core other)
       → (session_of core slot).state ≡ state.Fresh → Holds Stands owners
-      (record core { sessions = set core.sessions slot (entered (session_of core slot)) })
+      (record core { sessions = set core.sessions slot (session_after_enter (session_of core slot)) })
   unfolding start
   entered_holds none fresh =
       let live : IsLive core slot = rw fresh refl in
@@ -202,7 +202,7 @@ module _ (Stands : StandsFor) (owners : List Owner) (v : Versions) (law : Versio
       let entry_private : held.0.plain.entry < 2 ^ 20 = held.0.plain.private in
       let lent : (reg : ℕ) → reg < 34 → plain_cell held.1.cells reg ≡ Lent =
       λ reg to. ap (λ p. plain_cell p.cells reg) began ∙ get_or-replicate 34 reg Lent Lent to in
-      change_holds Stands owners v law core slot some known live holds.slots (entered s)
+      change_holds Stands owners v law core slot some known live holds.slots (session_after_enter s)
       core.entries (goes_none core.entries) refl refl refl refl refl
       (record {
         key = old.key;
@@ -220,7 +220,7 @@ module _ (Stands : StandsFor) (owners : List Owner) (v : Versions) (law : Versio
         places = old.places;
       })
       (record { live = live; install = refl; up = omega arith; few = omega arith })
-      (λ paused. absurd (cc))
+      (λ session_after_pause. absurd (cc))
       (λ other differs. none other)
       (λ reg running from to bit. absurd (let own = old.mask reg from to in let none_own =
       ap own_bit (lent reg to) in cc))
@@ -231,12 +231,12 @@ module _ (Stands : StandsFor) (owners : List Owner) (v : Versions) (law : Versio
       → ((reg : ℕ) → 1 ≤ reg → reg < 34 → bit_at (session_of core slot).mask reg ≡ 1
       → (cell_at core.cells reg).tag ≡ slot)
       → Holds Stands owners
-      (record core { sessions = set core.sessions slot (resumed (session_of core slot)) })
+      (record core { sessions = set core.sessions slot (session_after_resume (session_of core slot)) })
   resumed_holds none is_paused whole =
       let live : IsLive core slot = rw is_paused refl in
       let s = session_of core slot in
       let old = (holds.slots.held slot live).3 in
-      change_holds Stands owners v law core slot some known live holds.slots (resumed s)
+      change_holds Stands owners v law core slot some known live holds.slots (session_after_resume s)
       core.entries (goes_none core.entries) refl refl refl refl refl
       (record {
         key = old.key;
@@ -253,6 +253,6 @@ module _ (Stands : StandsFor) (owners : List Owner) (v : Versions) (law : Versio
         places = old.places;
       })
       (record { live = live; install = refl; up = omega arith; few = omega arith })
-      (λ paused. absurd (cc))
+      (λ session_after_pause. absurd (cc))
       (λ other differs. none other)
       (λ reg running from to bit. whole reg from to bit)

@@ -9,7 +9,7 @@ use Rattle.xom_owners.specs.declared.owner.Owner.{Owner}
 use Rattle.xom_owners.specs.Owners.{owner_of}
 use Rattle.session_table.specs.declared.session.Session.{Session}
 use Rattle.session_table.specs.declared.session.SlotState.TheVariants as state
-use Rattle.session_table.specs.Sessions.{free, is_live, left}
+use Rattle.session_table.specs.Sessions.{free, is_live, session_after_leaving}
 use Rattle.xom_versions.specs.declared.store.Torn.{Torn}
 use Rattle.xom_versions.specs.Store.{NoCollision, Store, hash_entry}
 use Rattle.xom_model.specs.Honest.{Sealing, seals_of}
@@ -19,7 +19,7 @@ use Rattle.line_cache.specs.declared.way.Way.{Way}
 use Rattle.page_map.specs.Pages.{frame_of}
 use Rattle.line_cache.specs.Ways.{way_at}
 use Rattle.xom_model.specs.State.{CoreState, no_store, session_of, store_of, page_of}
-use Rattle.xom_model.specs.Lines.{keys_of, name_of, seal_entry, sealed_as, version_of_line, who_of}
+use Rattle.xom_model.specs.Lines.{keys_of, line_name_of, seal_entry, sealed_as, version_of_line, who_of}
 use Rattle.xom_seal.proofs.SealLaws.{sealed_lines_have_their_length}
 use Rattle.xom_model.proofs.RamSize.{length-with_sealed, areas_stay, frames_stay}
 use Rattle.xom_model.specs.Access.{after_raise, after_seal, after_stop, after_victim, cleared_at, or_stopped, sealed_by_raise, without_guest}
@@ -154,7 +154,7 @@ module _ (Stands : StandsFor) (owners : List Owner) (v : Versions) (law : Versio
         let size : length way.bytes ≡ 32 = ap length (line_is.cached place (refl, refl))
         ∙ line_is.size in
         let who = who_of core way.slot in
-        let sizes = sealed_lines_have_their_length (name_of who way.line number)
+        let sizes = sealed_lines_have_their_length (line_name_of who way.line number)
         (keys_of who way.line number) way.bytes size in
         let sized = λ (fit : RamFits core). law.size_after_raise (store_of core way.slot) way.line
         core.ram (fit.areas way.slot live) (sound.shape.inside place some) in
@@ -318,7 +318,7 @@ module _ (Stands : StandsFor) (owners : List Owner) (v : Versions) (law : Versio
       unfolding without_guest after_raise
       out_dead lives =
           let here = get_or-set_same core.sessions way.slot
-          (left (session_of core way.slot) (state.Stopped (rule.TreeNode torn.level))) free
+          (session_after_leaving (session_of core way.slot) (state.Stopped (rule.TreeNode torn.level))) free
           (let places : length core.sessions ≡ 17 = sound.places in let few = known in
           omega arith) in
           absurd (let its = ap (λ s. is_live s.state) here in cc)

@@ -13,11 +13,11 @@ use Rattle.xom_owners.specs.declared.owner.Owner.{Owner}
 use Rattle.mips_plain.specs.Memory.{written_at}
 use Rattle.mips_plain.proofs.Stores.{length-written_at}
 use Rattle.tag_regs.specs.declared.cell.Cell.{Cell}
-use Rattle.tag_regs.specs.TaggedCells.{cell_at, empty}
+use Rattle.tag_regs.specs.TaggedCells.{cell_at, empty_cell}
 use Rattle.session_table.specs.Sessions.{is_live}
 use Rattle.xom_model.specs.Versions.{StandsFor}
 use Rattle.line_ram.specs.Bytes.{bytes_at}
-use Rattle.xom_model.specs.State.{CoreState, holds as fits_ram, session_of}
+use Rattle.xom_model.specs.State.{CoreState, ram_holds_range as fits_ram, session_of}
 use Rattle.xom_model.specs.Lines.{who_of}
 use Rattle.xom_model.specs.Saves.{reg_keys, reg_name, saved_at, sealed_reg, with_saved}
 use Rattle.xom_model.specs.Operation.{after_reopening, after_restore, after_save, epoch_of, first_refusal_or, is_bad_slot, is_cell, is_own_cell, is_paused, operation, restore_register, save_register}
@@ -199,7 +199,7 @@ module _ (Stands : StandsFor) (owners : List Owner) (core : CoreState) (slot reg
 
   same_cells : (after_restore new slot reg address cell.value).cells ≡ core.cells
   unfolding after_restore after_save
-  same_cells = ap (set core.cells reg) (sym cell_is) ∙ set-get_or core.cells reg empty
+  same_cells = ap (set core.cells reg) (sym cell_is) ∙ set-get_or core.cells reg empty_cell
 
   pub comes_back : ((restore_register (save_register core slot reg address).0 slot reg address).1
       ≡ 0) × ((restore_register (save_register core slot reg address).0 slot reg address).0.cells

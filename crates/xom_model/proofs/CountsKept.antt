@@ -7,7 +7,7 @@ use Rattle.xom_base.specs.declared.event.Event.{Event}
 use Rattle.xom_base.specs.declared.event.Event.TheVariants as event
 use Rattle.xom_base.specs.declared.event.Rule.{Rule}
 use Rattle.session_table.specs.declared.session.Session.{Session}
-use Rattle.session_table.specs.Sessions.{entered, free, paused, resumed, session_at}
+use Rattle.session_table.specs.Sessions.{free, session_after_enter, session_after_pause, session_after_resume, session_at}
 use Rattle.xom_seal.specs.declared.envelope.Unwrapped.{Unwrapped}
 use Rattle.xom_versions.specs.Versions.{Versions}
 use Rattle.line_cache.specs.declared.way.Way.{Way}
@@ -159,7 +159,7 @@ counts_ends slot = record {
   went = more_counted;
   after = λ a b c first then number counted. then number (first number counted);
   trap = λ core why runs number counted.
-      counts_set core (after_trap core slot why).0 slot (paused (session_of core slot)) number 1
+      counts_set core (after_trap core slot why).0 slot (session_after_pause (session_of core slot)) number 1
       refl refl counted (let low = counted.epochs slot in omega arith) (counted.installs slot);
   exit = λ core runs exited number counted. more_counted (after_exit core slot).0 number
       (exit_counts core slot number counted);
@@ -175,8 +175,8 @@ counts_deeds : (v : Versions) (slot : ℕ) → Deeds v slot KeepsCounts CountsOn
 counts_deeds v slot = record {
   sets_register = λ core reg value. counts_same core _ refl refl;
   sets_ram = λ core ram. counts_same core _ refl refl;
-  enters = λ core is. counts_turn core _ slot (entered (session_of core slot)) refl refl refl refl;
-  resumes = λ core is. counts_turn core _ slot (resumed (session_of core slot)) refl refl refl refl;
+  enters = λ core is. counts_turn core _ slot (session_after_enter (session_of core slot)) refl refl refl refl;
+  resumes = λ core is. counts_turn core _ slot (session_after_resume (session_of core slot)) refl refl refl refl;
   maps = λ core page frame may. counts_same core _ refl refl;
   kills = λ core some known taken. kill_counts v core slot;
   outs = λ core byte. counts_same core _ refl refl;

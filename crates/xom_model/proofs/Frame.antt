@@ -19,7 +19,7 @@ use Rattle.xom_model.specs.Honest.{seals_of}
 use Rattle.xom_model.specs.State.{CoreState, session_of}
 use Rattle.xom_model.specs.Lines.{who_of}
 use Rattle.xom_model.specs.Saves.{SavesAgree, SealsHold}
-use Rattle.xom_model.specs.Holds.{Agrees, FollowsAlone, RamFits, IsAlone, IsHeld, IsInstalled, IsLive, Private, Shape, SlotsHold, line_in}
+use Rattle.xom_model.specs.Holds.{Agrees, FollowsAlone, IsAlone, IsHeld, IsInstalled, IsLive, Private, RamFits, Shape, SlotsHold, line_of_bytes}
 
 -- no slot but this one changed, and the journal grew by no other install
 pub record Owes (Stands : StandsFor) (owners : List Owner) (core new : CoreState) (slot : ℕ) : Type
@@ -141,7 +141,7 @@ module _ (Stands : StandsFor) (owners : List Owner) (core new : CoreState) (slot
             (sym session) alone,
         subst (λ (s : Session). Agrees s new.cells new.entries other held.0 held.1) (sym session)
             agrees,
-        owes.private other differs some before held.0 (line_in held.1.bytes) held.2.whose held.4,
+        owes.private other differs some before held.0 (line_of_bytes held.1.bytes) held.2.whose held.4,
         owes.saves other differs before held.1 held.5,
       )
 

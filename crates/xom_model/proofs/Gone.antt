@@ -8,18 +8,18 @@ use Rattle.xom_base.specs.declared.entry.Entry.TheVariants as entry
 use Rattle.xom_base.specs.declared.event.Rule.{Rule}
 use Rattle.xom_owners.specs.declared.owner.Owner.{Owner}
 use Rattle.tag_regs.specs.declared.cell.Cell.{Cell}
-use Rattle.tag_regs.specs.TaggedCells.{cell_at, scrubbed, scrubbed_cell}
+use Rattle.tag_regs.specs.TaggedCells.{cell_at, cells_after_scrub, scrubbed_cell}
 use Rattle.session_table.specs.declared.session.Session.{Session}
 use Rattle.session_table.specs.declared.session.SlotState.{SlotState}
 use Rattle.session_table.specs.declared.session.SlotState.TheVariants as state
-use Rattle.session_table.specs.Sessions.{free, is_live, left}
+use Rattle.session_table.specs.Sessions.{free, is_live, session_after_leaving}
 use Rattle.xom_model.specs.Honest.{Sealing, seals_of}
 use Rattle.xom_versions.specs.Versions.{VersionLaw, Versions}
 use Rattle.xom_model.specs.Versions.{StandsFor}
 use Rattle.line_cache.specs.declared.way.Way.{Way}
 use Rattle.page_map.specs.Pages.{frame_of, no_pages}
 use Rattle.line_cache.specs.Ways.{free_if, free_way, way_at, without_slot}
-use Rattle.xom_model.specs.State.{CoreState, page_of, session_of, store_of, with_session}
+use Rattle.xom_model.specs.State.{CoreState, core_with_session, page_of, session_of, store_of}
 use Rattle.xom_model.specs.Lines.{Who, version_of_line, who_in, who_of}
 use Rattle.xom_model.specs.Access.{after_leaving, after_stop, without_guest}
 use Rattle.xom_model.specs.Operation.{after_kill}
@@ -122,7 +122,7 @@ module _ (Stands : StandsFor) (owners : List Owner) (core : CoreState) (slot : �
     (id : length s.id.0 ≡ 16) where
   abbrev out : CoreState
   out = record core {
-    cells = scrubbed slot core.cells;
+    cells = cells_after_scrub slot core.cells;
     ways = without_slot slot core.ways;
     pages = set core.pages slot no_pages;
     sessions = set core.sessions slot s;
@@ -302,7 +302,7 @@ module _ (Stands : StandsFor) (owners : List Owner) (v : Versions) (law : Versio
       → Kept Stands owners core (after_leaving core slot final)
   unfolding without_guest
   left_kept final dead =
-      gone_kept Stands owners core slot (left (session_of core slot) final) some (omega arith) whole
+      gone_kept Stands owners core slot (session_after_leaving (session_of core slot) final) some (omega arith) whole
       dead (shape.numbers slot) (shape.ids slot)
 
   pub stopped_kept : (why : Rule) → Kept Stands owners core (after_stop core slot why)
@@ -314,14 +314,14 @@ module _ (Stands : StandsFor) (owners : List Owner) (v : Versions) (law : Versio
       (goes_entry mid.entries stop (record { step = λ n. refl; install = λ n id no. no }))
       (seals_none mid.entries stop refl) refl)
 
-  killed_session : Kept Stands owners core (with_session (without_guest core slot) slot free)
+  killed_session : Kept Stands owners core (core_with_session (without_guest core slot) slot free)
   unfolding without_guest
   killed_session =
       gone_kept Stands owners core slot free some (omega arith) whole refl (omega arith) refl
 
   pub killed_kept : Kept Stands owners core (after_kill v core slot)
   killed_kept =
-      let mid = with_session (without_guest core slot) slot free in
+      let mid = core_with_session (without_guest core slot) slot free in
       let kill = entry.Kill (session_of core slot).install in
       kept_on Stands owners core mid (after_kill v core slot) killed_session
       (kept_rest Stands owners v law mid mid.pointers mid.ram (mid.entries ++ kill ∷ [])

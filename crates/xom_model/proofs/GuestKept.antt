@@ -11,13 +11,13 @@ use Rattle.xom_base.specs.declared.step.StepEnd.TheVariants as ended
 use Rattle.xom_base.specs.declared.step.Writes.{Writes}
 use Rattle.xom_owners.specs.declared.owner.Owner.{Owner}
 use Rattle.mips_instruction.specs.declared.instruction.Ins.{Ins}
-use Rattle.mips_instruction.specs.Words.{Fits, read}
+use Rattle.mips_instruction.specs.Words.{Fits, instruction_of_word}
 use Rattle.mips_isa.proofs.Reading.{read-Fits}
 use Rattle.mips_effect.specs.declared.effects.Effect.{Effect}
 use Rattle.mips_effect.specs.declared.wish.Wish.{Wish}
 use Rattle.mips_effect.specs.declared.wish.Wish.TheVariants as wish
 use Rattle.mips_effect.specs.Effects.{IsInRange, Ranged}
-use Rattle.mips_plain.specs.Memory.{private_size, word_at}
+use Rattle.mips_plain.specs.Memory.{private_size, word_at_address}
 use Rattle.mips_plain.proofs.Sizes.{private_size_is}
 use Rattle.mips_plain.specs.Instruction.{effect_at, instruction_in, instruction_or_fault, is_code, step_made, step_of_wish, word_for}
 use Rattle.mips_plain.specs.Machine.{State, answer_to, is_exit, plain, seen_of_cell}
@@ -38,7 +38,7 @@ use Rattle.line_cache.specs.Ways.{way_at}
 use Rattle.xom_model.specs.State.{CoreState, session_of}
 use Rattle.xom_model.specs.Access.{access}
 use Rattle.xom_model.specs.Guest.{address_in, after_effect, after_exit, after_step, after_trap, code_reached, data_of, data_reached, guest, received_by, retirement, seen_by, word_in, word_loaded, word_tried}
-use Rattle.xom_model.specs.Holds.{Agrees, FollowsAlone, Holds, IsLive, IsOf, IsRunning, Private, line_in}
+use Rattle.xom_model.specs.Holds.{Agrees, FollowsAlone, Holds, IsLive, IsOf, IsRunning, Private, line_of_bytes}
 use Rattle.xom_model.specs.Kept.{Kept}
 use Rattle.xom_model.proofs.Growth.{IsTrusted, honest_before}
 use Rattle.xom_model.proofs.Longer.{Longer, longer_code, longer_none, longer_retires, longer_trapped}
@@ -58,7 +58,7 @@ pub sound_of : (Stands : StandsFor) (owners : List Owner) (core : CoreState)
 sound_of Stands owners core holds = record {
   shape = holds.slots.shape;
   known = λ slot some live. let h = holds.slots.held slot live in
-      (h.0, line_in h.1.bytes, h.2.whose, h.4);
+      (h.0, line_of_bytes h.1.bytes, h.2.whose, h.4);
   places = holds.slots.session_places;
   whole = holds.slots.cell_places;
 }
@@ -69,8 +69,8 @@ known-Fits : (found : Option Ins) (ins : Ins) → ((i : Ins) → found ≡ Some 
 known-Fits None ins fits is = absurd (cc)
 known-Fits (Some i) ins fits is = fits ins (cc)
 
-word-Fits : (word : ℕ) (ins : Ins) → instruction_or_fault (read word) ≡ Ok ins → Fits ins
-word-Fits word ins is = known-Fits (read word) ins (λ i has. read-Fits i word has) is
+word-Fits : (word : ℕ) (ins : Ins) → instruction_or_fault (instruction_of_word word) ≡ Ok ins → Fits ins
+word-Fits word ins is = known-Fits (instruction_of_word word) ins (λ i has. read-Fits i word has) is
 
 -- an address of a wish is a private one
 address-low : (wished : Wish) (address : ℕ) → IsInRange wished → address_in wished ≡ Some address
@@ -95,9 +95,9 @@ address-low (wish.Ask reg what) address range is = absurd (cc)
 
 -- the word that is loaded is that of the program's memory
 loaded-same : (wished : Wish) (address : ℕ) (bytes : List ℕ) → address_in wished ≡ Some address
-    → word_loaded (line_in bytes (address / 32)) wished ≡ word_for bytes wished
+    → word_loaded (line_of_bytes bytes (address / 32)) wished ≡ word_for bytes wished
 loaded-same (wish.Load reg at how old) address bytes is =
-    let same : at ≡ address = cc in ap (λ a. word_in (line_in bytes (a / 32)) at) (sym same)
+    let same : at ≡ address = cc in ap (λ a. word_in (line_of_bytes bytes (a / 32)) at) (sym same)
     ∙ word-in_line bytes at
 loaded-same (wish.Store at count value) address bytes is = refl
 loaded-same wish.Nothing address bytes is = refl
@@ -192,7 +192,7 @@ code-low pc is = elim (eqb_tells (pc % 4) 0) [
 ]
 
 fetched-word : (bytes : List ℕ) (pc : ℕ) → is_code pc ≡ true
-    → instruction_in bytes pc ≡ instruction_or_fault (read (word_at bytes pc))
+    → instruction_in bytes pc ≡ instruction_or_fault (instruction_of_word (word_at_address bytes pc))
 unfolding instruction_in
 fetched-word bytes pc is = rw is refl
 
@@ -209,7 +209,7 @@ module _ (Stands : StandsFor) (owners : List Owner) (v : Versions) (law : Versio
     pub follows : FollowsAlone owners core.entries (session_of core slot).install
         (session_of core slot).id owner p
     pub agrees : Agrees (session_of core slot) core.cells core.entries slot owner p
-    pub private : Private Stands core slot owner (line_in p.bytes)
+    pub private : Private Stands core slot owner (line_of_bytes p.bytes)
 
   -- a part of an event after which the slot's session is as it was leaves the guest there
   at_kept : (core new : CoreState) (owner : Owner) (p : State) → Kept Stands owners core new
@@ -223,7 +223,7 @@ module _ (Stands : StandsFor) (owners : List Owner) (v : Versions) (law : Versio
         follows = held_follows Stands owners core new kept at.holds.slots slot live owner p
             at.follows;
         agrees = held_agrees Stands owners core new kept at.holds.slots slot live owner p at.agrees;
-        private = kept.private slot not_zero live owner (line_in p.bytes) at.follows.whose
+        private = kept.private slot not_zero live owner (line_of_bytes p.bytes) at.follows.whose
             at.private;
       }
 
@@ -347,23 +347,23 @@ module _ (Stands : StandsFor) (owners : List Owner) (v : Versions) (law : Versio
     start_line : (new : CoreState) (place : ℕ) → At new owner p
         → IsOf (way_at new.ways place) slot ((session_of base slot).pc / 32)
         → (session_of base slot).pc / 32 < 2 ^ 15
-        → (way_at new.ways place).bytes ≡ line_in p.bytes ((session_of base slot).pc / 32)
+        → (way_at new.ways place).bytes ≡ line_of_bytes p.bytes ((session_of base slot).pc / 32)
     start_line new place at its low =
         (at.private.lines ((session_of base slot).pc / 32) low).cached place its
 
     word_same : (new : CoreState) (place : ℕ) → At new owner p → (pc : ℕ)
         → (session_of base slot).pc ≡ pc
-        → (way_at new.ways place).bytes ≡ line_in p.bytes ((session_of base slot).pc / 32)
+        → (way_at new.ways place).bytes ≡ line_of_bytes p.bytes ((session_of base slot).pc / 32)
         → (session_of base slot).pc % 4 ≡ 0
-        → word_in (way_at new.ways place).bytes pc ≡ word_at p.bytes p.pc
+        → word_in (way_at new.ways place).bytes pc ≡ word_at_address p.bytes p.pc
     word_same new place at pc same bytes_are whole =
         let here = (session_of base slot).pc in
         ap (λ b. word_in b pc) bytes_are
-        ∙ ap (λ a. word_in (line_in p.bytes (here / 32)) a) (sym same)
+        ∙ ap (λ a. word_in (line_of_bytes p.bytes (here / 32)) a) (sym same)
         ∙ word-in_line p.bytes here
-        ∙ ap (λ a. word_at p.bytes a) (let whole_pc : here - here % 4 ≡ here = omega arith in
+        ∙ ap (λ a. word_at_address p.bytes a) (let whole_pc : here - here % 4 ≡ here = omega arith in
         whole_pc)
-        ∙ ap (λ a. word_at p.bytes a) pc_is
+        ∙ ap (λ a. word_at_address p.bytes a) pc_is
 
     code_holds : (result : CoreState × Reach)
         → Comes Stands owners base slot ((session_of base slot).pc / 32) result.0 result.1
@@ -382,21 +382,21 @@ module _ (Stands : StandsFor) (owners : List Owner) (v : Versions) (law : Versio
         let low = code-low (session_of base slot).pc code in
         let bytes_are = (start_line new place at comes.came.1 low.1) in
         let word = word_in (way_at new.ways place).bytes pc in
-        let word_is : word ≡ word_at p.bytes p.pc = word_same new place at pc same_pc bytes_are
+        let word_is : word ≡ word_at_address p.bytes p.pc = word_same new place at pc same_pc bytes_are
         low.0 in
-        let found : instruction_in p.bytes p.pc ≡ instruction_or_fault (read word) =
+        let found : instruction_in p.bytes p.pc ≡ instruction_or_fault (instruction_of_word word) =
         fetched-word p.bytes p.pc (subst (λ a. is_code a ≡ true) pc_is code)
-        ∙ ap (λ w. instruction_or_fault (read w)) (sym word_is) in
-        let fits : (ins : Ins) → instruction_or_fault (read word) ≡ Ok ins → Fits ins =
+        ∙ ap (λ w. instruction_or_fault (instruction_of_word w)) (sym word_is) in
+        let fits : (ins : Ins) → instruction_or_fault (instruction_of_word word) ≡ Ok ins → Fits ins =
         word-Fits word in
         ran_holds new owner p at (subst (λ m. OwnersTell m owners) (sym comes.kept.machine) tell)
         (sealings ∙ ap (λ m. sealed_by m owners) (sym comes.kept.machine))
         (word_tried v new slot word)
         (ap (λ f. effect_at (seen_of_cell p.cells) p.kept f p.pc p.npc) found
         ∙ comes_same Stands owners v law new slot some known_slot at.runs at.holds owner p
-        at.follows at.agrees at.private (instruction_or_fault (read word)) fits)
+        at.follows at.agrees at.private (instruction_or_fault (instruction_of_word word)) fits)
         (λ effect is. tried-Ranged (seen_by slot new.cells) (session_of new slot).saved
-        (instruction_or_fault (read word)) pc (session_of new slot).npc effect fits is)
+        (instruction_or_fault (instruction_of_word word)) pc (session_of new slot).npc effect fits is)
         honest
 
   -- an event of the running guest
@@ -495,15 +495,15 @@ module _ (Stands : StandsFor) (owners : List Owner) (v : Versions) (law : Versio
       let bytes_are = (at.private.lines ((session_of base slot).pc / 32) low.1).cached place
       comes.came.1 in
       let word = word_in (way_at new.ways place).bytes pc in
-      let word_is : word ≡ word_at p.bytes p.pc = word_same base owner p start tell sealings code
+      let word_is : word ≡ word_at_address p.bytes p.pc = word_same base owner p start tell sealings code
       new place at pc same_pc bytes_are low.0 in
-      let found : instruction_in p.bytes p.pc ≡ instruction_or_fault (read word) =
+      let found : instruction_in p.bytes p.pc ≡ instruction_or_fault (instruction_of_word word) =
       fetched-word p.bytes p.pc (subst (λ a. is_code a ≡ true) pc_is code)
-      ∙ ap (λ w. instruction_or_fault (read w)) (sym word_is) in
+      ∙ ap (λ w. instruction_or_fault (instruction_of_word w)) (sym word_is) in
       ran_fault new p start.agrees.over (word_tried v new slot word) fault
       (ap (λ f. effect_at (seen_of_cell p.cells) p.kept f p.pc p.npc) found
       ∙ comes_same Stands owners v law new slot some known_slot at.runs at.holds owner p at.follows
-      at.agrees at.private (instruction_or_fault (read word)) (word-Fits word))
+      at.agrees at.private (instruction_or_fault (instruction_of_word word)) (word-Fits word))
       is
 
   no_code_fault : (p : State) → p.over ≡ false → (pc : ℕ) → pc ≡ p.pc → is_code pc ≡ false

@@ -13,16 +13,16 @@ use Rattle.xom_base.specs.declared.entry.Entry.{Entry}
 use Rattle.xom_base.specs.declared.entry.Entry.TheVariants as entry
 use Rattle.xom_base.specs.declared.key.ImageId.{ImageId}
 use Rattle.xom_seal.specs.declared.envelope.Unwrapped.{Unwrapped}
-use Rattle.xom_seal.specs.Envelopes.{contents_of, unwrapped}
+use Rattle.xom_seal.specs.Envelopes.{contents_of, envelope_contents}
 use Rattle.xom_seal.specs.Messages.{envelope_message, register_message}
 use Rattle.xom_owners.specs.declared.owner.Owner.{Owner}
 use Rattle.xom_owners.specs.Owners.{owner_of}
-use Rattle.image_sealer.specs.Sealing.{contents_of as its_contents, line_count}
+use Rattle.image_sealer.specs.Sealing.{contents_for_owner as its_contents, line_count}
 use Rattle.mips_plain.specs.declared.cell.PlainCell.TheVariants.{Lent}
 use Rattle.mips_plain.specs.Machine.{start}
 use Rattle.session_table.specs.declared.session.Session.{Session}
 use Rattle.session_table.specs.declared.session.SlotState.TheVariants as state
-use Rattle.session_table.specs.Sessions.{free, fresh, is_live}
+use Rattle.session_table.specs.Sessions.{free, fresh_session, is_live}
 use Rattle.image_sealer.specs.Membership.{is_sealed, is_sealing}
 use Rattle.journal_findings.specs.Findings.{sealed_by}
 use Rattle.xom_model.specs.Honest.{Sealing, seals_of}
@@ -33,8 +33,8 @@ use Rattle.line_cache.specs.Ways.{way_at}
 use Rattle.xom_model.specs.State.{CoreState, no_store, session_of, store_of}
 use Rattle.xom_model.specs.Lines.{Who, is_image_at, line_seals, names_line, names_version, version_of_line, who_in, who_of}
 use Rattle.xom_model.specs.Saves.{IsOnce, SealsHold}
-use Rattle.xom_model.specs.Operation.{after_install, envelope_at}
-use Rattle.xom_model.specs.Holds.{Agrees, Behind, FollowsAlone, Holds, IsHeld, IsInstalled, IsLive, IsOf, IsRunning, LineHolds, Private, Shape, line_in, own_bit, AreasFit}
+use Rattle.xom_model.specs.Operation.{after_install, envelope_in_ram}
+use Rattle.xom_model.specs.Holds.{Agrees, AreasFit, Behind, FollowsAlone, Holds, IsHeld, IsInstalled, IsLive, IsOf, IsRunning, LineHolds, Private, Shape, line_of_bytes, own_bit}
 use Rattle.xom_model.proofs.Places.{IsInstalled-more}
 use Rattle.xom_model.proofs.Growth.{IsTrusted, goes_hashes, seals_hashes}
 use Rattle.xom_model.proofs.Frame.{FollowsAlone-same, IsAlone-same, Agrees-same}
@@ -76,11 +76,11 @@ module _ (Stands : StandsFor) (owners : List Owner) (v : Versions) (law : Versio
     (slot place area : ℕ) (plain : Unwrapped) (some : 1 ≤ slot) (known : slot ≤ 16)
     (none : (other : ℕ) → ¬ IsRunning core other)
     (is_free : (session_of core slot).state ≡ state.Free)
-    (opens : unwrapped core.machine (envelope_at core place) ≡ Some plain)
+    (opens : envelope_contents core.machine (envelope_in_ram core place) ≡ Some plain)
     (held : HoldsRange core.ram area area_size) (texts : List (List ℕ)) (ram : List ℕ)
     (size : length ram ≡ length core.ram)
     (honest : IsTrusted (sealed_by core.machine owners)
-    ((core.entries ++ entry.Accept core.machine.0 (envelope_message (envelope_at core place))
+    ((core.entries ++ entry.Accept core.machine.0 (envelope_message (envelope_in_ram core place))
     place ∷ entry.Install (core.installs + 1) slot plain.id place plain.entry plain.lines ∷ [])
     ++ map hash_entry texts))
     (texts_are : v.texts_of_build area plain.lines core.ram ≡ texts) where
@@ -88,7 +88,7 @@ module _ (Stands : StandsFor) (owners : List Owner) (v : Versions) (law : Versio
   n = core.installs + 1
 
   abbrev accept : Entry
-  accept = entry.Accept core.machine.0 (envelope_message (envelope_at core place)) place
+  accept = entry.Accept core.machine.0 (envelope_message (envelope_in_ram core place)) place
 
   abbrev install : Entry
   install = entry.Install n slot plain.id place plain.entry plain.lines
@@ -100,7 +100,7 @@ module _ (Stands : StandsFor) (owners : List Owner) (v : Versions) (law : Versio
   entries = two ++ map hash_entry texts
 
   abbrev session : Session
-  session = fresh n plain.id plain.key plain.entry plain.lines
+  session = fresh_session n plain.id plain.key plain.entry plain.lines
 
   abbrev store : Store
   store = v.store_after_build area plain.lines core.ram
@@ -119,27 +119,27 @@ module _ (Stands : StandsFor) (owners : List Owner) (v : Versions) (law : Versio
 
   -- ---- Whose it is
 
-  was : is_sealed core.machine.0 (envelope_message (envelope_at core place))
+  was : is_sealed core.machine.0 (envelope_message (envelope_in_ram core place))
       (sealed_by core.machine owners ++ seals_of core.entries) ≡ true
   was =
       honest.honest.forgery core.entries (install ∷ map hash_entry texts) core.machine.0
-      (envelope_message (envelope_at core place)) place
+      (envelope_message (envelope_in_ram core place)) place
       (append_assoc core.entries (accept ∷ install ∷ []) (map hash_entry texts))
 
   whose : (owner : Owner) × (owner_of owners owner.id ≡ Some owner)
-      × (contents_of core.machine (envelope_at core place) ≡ its_contents owner)
+      × (contents_of core.machine (envelope_in_ram core place) ≡ its_contents owner)
       × (length owner.id.0 ≡ 16)
-  whose = tell.envelope (envelope_at core place)
-      (left_of _ _ (shape.no_envelope core.machine.0 (envelope_at core place))
+  whose = tell.envelope (envelope_in_ram core place)
+      (left_of _ _ (shape.no_envelope core.machine.0 (envelope_in_ram core place))
       (sym (list_any-append
-      (is_sealing core.machine.0 (envelope_message (envelope_at core place)))
+      (is_sealing core.machine.0 (envelope_message (envelope_in_ram core place)))
       (sealed_by core.machine owners) (seals_of core.entries)) ∙ was))
 
   abbrev owner : Owner
   owner = whose.0
 
   plain_is : plain ≡ its_contents owner
-  plain_is = sym (unwrapped_contents core.machine (envelope_at core place) plain opens) ∙ whose.2
+  plain_is = sym (unwrapped_contents core.machine (envelope_in_ram core place) plain opens) ∙ whose.2
 
   few_lines : plain.lines ≤ 2 ^ 15
   few_lines =
@@ -307,7 +307,7 @@ module _ (Stands : StandsFor) (owners : List Owner) (v : Versions) (law : Versio
   lines_are = ap (λ p. p.lines) plain_is
 
   abbrev memory : ℕ → List ℕ
-  memory = line_in (start owner.plain).bytes
+  memory = line_of_bytes (start owner.plain).bytes
 
   begins : (line : ℕ) → line < 2 ^ 15
       → Behind owner who line (start_version plain.lines line) (seals_of core.entries) (memory line)
@@ -421,7 +421,7 @@ module _ (Stands : StandsFor) (owners : List Owner) (v : Versions) (law : Versio
           subst (λ (s : Session). Agrees s core.cells entries k h.0 h.1) (sym same)
               (Agrees-same (session_of core k) core.cells core.cells core.entries entries k h.0 h.1
               (λ reg from to tag. refl) (steps_same (session_of core k).install) h.3),
-          private_other k differs.1 h.0 (line_in h.1.bytes) h.4,
+          private_other k differs.1 h.0 (line_of_bytes h.1.bytes) h.4,
           saves_carry core out refl k same
               (λ key name ct. ap (is_sealed key (register_message name ct)) seals_same) h.1 h.5,
         )
@@ -545,7 +545,7 @@ pub install_keeps : (Stands : StandsFor) (owners : List Owner) (v : Versions) �
     → (slot place area : ℕ) (plain : Unwrapped) → 1 ≤ slot → slot ≤ 16
     → ((other : ℕ) → ¬ IsRunning core other) → (session_of core slot).state ≡ state.Free
     → HoldsRange core.ram area area_size
-    → unwrapped core.machine (envelope_at core place) ≡ Some plain
+    → envelope_contents core.machine (envelope_in_ram core place) ≡ Some plain
     → IsTrusted (sealed_by core.machine owners) (after_install v core slot place area plain).entries
     → Holds Stands owners (after_install v core slot place area plain)
 unfolding after_install

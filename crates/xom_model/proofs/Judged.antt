@@ -11,7 +11,7 @@ use Rattle.std.proofs.lemmas.Bool.{and_left, and_right, cases_lt}
 use Rattle.line_cache.proofs.Search.{none_passes, position_none}
 use Rattle.xom_base.specs.declared.entry.Entry.{Entry}
 use Rattle.xom_base.specs.declared.entry.Entry.TheVariants as entry
-use Rattle.journal_findings.specs.Findings.{collides, collision, collision_at, first_found, forged, forgery_at}
+use Rattle.journal_findings.specs.Findings.{collides, collision_at, first_collision, first_forgery, first_found, forgery_at}
 use Rattle.image_sealer.specs.Membership.{is_sealed}
 use Rattle.xom_versions.specs.Store.{NoCollision}
 use Rattle.xom_model.specs.Honest.{NoForgery, Sealing, seals_of}
@@ -51,7 +51,7 @@ sealed_so : (b : Bool) (n : ℕ) → cond b None (Some n) ≡ None → b ≡ tru
 sealed_so true n is = refl
 sealed_so false n is = absurd (cc)
 
-pub no_forgery_found : (sealed : List Sealing) (entries : List Entry) → forged sealed entries ≡ None
+pub no_forgery_found : (sealed : List Sealing) (entries : List Entry) → first_forgery sealed entries ≡ None
     → NoForgery sealed entries
 no_forgery_found sealed entries none before behind key message place is =
     sealed_so (is_sealed key message (sealed ++ seals_of before)) (length before + 1)
@@ -73,7 +73,7 @@ no_forgery_at sealed entries b (entry.Kill install) behind none is = refl
 no_forgery_at sealed entries b (entry.Out byte) behind none is = refl
 
 pub none_forged : (sealed : List Sealing) (entries : List Entry) → NoForgery sealed entries
-    → forged sealed entries ≡ None
+    → first_forgery sealed entries ≡ None
 none_forged sealed entries none =
     nothing_there (forgery_at sealed) [] entries
     (λ b e behind is. no_forgery_at sealed entries b e behind none is)
@@ -114,7 +114,7 @@ one_entry : (text other digest : List ℕ) → entry.Hash text digest ≡ entry.
     → text ≡ other
 one_entry text other digest is = cc
 
-module _ (entries : List Entry) (none : collision entries ≡ None) where
+module _ (entries : List Entry) (none : first_collision entries ≡ None) where
   -- of two hashes of one digest the later one has the earlier one's text
   earlier : (i j : ℕ) (text other digest : List ℕ) → i < j → j < length entries
       → get_or entries i (entry.Hash text digest) ≡ entry.Hash text digest
@@ -187,7 +187,7 @@ module _ (entries : List Entry) (none : NoCollision entries) where
   no_collision_at b (entry.Kill install) behind is = refl
   no_collision_at b (entry.Out byte) behind is = refl
 
-  pub none_collides : collision entries ≡ None
+  pub none_collides : first_collision entries ≡ None
   none_collides = nothing_there collision_at [] entries no_collision_at
 
 -- ---- Both

@@ -23,7 +23,7 @@ use Rattle.xom_model.specs.Versions.{StandsFor}
 use Rattle.xom_model.specs.State.{CoreState, session_of, store_of}
 use Rattle.xom_model.specs.Lines.{line_seals, version_of_line, who_of}
 use Rattle.xom_model.specs.Saves.{SavesAgree}
-use Rattle.xom_model.specs.Holds.{Agrees, FollowsAlone, Holds, IsHeld, IsInstalled, IsLive, IsRunning, LineHolds, line_in, Private, Shape, SlotsHold}
+use Rattle.xom_model.specs.Holds.{Agrees, FollowsAlone, Holds, IsHeld, IsInstalled, IsLive, IsRunning, LineHolds, Private, Shape, SlotsHold, line_of_bytes}
 use Rattle.xom_model.specs.Kept.{Kept}
 use Rattle.xom_model.proofs.Growth.{Goes, goes_none, goes_on}
 use Rattle.xom_model.proofs.RamSize.{areas_stay, frames_stay}
@@ -271,7 +271,7 @@ module _ (Stands : StandsFor) (owners : List Owner) where
           held.1,
           held_follows slot live held.0 held.1 held.2,
           held_agrees slot live held.0 held.1 held.3,
-          kept.private slot (not_null slot before) live held.0 (line_in held.1.bytes) held.2.whose
+          kept.private slot (not_null slot before) live held.0 (line_of_bytes held.1.bytes) held.2.whose
               held.4,
           held_saves slot live held.1 held.5,
         )

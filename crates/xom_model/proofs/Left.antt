@@ -4,13 +4,13 @@ use Rattle.std.proofs.lemmas.List.{get_or-map, length-map}
 use Rattle.std.proofs.lemmas.Bool.Decides.{eqb_tells}
 use Rattle.std.specs.Int.{bit_at}
 use Rattle.tag_regs.specs.declared.cell.Cell.{Cell}
-use Rattle.tag_regs.specs.TaggedCells.{cell_at, empty, scrubbed, scrubbed_cell}
+use Rattle.tag_regs.specs.TaggedCells.{cell_at, cells_after_scrub, empty_cell, scrubbed_cell}
 use Rattle.xom_model.specs.State.{CoreState, session_of}
 use Rattle.xom_model.specs.Holds.{IsRunning, RunningHolds}
 
 pub cell-scrubbed : (slot : ℕ) (cells : List Cell) (reg : ℕ) → reg < length cells
-    → cell_at (scrubbed slot cells) reg ≡ scrubbed_cell slot (cell_at cells reg)
-cell-scrubbed slot cells reg within = get_or-map (scrubbed_cell slot) cells reg empty empty within
+    → cell_at (cells_after_scrub slot cells) reg ≡ scrubbed_cell slot (cell_at cells reg)
+cell-scrubbed slot cells reg within = get_or-map (scrubbed_cell slot) cells reg empty_cell empty_cell within
 
 -- a scrubbed cell doesn't have the slot's tag
 pub scrubbed_cell-tag : (slot : ℕ) (cell : Cell) → slot ≢ 0 → (scrubbed_cell slot cell).tag ≢ slot
@@ -20,7 +20,7 @@ scrubbed_cell-tag slot cell some = elim (eqb_tells cell.tag slot) [
 ]
 
 pub scrubbed-tag : (slot : ℕ) (cells : List Cell) (reg : ℕ) → slot ≢ 0 → reg < length cells
-    → (cell_at (scrubbed slot cells) reg).tag ≢ slot
+    → (cell_at (cells_after_scrub slot cells) reg).tag ≢ slot
 scrubbed-tag slot cells reg some within tag =
     scrubbed_cell-tag slot (cell_at cells reg) some
     (ap (λ c. c.tag) (sym (cell-scrubbed slot cells reg within)) ∙ tag)
@@ -34,14 +34,14 @@ scrubbed_cell-tagged slot cell = elim (eqb_tells cell.tag slot) [
 ]
 
 pub scrubbed-tagged : (slot : ℕ) (cells : List Cell) (reg : ℕ) → reg < length cells
-    → (cell_at (scrubbed slot cells) reg).tag ≢ 0
-    → cell_at (scrubbed slot cells) reg ≡ cell_at cells reg
+    → (cell_at (cells_after_scrub slot cells) reg).tag ≢ 0
+    → cell_at (cells_after_scrub slot cells) reg ≡ cell_at cells reg
 scrubbed-tagged slot cells reg within some =
     let here = cell-scrubbed slot cells reg within in
     here ∙ scrubbed_cell-tagged slot (cell_at cells reg)
     (λ none. some (ap (λ c. c.tag) here ∙ none))
 
-pub length-scrubbed : (slot : ℕ) (cells : List Cell) → length (scrubbed slot cells) ≡ length cells
+pub length-scrubbed : (slot : ℕ) (cells : List Cell) → length (cells_after_scrub slot cells) ≡ length cells
 length-scrubbed slot cells = length-map cells (scrubbed_cell slot)
 
 -- where no slot but this one can run, and its cells are tagged if it does

@@ -4,9 +4,9 @@ use Rattle.std.proofs.Common.{◌≡◌, ◌≢◌, inl, inr, ℕ, ◌+◌, ◌-
 use Rattle.std.proofs.lemmas.List.{drop-append-le, drop-drop, drop-take, length-append, length-drop, length-take, length-take-le, take-append-le, take-take}
 use Rattle.std.proofs.Math.Seq.{drop-append-add, take-append-add}
 use Rattle.std.specs.Int.{w32, from_be_bytes}
-use Rattle.mips_plain.specs.Memory.{word_at, written_at}
+use Rattle.mips_plain.specs.Memory.{word_at_address, written_at}
 use Rattle.xom_model.specs.Guest.{word_in}
-use Rattle.xom_model.specs.Holds.{line_in}
+use Rattle.xom_model.specs.Holds.{line_of_bytes}
 use Rattle.xom_model.proofs.Gone.{less}
 
 -- four bytes of a line are four of the whole
@@ -21,7 +21,7 @@ inside xs m k fits =
 
 -- the word that holds an address, read from the line that holds it
 pub word-in_line : (bytes : List ℕ) (address : ℕ)
-    → word_in (line_in bytes (address / 32)) address ≡ word_at bytes (address - address % 4)
+    → word_in (line_of_bytes bytes (address / 32)) address ≡ word_at_address bytes (address - address % 4)
 word-in_line bytes address =
     ap (λ l. from_be_bytes w32 l) (inside bytes (32 * (address / 32)) ((address - address % 4) % 32)
     (omega arith)
@@ -92,12 +92,12 @@ module _ (xs part : List ℕ) (a : ℕ) (room : a + length part ≤ length xs) w
 
   -- the line of a store that stays within its line
   pub line-stored : a % 32 + p ≤ 32
-      → line_in (written_at xs a part) (a / 32) ≡ written_at (line_in xs (a / 32)) (a % 32) part
+      → line_of_bytes (written_at xs a part) (a / 32) ≡ written_at (line_of_bytes xs (a / 32)) (a % 32) part
   line-stored fits = own (32 * (a / 32)) (a % 32) (omega arith) fits
 
   -- and every other line
   pub line-other : (line : ℕ) → a % 32 + p ≤ 32 → line ≢ a / 32
-      → line_in (written_at xs a part) line ≡ line_in xs line
+      → line_of_bytes (written_at xs a part) line ≡ line_of_bytes xs line
   line-other line fits differs = elim (less line (a / 32)) [
     | inl low ↦ before (32 * line) (omega arith)
     | inr high ↦ behind (32 * line) (omega arith)

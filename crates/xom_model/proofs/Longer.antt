@@ -10,10 +10,10 @@ use Rattle.xom_model.specs.declared.reach.Reach.TheVariants as reach
 use Rattle.xom_versions.specs.declared.store.Torn.{Torn}
 use Rattle.xom_versions.specs.Versions.{Versions}
 use Rattle.line_cache.specs.declared.way.Way.{Way}
-use Rattle.line_cache.specs.Ways.{found, way_at, place_for}
+use Rattle.line_cache.specs.Ways.{place_for, place_of_line, way_at}
 use Rattle.page_map.specs.Pages.{frame_of}
 use Rattle.xom_model.specs.State.{CoreState, core_with_hashes, page_of, session_of, store_of, with_entry}
-use Rattle.xom_model.specs.Lines.{accept_entry, ct_place, keys_of, name_of, sealed_at, who_of}
+use Rattle.xom_model.specs.Lines.{accept_entry, ct_place, keys_of, line_name_of, sealed_at, who_of}
 use Rattle.xom_seal.specs.Sealing.{unsealed_line}
 use Rattle.xom_base.specs.declared.event.Cause.{Cause}
 use Rattle.xom_base.specs.declared.event.Cause.TheVariants as cause
@@ -110,7 +110,7 @@ module _ (v : Versions) where
       (λ _. longer_placed core slot line (replicate 32 0))
       (λ _. longer_opened core slot line version (ct_place frame line)
       (sealed_at core.ram frame line).ct
-      (unsealed_line (name_of (who_of core slot) line version)
+      (unsealed_line (line_name_of (who_of core slot) line version)
       (keys_of (who_of core slot) line version) (sealed_at core.ram frame line)))
 
   longer_looked : (core : CoreState) (slot line frame : ℕ) (at : Option ℕ)
@@ -125,7 +125,7 @@ module _ (v : Versions) where
       → Longer core.entries (reach_in_frame v core slot line frame).0.entries
   longer_mapped core slot line None = longer_none core.entries
   longer_mapped core slot line (Some frame) =
-      longer_looked core slot line frame (found core.ways slot line)
+      longer_looked core slot line frame (place_of_line core.ways slot line)
 
   pub longer_access : (core : CoreState) (slot line : ℕ)
       → Longer core.entries (access v core slot line).0.entries
@@ -221,6 +221,6 @@ module _ (v : Versions) where
   unfolding after_flush
   longer_flushed slot zero line core = longer_none core.entries
   longer_flushed slot (suc count) line core =
-      then_longer core.entries (taken_out v core (found core.ways slot line))
-      (after_flush v slot count (line + 1)) (longer_taken core (found core.ways slot line))
+      then_longer core.entries (taken_out v core (place_of_line core.ways slot line))
+      (after_flush v slot count (line + 1)) (longer_taken core (place_of_line core.ways slot line))
       (λ c. longer_flushed slot count (line + 1) c)

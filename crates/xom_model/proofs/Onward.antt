@@ -20,25 +20,25 @@ use Rattle.xom_base.specs.declared.event.Rule.TheVariants as rule
 use Rattle.xom_base.specs.declared.step.StepEnd.{StepEnd}
 use Rattle.xom_base.specs.declared.step.StepEnd.TheVariants as ended
 use Rattle.xom_seal.specs.declared.envelope.Unwrapped.{Unwrapped}
-use Rattle.xom_seal.specs.Envelopes.{unwrapped}
+use Rattle.xom_seal.specs.Envelopes.{envelope_contents}
 use Rattle.xom_seal.specs.Sealing.{unsealed_line, unsealed_register}
 use Rattle.mips_effect.specs.declared.effects.Effect.{Effect}
 use Rattle.mips_plain.specs.Instruction.{is_code, step_made}
 use Rattle.session_table.specs.declared.session.SlotState.{SlotState}
 use Rattle.session_table.specs.declared.session.SlotState.TheVariants as state
-use Rattle.session_table.specs.Sessions.{resumed}
+use Rattle.session_table.specs.Sessions.{session_after_resume}
 use Rattle.xom_model.specs.declared.reach.Reach.{Reach}
 use Rattle.xom_model.specs.declared.reach.Reach.TheVariants as reach
 use Rattle.xom_versions.specs.Versions.{Versions}
 use Rattle.line_cache.specs.declared.way.Way.{Way}
-use Rattle.line_cache.specs.Ways.{found, way_at, place_for}
+use Rattle.line_cache.specs.Ways.{place_for, place_of_line, way_at}
 use Rattle.page_map.specs.Pages.{frame_of}
-use Rattle.xom_model.specs.State.{CoreState, Record, core_with_hashes, page_of, session_of, store_of, with_entry, with_session}
-use Rattle.xom_model.specs.Lines.{accept_entry, ct_place, keys_of, name_of, sealed_at, who_of}
+use Rattle.xom_model.specs.State.{CoreState, Record, core_with_hashes, core_with_session, page_of, session_of, store_of, with_entry}
+use Rattle.xom_model.specs.Lines.{accept_entry, ct_place, keys_of, line_name_of, sealed_at, who_of}
 use Rattle.xom_model.specs.Saves.{reg_keys, reg_name, saved_at}
 use Rattle.xom_model.specs.Access.{access, after_eviction, after_flush, after_leaving, after_opening, after_raise, after_seal, after_stop, after_victim, and_then, brought, cleared_at, or_stopped, reach_after_placing, reach_after_victim, reach_by_cache, reach_in_frame, read_from, sealed_by_raise, taken_out, with_pointers, without_guest}
 use Rattle.xom_model.specs.Guest.{address_in, after_delivery, after_effect, after_retirement, after_step, after_trap, code_reached, data_of, data_reached, guest, received_by, retirement, word_in, word_loaded, word_tried}
-use Rattle.xom_model.specs.Operation.{after_install, after_reopening, after_restore, after_save, after_unmap, enter, envelope_at, epoch_of, first_refusal_or, go_on, image_tests, install_tests, is_cell, is_slot, kill_tests, map_tests, missing_cell, operation, restore_tests, resume, save_tests, slot_takes_signal, unmap_tests, unwrap, with_signal}
+use Rattle.xom_model.specs.Operation.{after_install, after_reopening, after_restore, after_save, after_unmap, enter, envelope_in_ram, epoch_of, first_refusal_or, image_tests, install_tests, is_cell, is_slot, kill_tests, map_tests, missing_cell, operation, restore_tests, resume, resume_or_stop, save_tests, slot_takes_signal, unmap_tests, unwrap, with_signal}
 use Rattle.xom_model.specs.Null.{Answer, null_step}
 use Rattle.xom_model.specs.Event.{guest_turn, null_asked, null_turn, on, open_in, ran_on, running_slot, told_in}
 
@@ -144,7 +144,7 @@ module _ (v : Versions) where
       (λ _. onward_placed core slot line (replicate 32 0))
       (λ _. onward_opened core slot line version (ct_place frame line)
       (sealed_at core.ram frame line).ct
-      (unsealed_line (name_of (who_of core slot) line version)
+      (unsealed_line (line_name_of (who_of core slot) line version)
       (keys_of (who_of core slot) line version) (sealed_at core.ram frame line)))
 
   onward_looked : (core : CoreState) (slot line frame : ℕ) (at : Option ℕ)
@@ -160,7 +160,7 @@ module _ (v : Versions) where
       → Onward core (reach_in_frame v core slot line frame).0
   onward_mapped core slot line None = onward_none core
   onward_mapped core slot line (Some frame) =
-      onward_looked core slot line frame (found core.ways slot line)
+      onward_looked core slot line frame (place_of_line core.ways slot line)
 
   onward_access : (core : CoreState) (slot line : ℕ) → Onward core (access v core slot line).0
   unfolding access
@@ -264,9 +264,9 @@ onward_signal core now slot signal far =
     (record { more = (_, refl); machine = refl }))
 
 onward_go_on : (core : CoreState) (slot signal : ℕ) (lost : Option ℕ)
-    → Onward core (go_on core slot signal lost).0
+    → Onward core (resume_or_stop core slot signal lost).0
 onward_go_on core slot signal None =
-    onward_signal core (with_session core slot (resumed (session_of core slot))) slot signal
+    onward_signal core (core_with_session core slot (session_after_resume (session_of core slot))) slot signal
     (record { more = ([], sym (append-nil core.entries)); machine = refl })
 onward_go_on core slot signal (Some reg) = onward_stopped core slot (rule.RegisterMissing reg)
 
@@ -276,7 +276,7 @@ onward_resume core slot signal state.Free = onward_none core
 onward_resume core slot signal state.Fresh = onward_none core
 onward_resume core slot signal state.Running = onward_none core
 onward_resume core slot signal state.Paused =
-    let goes = go_on core slot signal (missing_cell slot (session_of core slot).mask core.cells) in
+    let goes = resume_or_stop core slot signal (missing_cell slot (session_of core slot).mask core.cells) in
     onward_if core (nat_le signal 63) (cond (slot_takes_signal (session_of core slot) signal) goes
     (core, 2)) (core, 7)
     (onward_if core (slot_takes_signal (session_of core slot) signal) goes (core, 2)
@@ -295,8 +295,8 @@ onward_restored : (core : CoreState) (slot reg address value : ℕ)
 unfolding after_restore
 onward_restored core slot reg address value = record { more = (_, refl); machine = refl }
 
-onward_reopened : (core : CoreState) (slot reg address : ℕ) (found : Option ℕ)
-    → Onward core (after_reopening core slot reg address found).0
+onward_reopened : (core : CoreState) (slot reg address : ℕ) (place_of_line : Option ℕ)
+    → Onward core (after_reopening core slot reg address place_of_line).0
 onward_reopened core slot reg address None = onward_stopped core slot (rule.RegisterTag reg)
 onward_reopened core slot reg address (Some value) = onward_restored core slot reg address value
 
@@ -307,8 +307,8 @@ module _ (v : Versions) where
   onward_installed core slot place area plain =
       record { more = (_, append_assoc core.entries _ _); machine = refl }
 
-  onward_unwrap : (core : CoreState) (slot place area : ℕ) (found : Option Unwrapped)
-      → Onward core (unwrap v core slot place area found).0
+  onward_unwrap : (core : CoreState) (slot place area : ℕ) (place_of_line : Option Unwrapped)
+      → Onward core (unwrap v core slot place area place_of_line).0
   onward_unwrap core slot place area None = onward_none core
   onward_unwrap core slot place area (Some plain) =
       onward_tested core (image_tests core plain) _ (onward_installed core slot place area plain)
@@ -334,8 +334,8 @@ module _ (v : Versions) where
   unfolding after_flush
   onward_flushed slot zero line core = onward_none core
   onward_flushed slot (suc count) line core =
-      onward_then core (taken_out v core (found core.ways slot line))
-      (after_flush v slot count (line + 1)) (onward_taken core (found core.ways slot line))
+      onward_then core (taken_out v core (place_of_line core.ways slot line))
+      (after_flush v slot count (line + 1)) (onward_taken core (place_of_line core.ways slot line))
       (λ c. onward_flushed slot count (line + 1) c)
 
   onward_unmapped : (core : CoreState) (slot page : ℕ) (result : CoreState × Option Rule)
@@ -356,7 +356,7 @@ module _ (v : Versions) where
   onward_operation core Halt = onward_none core
   onward_operation core (Install slot place area) =
       onward_tested core (install_tests core slot place area) _ (onward_unwrap core slot place area
-      (unwrapped core.machine (envelope_at core place)))
+      (envelope_contents core.machine (envelope_in_ram core place)))
   onward_operation core (Save slot reg address) =
       onward_tested core (save_tests core slot reg address) _ (onward_saved core slot reg address)
   onward_operation core (Restore slot reg address) =

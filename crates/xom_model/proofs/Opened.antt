@@ -10,11 +10,11 @@ use Rattle.xom_owners.specs.declared.owner.Owner.{Owner}
 use Rattle.mips_effect.specs.declared.effects.Effect.{Effect}
 use Rattle.mips_effect.specs.declared.wish.Wish.{Wish}
 use Rattle.mips_effect.specs.declared.wish.Wish.TheVariants as wish
-use Rattle.mips_effect.specs.Effects.{set as set_register}
+use Rattle.mips_effect.specs.Effects.{write_of_register as set_register}
 use Rattle.mips_plain.specs.Memory.{low_bytes}
 use Rattle.tag_regs.specs.declared.cell.Cell.{Cell}
-use Rattle.xom_model.specs.State.{holds, CoreState}
-use Rattle.xom_model.specs.Null.{Answer, Open, Told, answer_of, done_answer, fetched_open, loaded_open, null_step, open_after, ran_open, seen_open, stopped_by, stored_open, tried_open, wish_answer, with_null_writes}
+use Rattle.xom_model.specs.State.{CoreState, ram_holds_range}
+use Rattle.xom_model.specs.Null.{Answer, Open, Told, done_answer, fetched_open, loaded_open, null_answer, null_step, open_after, ran_open, seen_open, stopped_by, stored_open, tried_open, wish_answer, with_null_writes}
 use Rattle.xom_versions.specs.Versions.{VersionLaw, Versions}
 use Rattle.xom_model.specs.Versions.{StandsFor}
 use Rattle.xom_model.specs.Holds.{Holds, IsRunning}
@@ -32,19 +32,19 @@ opens_granted : (told : Told) (s : Open) (effect : Effect) (wished : Wish)
     → Opens s.cells (wish_answer told s effect wished).0.cells
 opens_granted told s effect wish.Nothing = (effect.writes, refl)
 opens_granted told s effect (wish.Load reg address how old) =
-    cond_both (holds s.ram (address - address % 4) 4)
+    cond_both (ram_holds_range s.ram (address - address % 4) 4)
     (done_answer (open_after s effect (set_register reg (loaded_open s.ram how old address))))
     (stopped_by s null.Address) (λ (a : Answer). Opens s.cells a.0.cells)
     (λ _. (set_register reg (loaded_open s.ram how old address), refl)) (λ _. opens_none s.cells)
 opens_granted told s effect (wish.Store address count value) =
-    cond_both (holds s.ram address count)
+    cond_both (ram_holds_range s.ram address count)
     (done_answer (stored_open (open_after s effect effect.writes) address
     (low_bytes count value))) (stopped_by s null.Address)
     (λ (a : Answer). Opens s.cells a.0.cells)
     (λ _. (effect.writes, refl)) (λ _. opens_none s.cells)
 opens_granted told s effect (wish.Call code) = opens_none s.cells
 opens_granted told s effect (wish.Do operation) = (effect.writes, refl)
-opens_granted told s effect (wish.Ask reg what) = (set_register reg (answer_of told what), refl)
+opens_granted told s effect (wish.Ask reg what) = (set_register reg (null_answer told what), refl)
 opens_granted told s effect (wish.Release reg value) = opens_none s.cells
 opens_granted told s effect (wish.Receive reg from) = opens_none s.cells
 opens_granted told s effect (wish.NullLoad reg address) = opens_none s.cells

@@ -13,7 +13,7 @@ use Rattle.xom_seal.specs.declared.line.SealedLine.{SealedLine}
 use Rattle.xom_seal.specs.declared.names.LineName.{LineName}
 use Rattle.xom_seal.specs.declared.names.LineName.TheVariants.{Image, Run}
 use Rattle.xom_seal.specs.Keys.{image_keys, run_keys}
-use Rattle.xom_seal.specs.Messages.{envelope_message, line_message, names_run_line, version_in}
+use Rattle.xom_seal.specs.Messages.{envelope_message, line_message, names_run_line, version_of_message}
 use Rattle.xom_seal.specs.Sealing.{line_masked, line_tag, unsealed_line}
 use Rattle.xom_seal.proofs.MessageLaws.{line_messages_tell}
 use Rattle.xom_seal.proofs.NamingLaws.{run_lines_are_told}
@@ -21,11 +21,11 @@ use Rattle.xom_seal.proofs.SealLaws.{lets_through, lines_open}
 use Rattle.xom_owners.specs.declared.owner.Owner.{Owner}
 use Rattle.xom_owners.specs.Owners.{owner_of}
 use Rattle.xom_seal.specs.Envelopes.{contents_of}
-use Rattle.image_sealer.specs.Sealing.{contents_of as its_contents, line_of}
+use Rattle.image_sealer.specs.Sealing.{contents_for_owner as its_contents, line_of_image}
 use Rattle.image_sealer.specs.Membership.{is_sealed, is_sealing}
 use Rattle.journal_findings.specs.Findings.{sealed_by}
 use Rattle.xom_model.specs.Honest.{Sealing}
-use Rattle.xom_model.specs.Lines.{Who, is_image_at, keys_of, name_of, names_version, run_name, run_pair}
+use Rattle.xom_model.specs.Lines.{Who, is_image_at, keys_of, line_name_of, names_version, run_name, run_pair}
 use Rattle.xom_model.specs.Holds.{Behind}
 
 -- What the owners sealed: no run line, the envelope of an owner, and an image line with the
@@ -36,7 +36,7 @@ pub record OwnersTell (machine : Key256) (owners : List Owner) : Type 0 where
       → is_sealed key (line_message (Image id line) ct) (sealed_by machine owners) ≡ true
       → (owner : Owner) × (owner_of owners id ≡ Some owner) × (owner.id ≡ id) × (key ≡ owner.key.0)
       × (ct ≡ line_masked (Image owner.id line) (image_keys owner.key owner.id)
-      (line_of owner.plain.bytes line))
+      (line_of_image owner.plain.bytes line))
   pub envelope : (envelope : List ℕ)
       → is_sealed machine.0 (envelope_message envelope) (sealed_by machine owners) ≡ true
       → (owner : Owner) × (owner_of owners owner.id ≡ Some owner)
@@ -128,7 +128,7 @@ module _ (machine : Key256) (owners : List Owner) (tell : OwnersTell machine own
 
     told : (its : Owner) × (owner_of owners who.id ≡ Some its) × (its.id ≡ who.id)
         × (who.key.0 ≡ its.key.0) × (ct ≡ line_masked (Image its.id line) (image_keys its.key its.id)
-        (line_of its.plain.bytes line))
+        (line_of_image its.plain.bytes line))
     told = tell.image who.key.0 who.id line ct ids low by_owner
 
     its_owner : told.0 ≡ owner
@@ -138,11 +138,11 @@ module _ (machine : Key256) (owners : List Owner) (tell : OwnersTell machine own
     its_ct =
         told.4
         ∙ ap (λ id. line_masked (Image id line) (image_keys told.0.key id)
-        (line_of told.0.plain.bytes line)) told.2
+        (line_of_image told.0.plain.bytes line)) told.2
         ∙ ap (λ key. line_masked (Image who.id line) (image_keys key who.id)
-        (line_of told.0.plain.bytes line)) (sym (key_same who.key told.0.key told.3))
+        (line_of_image told.0.plain.bytes line)) (sym (key_same who.key told.0.key told.3))
         ∙ ap (λ (o : Owner). line_masked (Image who.id line) (image_keys who.key who.id)
-        (line_of o.plain.bytes line)) its_owner
+        (line_of_image o.plain.bytes line)) its_owner
         ∙ ap (line_masked (Image who.id line) (image_keys who.key who.id))
         (sym (behind.owners image))
 
@@ -174,7 +174,7 @@ module _ (machine : Key256) (owners : List Owner) (tell : OwnersTell machine own
           eq-eqb who.install who.install refl,
           eq-eqb line line refl,
         )
-        (eq-eqb (version_in (line_message name ct)) version (run_lines_are_told.version who.boot
+        (eq-eqb (version_of_message (line_message name ct)) version (run_lines_are_told.version who.boot
         who.install line version ct version_low))
 
     weaker : (s : Sealing) → is_sealing keys.tag.0 (line_message name ct) s ≡ true
@@ -182,7 +182,7 @@ module _ (machine : Key256) (owners : List Owner) (tell : OwnersTell machine own
     weaker s is =
         let same : line_message name ct ≡ s.1 = (bytes_eq-Decides (line_message name ct) s.1).0
         (both_true _ _ is).1 in
-        subst (λ m. (names_run_line who.install line m && (version_in m == version)) ≡ true) same
+        subst (λ m. (names_run_line who.install line m && (version_of_message m == version)) ≡ true) same
         names_it
 
     among : list_any (is_sealing keys.tag.0 (line_message name ct)) (run_pair who line version plain
@@ -210,8 +210,8 @@ module _ (machine : Key256) (owners : List Owner) (tell : OwnersTell machine own
 
   -- either way
   pub opens_plain : is_sealed (keys_of who line version).tag.0
-      (line_message (name_of who line version) ct) (sealed_by machine owners ++ seals) ≡ true
-      → line_masked (name_of who line version) (keys_of who line version) ct ≡ plain
+      (line_message (line_name_of who line version) ct) (sealed_by machine owners ++ seals) ≡ true
+      → line_masked (line_name_of who line version) (keys_of who line version) ct ≡ plain
   opens_plain = elim (is_image_at who line version) as (λ b. is_image_at who line version ≡ b
       → is_sealed (cond b (image_keys who.key who.id) keys).tag.0
       (line_message (cond b (Image who.id line) name) ct) (sealed_by machine owners ++ seals)

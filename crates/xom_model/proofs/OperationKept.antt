@@ -11,20 +11,20 @@ use Rattle.xom_base.specs.declared.event.Op.TheVariants.{Install, Enter, Resume,
 use Rattle.xom_base.specs.declared.event.Rule.{Rule}
 use Rattle.xom_base.specs.declared.event.Rule.TheVariants as rule
 use Rattle.xom_seal.specs.declared.envelope.Unwrapped.{Unwrapped}
-use Rattle.xom_seal.specs.Envelopes.{unwrapped}
+use Rattle.xom_seal.specs.Envelopes.{envelope_contents}
 use Rattle.xom_owners.specs.declared.owner.Owner.{Owner}
 use Rattle.mips_plain.specs.Instruction.{is_signal, is_signal_ready}
 use Rattle.tag_regs.specs.declared.cell.Cell.{Cell}
-use Rattle.tag_regs.specs.TaggedCells.{cell_at, empty}
+use Rattle.tag_regs.specs.TaggedCells.{cell_at, empty_cell}
 use Rattle.session_table.specs.declared.session.Session.{Session}
 use Rattle.session_table.specs.declared.session.SlotState.{SlotState}
 use Rattle.session_table.specs.declared.session.SlotState.TheVariants as state
-use Rattle.session_table.specs.Sessions.{free, is_live, resumed}
+use Rattle.session_table.specs.Sessions.{free, is_live, session_after_resume}
 use Rattle.journal_findings.specs.Findings.{sealed_by}
 use Rattle.xom_model.specs.Honest.{Sealing}
 use Rattle.xom_versions.specs.Versions.{VersionLaw, Versions}
 use Rattle.xom_model.specs.Versions.{StandsFor}
-use Rattle.xom_model.specs.State.{CoreState, holds as fits_ram, session_of, with_entry, with_session}
+use Rattle.xom_model.specs.State.{CoreState, core_with_session, ram_holds_range as fits_ram, session_of, with_entry}
 use Rattle.xom_model.specs.Access.{after_flush}
 use Rattle.xom_model.specs.Guest.{after_delivery}
 use Rattle.xom_seal.specs.Sealing.{unsealed_register}
@@ -32,8 +32,8 @@ use Rattle.xom_model.specs.Lines.{who_of}
 use Rattle.xom_model.specs.Saves.{reg_keys, reg_name, reg_seal_entry, saved_at, sealed_reg}
 use Rattle.xom_seal.proofs.SealLaws.{length-register_masked}
 use Rattle.xom_model.proofs.RamSize.{length-register_tag, length-with_saved}
-use Rattle.xom_model.specs.Operation.{after_install, after_reopening, after_restore, after_save, after_unmap, can_come_back, enter, envelope_at, envelope_size, epoch_of, first_refusal_or, go_on, image_tests, install, install_tests, is_bad_slot, is_cell, is_free_state, is_missing, is_own_cell, is_paused, is_slot, kill, kill_tests, map_page, map_tests, missing_cell, missing_from, operation, refusal_of, register_tests, restore_register, restore_tests, resume, resume_paused, save_register, save_tests, set_register, slot_takes_signal, unmap_page, unmap_tests, unwrap}
-use Rattle.xom_model.specs.Holds.{Holds, IsHeld, IsLive, IsRunning, line_in}
+use Rattle.xom_model.specs.Operation.{after_install, after_reopening, after_restore, after_save, after_unmap, can_come_back, enter, envelope_in_ram, envelope_size, epoch_of, first_refusal_or, image_tests, install, install_tests, is_bad_slot, is_cell, is_free_state, is_missing, is_own_cell, is_paused, is_slot, kill, kill_tests, map_page, map_tests, missing_cell, missing_from, operation, refusal_of, register_tests, restore_register, restore_tests, resume, resume_or_stop, resume_paused, save_register, save_tests, set_register, slot_takes_signal, unmap_page, unmap_tests, unwrap}
+use Rattle.xom_model.specs.Holds.{Holds, IsHeld, IsLive, IsRunning, line_of_bytes}
 use Rattle.xom_model.proofs.InstallKept.{install_keeps}
 use Rattle.xom_model.proofs.Growth.{IsTrusted, goes_entry, goes_none, seals_none, honest_before}
 use Rattle.xom_model.proofs.RestoreKept.{restored_out}
@@ -97,10 +97,10 @@ module _ (Stands : StandsFor) (owners : List Owner) (v : Versions) (law : Versio
       → cell_at cleared.cells r ≡ cell_at core.cells r
   tag_kept r to some = elim (eqb_tells r reg) [
     | inl is ↦ absurd (some
-        (rw is.1 (ap (λ c. c.tag) (get_or-set_same core.cells reg opened empty
+        (rw is.1 (ap (λ c. c.tag) (get_or-set_same core.cells reg opened empty_cell
         (let places : length core.cells ≡ 34 = holds.slots.cell_places in let same : r ≡ reg =
         is.1 in omega arith)))))
-    | inr differs ↦ get_or-set_other core.cells reg r opened empty differs.1
+    | inr differs ↦ get_or-set_other core.cells reg r opened empty_cell differs.1
   ]
 
   live_some : (slot : ℕ) → IsLive core slot → slot ≢ 0
@@ -117,7 +117,7 @@ module _ (Stands : StandsFor) (owners : List Owner) (v : Versions) (law : Versio
             held.0 held.1 (λ r from to tag. tag_kept r to
             (λ null. live_some slot live (sym tag ∙ null))) refl held.3,
         aside_private Stands owners v law core cleared.cells core.pointers core.ram core.entries
-            (goes_none core.entries).more refl slot held.0 (line_in held.1.bytes) held.4,
+            (goes_none core.entries).more refl slot held.0 (line_of_bytes held.1.bytes) held.4,
         held.5,
       )
 
@@ -166,13 +166,13 @@ module _ (Stands : StandsFor) (owners : List Owner) (v : Versions) (law : Versio
       → (session_of core slot).state ≡ state.Paused
       → slot_takes_signal (session_of core slot) signal ≡ true → nat_le signal 63 ≡ true
       → (lost : Option ℕ) → missing_cell slot (session_of core slot).mask core.cells ≡ lost
-      → Holds Stands owners (go_on core slot signal lost).0
+      → Holds Stands owners (resume_or_stop core slot signal lost).0
   go_on_holds slot signal some known is fit small None whole =
-      let now = with_session core slot (resumed (session_of core slot)) in
+      let now = core_with_session core slot (session_after_resume (session_of core slot)) in
       let first : Holds Stands owners now = resumed_holds Stands owners v law core slot
       (some_slot slot some) known holds none is (λ reg from to bit. missing-none slot
       (session_of core slot).mask core.cells reg whole from to bit) in
-      let here : session_of now slot ≡ resumed (session_of core slot) =
+      let here : session_of now slot ≡ session_after_resume (session_of core slot) =
       get_or-set_same core.sessions slot _ free (let places : length core.sessions ≡ 17 =
       holds.slots.session_places in omega arith) in
       let runs : IsRunning now slot = ap (λ s. s.state) here in
@@ -204,10 +204,10 @@ module _ (Stands : StandsFor) (owners : List Owner) (v : Versions) (law : Versio
       → Holds Stands owners (resume_paused core slot signal).0
   resume_paused_holds slot signal some known is =
       cond_both (nat_le signal 63) (cond (slot_takes_signal (session_of core slot) signal)
-      (go_on core slot signal (missing_cell slot (session_of core slot).mask core.cells))
+      (resume_or_stop core slot signal (missing_cell slot (session_of core slot).mask core.cells))
       (core, 2)) (core, 7) (λ (a : CoreState × ℕ). Holds Stands owners a.0)
       (λ small. cond_both (slot_takes_signal (session_of core slot) signal)
-      (go_on core slot signal (missing_cell slot (session_of core slot).mask core.cells))
+      (resume_or_stop core slot signal (missing_cell slot (session_of core slot).mask core.cells))
       (core, 2) (λ (a : CoreState × ℕ). Holds Stands owners a.0)
       (λ fit. go_on_holds slot signal some known is fit small _ refl) (λ _. holds))
       (λ _. holds)
@@ -371,7 +371,7 @@ module _ (Stands : StandsFor) (owners : List Owner) (v : Versions) (law : Versio
         tested_holds_if (install_tests core slot place area) _ honest
         (λ (p : Passes (install_tests core slot place area)) good.
         unwrap_holds (slot_from slot p.0) (free_of (session_of core slot).state p.1.0)
-        (area_from p.1.1.0) (unwrapped core.machine (envelope_at core place)) refl good)
+        (area_from p.1.1.0) (envelope_contents core.machine (envelope_in_ram core place)) refl good)
       where
         area_from : not (fits_ram core.ram place envelope_size && fits_ram core.ram area area_size)
             ≡ false
@@ -383,7 +383,7 @@ module _ (Stands : StandsFor) (owners : List Owner) (v : Versions) (law : Versio
 
         unwrap_holds : (1 ≤ slot) × (slot ≤ 16) → (session_of core slot).state ≡ state.Free
             → HoldsRange core.ram area area_size → (found : Option Unwrapped)
-            → unwrapped core.machine (envelope_at core place) ≡ found
+            → envelope_contents core.machine (envelope_in_ram core place) ≡ found
             → IsTrusted sealed (unwrap v core slot place area found).0.entries
             → Holds Stands owners (unwrap v core slot place area found).0
         unwrap_holds slots is_free room None is good = holds

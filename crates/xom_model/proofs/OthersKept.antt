@@ -16,7 +16,7 @@ use Rattle.xom_seal.specs.declared.envelope.Unwrapped.{Unwrapped}
 use Rattle.xom_seal.specs.declared.names.RegName.{RegName}
 use Rattle.xom_seal.specs.Messages.{envelope_message, register_message}
 use Rattle.session_table.specs.declared.session.Session.{Session}
-use Rattle.session_table.specs.Sessions.{entered, free, resumed}
+use Rattle.session_table.specs.Sessions.{free, session_after_enter, session_after_resume}
 use Rattle.journal_findings.specs.Findings.{seal_in}
 use Rattle.xom_versions.specs.declared.store.Torn.{Torn}
 use Rattle.xom_model.specs.Honest.{Sealing, seals_of}
@@ -25,11 +25,11 @@ use Rattle.xom_versions.specs.Store.{hash_entry}
 use Rattle.line_cache.specs.declared.way.Way.{Way}
 use Rattle.page_map.specs.Pages.{frame_of, no_pages, with_page}
 use Rattle.line_cache.specs.Ways.{free_if, free_way, way_at, without_slot}
-use Rattle.xom_model.specs.State.{CoreState, no_store, session_of, store_of, with_entry, with_session, with_way}
+use Rattle.xom_model.specs.State.{CoreState, core_with_session, core_with_way, no_store, session_of, store_of, with_entry}
 use Rattle.xom_model.specs.Lines.{keys_of, message_as, seal_entry, sealed_as, who_of}
 use Rattle.xom_model.specs.Access.{after_raise, after_seal, after_stop, without_guest}
 use Rattle.xom_model.specs.Guest.{after_exit, after_trap, core_after_step, stored_at}
-use Rattle.xom_model.specs.Operation.{after_install, after_kill, envelope_at, is_free_state}
+use Rattle.xom_model.specs.Operation.{after_install, after_kill, envelope_in_ram, is_free_state}
 use Rattle.xom_model.specs.Holds.{IsLive}
 use Rattle.xom_model.specs.Named.{install_seals, is_its, names_install}
 use Rattle.xom_model.specs.Stops.{IsTaken, StopsHold}
@@ -194,7 +194,7 @@ module _ (v : Versions) (slot k : ℕ) (some : k ≢ 0) (apart : k ≢ slot) whe
 
     module _ (version : ℕ) (way : Way) (may : MayCome slot core way) where
       abbrev sealed_core : CoreState
-      sealed_core = with_way (written_back v core victim version) place way
+      sealed_core = core_with_way (written_back v core victim version) place way
 
       sealed_ways : sealed_core.ways ≡ set core.ways place way
       unfolding after_seal after_raise
@@ -323,9 +323,9 @@ module _ (v : Versions) (slot k : ℕ) (some : k ≢ 0) (apart : k ≢ slot) whe
       (λ page. refl)
       (seals_none core.entries (entry.Step (session_of core slot).install step) refl)
 
-  turn_aside : (core : CoreState) (s : Session) → StaysAside core (with_session core slot s) k
+  turn_aside : (core : CoreState) (s : Session) → StaysAside core (core_with_session core slot s) k
   turn_aside core s =
-      left_quietly core (with_session core slot s) (λ place is. refl)
+      left_quietly core (core_with_session core slot s) (λ place is. refl)
       (session_other core slot s apart) refl (λ page. refl) refl
 
   trap_aside : (core : CoreState) (why : Cause) → StaysAside core (after_trap core slot why).0 k
@@ -345,7 +345,7 @@ module _ (v : Versions) (slot k : ℕ) (some : k ≢ 0) (apart : k ≢ slot) whe
       → StaysAside core (after_install v core slot place area plain) k
   unfolding after_install
   install_aside core place area plain =
-      let two = entry.Accept core.machine.0 (envelope_message (envelope_at core place)) place
+      let two = entry.Accept core.machine.0 (envelope_message (envelope_in_ram core place)) place
       ∷ entry.Install (core.installs + 1) slot plain.id place plain.entry plain.lines ∷ [] in
       left_quietly core (after_install v core slot place area plain) (λ at is. refl)
       (session_other core slot _ apart) (get_or-set_other core.stores slot k _ no_store apart)
@@ -450,9 +450,9 @@ module _ (v : Versions) (slot k : ℕ) (some : k ≢ 0) (apart : k ≢ slot) whe
         sets_ram = λ core ram. leaves core _ (d.sets_ram core ram)
             (left_quietly core _ (λ place is. refl) refl refl (λ page. refl) refl);
         enters = λ core is. leaves core _ (d.enters core is)
-            (turn_aside core (entered (session_of core slot)));
+            (turn_aside core (session_after_enter (session_of core slot)));
         resumes = λ core is. leaves core _ (d.resumes core is)
-            (turn_aside core (resumed (session_of core slot)));
+            (turn_aside core (session_after_resume (session_of core slot)));
         maps = λ core page frame may. leaves core _ (d.maps core page frame may)
             (page_aside core page frame);
         kills = λ core from to taken. leaves core _ (d.kills core from to taken) (kill_aside core);

@@ -15,14 +15,14 @@ use Rattle.xom_seal.specs.Messages.{envelope_message, line_message, register_mes
 use Rattle.xom_seal.specs.Sealing.{line_masked}
 use Rattle.xom_seal.proofs.MessageLaws.{envelope_messages_tell, kinds_differ, line_messages_tell}
 use Rattle.xom_seal.specs.declared.envelope.Unwrapped.{Unwrapped}
-use Rattle.xom_seal.specs.Envelopes.{contents_of, envelope_tag, key_masked, tag_in, unwrapped, wrapped}
+use Rattle.xom_seal.specs.Envelopes.{contents_of, envelope_contents, envelope_tag, key_masked, tag_in, wrapped_key_of}
 use Rattle.xom_seal.specs.Laws.{IsUnwrapped}
 use Rattle.xom_seal.proofs.EnvelopeLaws.{envelopes_open}
 use Rattle.std.specs.Int.{w32, from_be_bytes}
 use Rattle.std.proofs.lemmas.List.{drop-take, take-take}
 use Rattle.xom_owners.specs.declared.owner.Owner.{Owner}
 use Rattle.xom_owners.specs.Owners.{owner_of}
-use Rattle.image_sealer.specs.Sealing.{contents_of as its_contents, envelope_of, line_count, line_of, line_sealing_of, sealed_line_of, sealing_of}
+use Rattle.image_sealer.specs.Sealing.{contents_for_owner as its_contents, envelope_of, line_count, line_of_image, line_sealing_of, sealed_line_of, sealing_of}
 use Rattle.image_sealer.specs.Membership.{is_sealed, is_sealing}
 use Rattle.journal_findings.specs.Findings.{sealed_by}
 use Rattle.xom_model.specs.Honest.{Sealing}
@@ -145,15 +145,15 @@ unwrapped_is true found plain is = cc
 unwrapped_is false found plain is = absurd (cc)
 
 pub unwrapped_contents : (machine : Key256) (envelope : List ℕ) (plain : Unwrapped)
-    → unwrapped machine envelope ≡ Some plain → contents_of machine envelope ≡ plain
+    → envelope_contents machine envelope ≡ Some plain → contents_of machine envelope ≡ plain
 unwrapped_contents machine envelope plain is =
     unwrapped_is (bytes_eq (tag_in envelope) (envelope_tag machine envelope))
     (contents_of machine envelope) plain is
 
 wrapped_contents : (machine : Key256) (plain : Unwrapped) → IsUnwrapped plain
-    → contents_of machine (wrapped machine plain) ≡ plain
+    → contents_of machine (wrapped_key_of machine plain) ≡ plain
 wrapped_contents machine plain whole =
-    unwrapped_contents machine (wrapped machine plain) plain (envelopes_open machine plain whole)
+    unwrapped_contents machine (wrapped_key_of machine plain) plain (envelopes_open machine plain whole)
 
 -- no owner seals a register
 pub no_register : (machine : Key256) (owners : List Owner) (key : List ℕ) (name : RegName)
@@ -184,7 +184,7 @@ module _ (machine : Key256) (owners : List Owner) (are : AreOwners owners) where
       → is_sealed key (line_message (Image id line) ct) (sealed_by machine owners) ≡ true
       → (owner : Owner) × (owner_of owners id ≡ Some owner) × (owner.id ≡ id) × (key ≡ owner.key.0)
       × (ct ≡ line_masked (Image owner.id line) (image_keys owner.key owner.id)
-      (line_of owner.plain.bytes line))
+      (line_of_image owner.plain.bytes line))
   unfolding sealed_line_of
   image_one key id line ct size low is =
       let p = is_sealing key (line_message (Image id line) ct) in
@@ -216,7 +216,7 @@ module _ (machine : Key256) (owners : List Owner) (are : AreOwners owners) where
               sym id_is,
               key_is,
               told.1 ∙ ap (λ n. line_masked (Image owner.id n) (image_keys owner.key owner.id)
-                  (line_of owner.plain.bytes n)) (sym line_is),
+                  (line_of_image owner.plain.bytes n)) (sym line_is),
             )
       ]
 

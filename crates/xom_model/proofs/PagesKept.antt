@@ -9,9 +9,9 @@ use Rattle.session_table.specs.Sessions.{is_live}
 use Rattle.xom_model.specs.Honest.{Sealing}
 use Rattle.xom_versions.specs.Versions.{VersionLaw, Versions}
 use Rattle.xom_model.specs.Versions.{StandsFor}
-use Rattle.line_cache.specs.Ways.{found, free_way, way_at}
+use Rattle.line_cache.specs.Ways.{free_way, place_of_line, way_at}
 use Rattle.page_map.specs.Pages.{frame_of, no_pages, pages_at, with_page}
-use Rattle.xom_model.specs.State.{CoreState, page_of, with_way}
+use Rattle.xom_model.specs.State.{CoreState, core_with_way, page_of}
 use Rattle.xom_model.specs.Access.{after_eviction, after_flush, and_then, cleared_at, taken_out}
 use Rattle.xom_model.specs.Operation.{after_unmap}
 use Rattle.xom_model.specs.Holds.{IsLive, IsOf, Shape}
@@ -181,11 +181,11 @@ module _ (Stands : StandsFor) (owners : List Owner) (v : Versions) (law : Versio
         let within : place < length mid.ways = (let a : length mid.ways ≡ length core.ways =
         clear.places in let b : length core.ways ≡ 128 = sound.shape.way_places in omega arith) in
         let here = get_or-set_same mid.ways place free_way free_way within in
-        let old : (at : ℕ) → (way_at (with_way mid place free_way).ways at).slot ≢ 0 → (at ≢ place)
-        × (way_at (with_way mid place free_way).ways at ≡ way_at core.ways at) =
+        let old : (at : ℕ) → (way_at (core_with_way mid place free_way).ways at).slot ≢ 0 → (at ≢ place)
+        × (way_at (core_with_way mid place free_way).ways at ≡ way_at core.ways at) =
         λ at filled. elim (eqb_tells at place) [
           | inl same ↦ absurd (filled
-              (ap (λ w. w.slot) (subst (λ j. way_at (with_way mid place free_way).ways j ≡ free_way)
+              (ap (λ w. w.slot) (subst (λ j. way_at (core_with_way mid place free_way).ways j ≡ free_way)
               (sym same.1) here)))
           | inr differs ↦
               let stays = get_or-set_other mid.ways place at free_way free_way differs.1 in
@@ -216,7 +216,7 @@ module _ (Stands : StandsFor) (owners : List Owner) (v : Versions) (law : Versio
     taken_entries place (mid, None) = refl
     taken_entries place (mid, Some why) = refl
 
-    one_line : (at : Option ℕ) → found core.ways slot line ≡ at
+    one_line : (at : Option ℕ) → place_of_line core.ways slot line ≡ at
         → IsTrusted sealed (taken_out v core at).0.entries → One (taken_out v core at)
     one_line None is honest = record {
       kept = kept_none Stands owners core;
@@ -285,10 +285,10 @@ module _ (Stands : StandsFor) (owners : List Owner) (v : Versions) (law : Versio
     empty = λ _ at own from to its. absurd (omega arith);
   }
   flushes (suc count) line core sound honest =
-      let first = taken_out v core (found core.ways slot line) in
+      let first = taken_out v core (place_of_line core.ways slot line) in
       let rest = after_flush v slot count (line + 1) in
       let more = and_then_longer first rest (λ c. longer_flushed v slot count (line + 1) c) in
-      let one = one_line core sound line (found core.ways slot line) refl
+      let one = one_line core sound line (place_of_line core.ways slot line) refl
       (honest_before first.0.entries more.0 sealed (subst (λ es. IsTrusted sealed es) more.1
       honest)) in
       then_flushes core line count first rest one

@@ -21,20 +21,20 @@ use Rattle.mips_plain.specs.Instruction.{is_code, step_made}
 use Rattle.session_table.specs.declared.session.Session.{Session}
 use Rattle.session_table.specs.declared.session.SlotState.{SlotState}
 use Rattle.session_table.specs.declared.session.SlotState.TheVariants as state
-use Rattle.session_table.specs.Sessions.{free, is_live, left, paused, entered, resumed}
+use Rattle.session_table.specs.Sessions.{free, is_live, session_after_enter, session_after_leaving, session_after_pause, session_after_resume}
 use Rattle.xom_versions.specs.declared.store.Torn.{Torn}
 use Rattle.xom_model.specs.declared.reach.Reach.{Reach}
 use Rattle.xom_model.specs.declared.reach.Reach.TheVariants as reach
 use Rattle.xom_versions.specs.Versions.{Versions}
 use Rattle.line_cache.specs.declared.way.Way.{Way}
-use Rattle.line_cache.specs.Ways.{found, way_at, place_for}
+use Rattle.line_cache.specs.Ways.{place_for, place_of_line, way_at}
 use Rattle.page_map.specs.Pages.{frame_of, no_pages}
-use Rattle.xom_model.specs.State.{CoreState, core_with_hashes, page_of, session_of, store_of, with_cells, with_entry, with_session}
-use Rattle.xom_model.specs.Lines.{accept_entry, ct_place, keys_of, name_of, sealed_at, who_of}
+use Rattle.xom_model.specs.State.{CoreState, core_with_hashes, core_with_session, page_of, session_of, store_of, with_cells, with_entry}
+use Rattle.xom_model.specs.Lines.{accept_entry, ct_place, keys_of, line_name_of, sealed_at, who_of}
 use Rattle.xom_model.specs.Guest.{address_in, after_delivery, after_effect, after_exit, after_retirement, after_step, after_trap, code_reached, data_of, data_reached, guest, received_by, retirement, session_after_signal, session_after_step, word_in, word_loaded, word_tried}
 use Rattle.xom_model.specs.Access.{access, after_eviction, after_flush, after_leaving, after_opening, after_raise, after_seal, after_stop, after_victim, and_then, brought, cleared_at, or_stopped, reach_after_placing, reach_after_victim, reach_by_cache, reach_in_frame, read_from, sealed_by_raise, taken_out, with_pointers, without_guest}
 use Rattle.xom_model.specs.declared.reach.Reach.TheVariants as reach
-use Rattle.xom_model.specs.Operation.{after_kill, after_reopening, after_restore, after_save, enter, epoch_of, first_refusal_or, go_on, is_cell, is_slot, kill_tests, missing_cell, operation, reopening, restore_tests, resume, save_tests, slot_takes_signal}
+use Rattle.xom_model.specs.Operation.{after_kill, after_reopening, after_restore, after_save, enter, epoch_of, first_refusal_or, is_cell, is_slot, kill_tests, missing_cell, operation, reopening, restore_tests, resume, resume_or_stop, save_tests, slot_takes_signal}
 use Rattle.xom_model.specs.Saves.{reg_keys, reg_name, saved_at}
 use Rattle.xom_model.specs.Holds.{IsLive}
 use Rattle.xom_model.specs.PageMaps.{GuestsKeepPages, OperationsKeepPages, PagesStay}
@@ -85,7 +85,7 @@ stay_gone : (core : CoreState) (slot : ℕ) (final : SlotState) → is_live fina
     → PagesStay core (after_leaving core slot final)
 unfolding without_guest
 stay_gone core slot final dead =
-    stay_changed core slot (left (session_of core slot) final) _
+    stay_changed core slot (session_after_leaving (session_of core slot) final) _
     (λ k differs page. pages-other core.pages slot k page differs) (λ live. absurd (cc))
 
 pub stay_stopped : (core : CoreState) (slot : ℕ) (why : Rule)
@@ -228,7 +228,7 @@ module _ (v : Versions) where
       (λ _. stay_placed core slot line (replicate 32 0))
       (λ _. stay_opened core slot line version (ct_place frame line)
       (sealed_at core.ram frame line).ct
-      (unsealed_line (name_of (who_of core slot) line version)
+      (unsealed_line (line_name_of (who_of core slot) line version)
       (keys_of (who_of core slot) line version) (sealed_at core.ram frame line)))
 
   stay_looked : (core : CoreState) (slot line frame : ℕ) (at : Option ℕ)
@@ -242,7 +242,7 @@ module _ (v : Versions) where
       → Arrives core slot (reach_in_frame v core slot line frame)
   stay_mapped core slot line None = (stay_none core, refl)
   stay_mapped core slot line (Some frame) =
-      stay_looked core slot line frame (found core.ways slot line)
+      stay_looked core slot line frame (place_of_line core.ways slot line)
 
   pub stay_access : (core : CoreState) (slot line : ℕ) → Arrives core slot (access v core slot line)
   unfolding access
@@ -260,7 +260,7 @@ module _ (slot : ℕ) (interrupt : Bool) where
 
   stay_trapped : (core : CoreState) (why : Cause) → IsLive core slot
       → PagesStay core (after_trap core slot why).0
-  stay_trapped core why live = stay_session core (paused (session_of core slot)) (λ _. live)
+  stay_trapped core why live = stay_session core (session_after_pause (session_of core slot)) (λ _. live)
 
   stay_finished : (core : CoreState) → PagesStay core (after_exit core slot).0
   stay_finished core = stay_gone core slot state.Ended refl
@@ -373,8 +373,8 @@ module _ (v : Versions) where
   unfolding after_flush
   stay_flushed slot zero line core = stay_none core
   stay_flushed slot (suc count) line core =
-      stay_then core (taken_out v core (found core.ways slot line))
-      (after_flush v slot count (line + 1)) (stay_taken core (found core.ways slot line))
+      stay_then core (taken_out v core (place_of_line core.ways slot line))
+      (after_flush v slot count (line + 1)) (stay_taken core (place_of_line core.ways slot line))
       (λ c. stay_flushed slot count (line + 1) c)
 
 -- ---- Operations that map and unmap no page
@@ -401,7 +401,7 @@ stay_enter : (core : CoreState) (slot : ℕ) (at : SlotState) → (session_of co
     → PagesStay core (enter core slot at).0
 stay_enter core slot state.Free is = stay_none core
 stay_enter core slot state.Fresh is =
-    stay_live core slot (entered (session_of core slot)) (rw is refl)
+    stay_live core slot (session_after_enter (session_of core slot)) (rw is refl)
 stay_enter core slot state.Running is = stay_none core
 stay_enter core slot state.Paused is = stay_none core
 stay_enter core slot state.Ended is = stay_none core
@@ -414,10 +414,10 @@ stay_delivered core slot signal =
     (λ k differs page. refl) (λ live. (live, λ page. refl))
 
 stay_go_on : (core : CoreState) (slot signal : ℕ) (lost : Option ℕ) → IsLive core slot
-    → PagesStay core (go_on core slot signal lost).0
+    → PagesStay core (resume_or_stop core slot signal lost).0
 stay_go_on core slot signal None live =
-    let now = with_session core slot (resumed (session_of core slot)) in
-    let first = stay_live core slot (resumed (session_of core slot)) live in
+    let now = core_with_session core slot (session_after_resume (session_of core slot)) in
+    let first = stay_live core slot (session_after_resume (session_of core slot)) live in
     cond_both (signal == 0) now (after_delivery now slot signal) (PagesStay core) (λ _. first)
     (λ _. stay_on core now (after_delivery now slot signal) first
     (stay_delivered now slot signal))
@@ -429,7 +429,7 @@ stay_resume core slot signal state.Free is = stay_none core
 stay_resume core slot signal state.Fresh is = stay_none core
 stay_resume core slot signal state.Running is = stay_none core
 stay_resume core slot signal state.Paused is =
-    let goes = go_on core slot signal (missing_cell slot (session_of core slot).mask core.cells) in
+    let goes = resume_or_stop core slot signal (missing_cell slot (session_of core slot).mask core.cells) in
     stay_if core (nat_le signal 63) (cond (slot_takes_signal (session_of core slot) signal) goes
     (core, 2)) (core, 7)
     (stay_if core (slot_takes_signal (session_of core slot) signal) goes (core, 2)
@@ -444,8 +444,8 @@ stay_saved : (core : CoreState) (slot reg address : ℕ)
 unfolding after_save
 stay_saved core slot reg address = stay_none core
 
-stay_reopened : (core : CoreState) (slot reg address : ℕ) (found : Option ℕ)
-    → PagesStay core (after_reopening core slot reg address found).0
+stay_reopened : (core : CoreState) (slot reg address : ℕ) (place_of_line : Option ℕ)
+    → PagesStay core (after_reopening core slot reg address place_of_line).0
 unfolding after_restore
 stay_reopened core slot reg address None = stay_stopped core slot (rule.RegisterTag reg)
 stay_reopened core slot reg address (Some value) = stay_none core

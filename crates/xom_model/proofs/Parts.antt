@@ -18,7 +18,7 @@ use Rattle.line_cache.specs.Ways.{free_way, way_at}
 use Rattle.xom_model.specs.State.{CoreState, page_of, session_of, store_of}
 use Rattle.xom_model.specs.Lines.{Who, version_of_line, who_in, who_of}
 use Rattle.xom_model.specs.Guest.{stored_at, stored_way}
-use Rattle.xom_model.specs.Holds.{IsLive, IsOf, LineHolds, Private, Shape, line_in}
+use Rattle.xom_model.specs.Holds.{IsLive, IsOf, LineHolds, Private, Shape, line_of_bytes}
 use Rattle.xom_model.proofs.Gone.{lines_alike}
 use Rattle.xom_model.proofs.LineBytes.{length-written, line-other, line-stored}
 
@@ -268,7 +268,7 @@ stored_other Stands core slot place some (stored.Bytes address count value) at s
     owner memory holds
 
 -- a memory whose lines have their size is long enough
-line_room : (bytes : List ℕ) (line : ℕ) → length (line_in bytes line) ≡ 32
+line_room : (bytes : List ℕ) (line : ℕ) → length (line_of_bytes bytes line) ≡ 32
     → 32 * line + 32 ≤ length bytes
 line_room bytes line size =
     let a = length-take 32 (drop (32 * line) bytes) in let b = length-drop (32 * line) bytes in
@@ -276,8 +276,8 @@ line_room bytes line size =
 
 pub stored_own : (Stands : StandsFor) (core : CoreState) (slot place : ℕ) → slot ≢ 0
     → (kept : Stored) → StoresAt core slot place kept → Shape core
-    → (owner : Owner) (bytes : List ℕ) → Private Stands core slot owner (line_in bytes)
-    → Private Stands (with_stored core place kept) slot owner (line_in (stored_in bytes kept))
+    → (owner : Owner) (bytes : List ℕ) → Private Stands core slot owner (line_of_bytes bytes)
+    → Private Stands (with_stored core place kept) slot owner (line_of_bytes (stored_in bytes kept))
 stored_own Stands core slot place some stored.Nothing at shape owner bytes holds = holds
 stored_own Stands core slot place some (stored.Bytes address count value) at shape owner bytes
     holds =
@@ -289,5 +289,5 @@ stored_own Stands core slot place some (stored.Bytes address count value) at sha
     let whole : address + length part ≤ length bytes = omega arith in
     bytes_own Stands core slot place address part some at.0 (let places : length core.ways ≡ 128 =
     shape.way_places in let low = at.1 in omega arith) fits shape owner
-    (line_in bytes) (line_in (written_at bytes address part)) (line-stored bytes part address whole
+    (line_of_bytes bytes) (line_of_bytes (written_at bytes address part)) (line-stored bytes part address whole
     fits) (λ line differs. line-other bytes part address whole line fits differs) holds

@@ -9,7 +9,7 @@ use Rattle.xom_model.specs.Versions.{StandsFor}
 use Rattle.line_cache.specs.declared.way.Way.{Way}
 use Rattle.page_map.specs.Pages.{frame_of}
 use Rattle.line_cache.specs.Ways.{free_way, way_at}
-use Rattle.xom_model.specs.State.{CoreState, page_of, session_of, with_way}
+use Rattle.xom_model.specs.State.{CoreState, core_with_way, page_of, session_of}
 use Rattle.xom_model.specs.Lines.{version_of_line, who_of}
 use Rattle.xom_model.specs.Holds.{Behind, IsLive, IsOf, LineHolds, Private, Shape}
 use Rattle.xom_model.specs.Kept.{Kept}
@@ -54,7 +54,7 @@ module _ (Stands : StandsFor) (owners : List Owner) (base core : CoreState)
     (kept : Kept Stands owners base core) (place : ℕ) (way : Way) (within : place < length core.ways)
     (may : MayStand Stands owners base core place way) (done : IsDone Stands owners core place) where
   abbrev out : CoreState
-  out = with_way core place way
+  out = core_with_way core place way
 
   here : way_at out.ways place ≡ way
   here = get_or-set_same core.ways place way free_way within

@@ -17,19 +17,19 @@ use Rattle.xom_seal.specs.Sealing.{unsealed_line}
 use Rattle.mips_effect.specs.declared.effects.Effect.{Effect}
 use Rattle.mips_plain.specs.Instruction.{is_code}
 use Rattle.tag_regs.specs.declared.cell.Cell.{Cell}
-use Rattle.tag_regs.specs.TaggedCells.{cell_at, empty, scrubbed}
+use Rattle.tag_regs.specs.TaggedCells.{cell_at, cells_after_scrub, empty_cell}
 use Rattle.session_table.specs.declared.session.SlotState.TheVariants as state
-use Rattle.session_table.specs.Sessions.{free, left, paused}
+use Rattle.session_table.specs.Sessions.{free, session_after_leaving, session_after_pause}
 use Rattle.xom_versions.specs.declared.store.Torn.{Torn}
 use Rattle.xom_model.specs.declared.reach.Reach.{Reach}
 use Rattle.xom_model.specs.declared.reach.Reach.TheVariants as reach
 use Rattle.xom_versions.specs.Versions.{Versions}
 use Rattle.xom_versions.specs.Store.{hash_entry}
 use Rattle.line_cache.specs.declared.way.Way.{Way}
-use Rattle.line_cache.specs.Ways.{found, way_at, without_slot, new_way, place_for, pointers_after}
+use Rattle.line_cache.specs.Ways.{new_way, place_for, place_of_line, pointers_after, way_at, without_slot}
 use Rattle.page_map.specs.Pages.{frame_of}
 use Rattle.xom_model.specs.State.{CoreState, core_with_hashes, page_of, session_of, store_of, with_entry}
-use Rattle.xom_model.specs.Lines.{accept_entry, ct_place, keys_of, name_of, seal_entry, sealed_at, who_of}
+use Rattle.xom_model.specs.Lines.{accept_entry, ct_place, keys_of, line_name_of, seal_entry, sealed_at, who_of}
 use Rattle.xom_model.specs.Access.{access, after_opening, after_raise, after_seal, after_victim, brought, cleared_at, or_stopped, reach_after_placing, reach_after_victim, reach_by_cache, reach_in_frame, read_from, sealed_by_raise, without_guest}
 use Rattle.xom_model.specs.Guest.{address_in, after_effect, after_step, after_trap, code_reached, data_of, data_reached, guest, word_in, word_tried}
 use Rattle.xom_model.specs.Holds.{IsOf, IsRunning}
@@ -45,7 +45,7 @@ use Rattle.xom_model.proofs.WayPuts.{each_put}
 -- ---- Cells of another slot that was given up
 
 scrubbed-stays : (other : ℕ) (cells : List Cell) (reg : ℕ) → (cell_at cells reg).tag ≢ other
-    → cell_at (scrubbed other cells) reg ≡ cell_at cells reg
+    → cell_at (cells_after_scrub other cells) reg ≡ cell_at cells reg
 scrubbed-stays other cells reg differs = elim (less reg (length cells)) [
   | inl within ↦ cell-scrubbed other cells reg within
       ∙ elim (eqb_tells (cell_at cells reg).tag other) [
@@ -53,17 +53,17 @@ scrubbed-stays other cells reg differs = elim (less reg (length cells)) [
             absurd (differs is.1)
         | inr apart ↦ rw apart.0 refl
       ]
-  | inr past ↦ get_or_past (scrubbed other cells) reg empty (let same =
-      length-scrubbed other cells in omega arith) ∙ sym (get_or_past cells reg empty past)
+  | inr past ↦ get_or_past (cells_after_scrub other cells) reg empty_cell (let same =
+      length-scrubbed other cells in omega arith) ∙ sym (get_or_past cells reg empty_cell past)
 ]
 
 scrubbed-own : (other slot : ℕ) (cells : List Cell) (reg : ℕ) → slot ≢ 0
-    → (cell_at (scrubbed other cells) reg).tag ≡ slot
-    → cell_at (scrubbed other cells) reg ≡ cell_at cells reg
+    → (cell_at (cells_after_scrub other cells) reg).tag ≡ slot
+    → cell_at (cells_after_scrub other cells) reg ≡ cell_at cells reg
 scrubbed-own other slot cells reg some is = elim (less reg (length cells)) [
   | inl within ↦ scrubbed-tagged other cells reg within (λ none. some (sym is ∙ none))
-  | inr past ↦ get_or_past (scrubbed other cells) reg empty (let same =
-      length-scrubbed other cells in omega arith) ∙ sym (get_or_past cells reg empty past)
+  | inr past ↦ get_or_past (cells_after_scrub other cells) reg empty_cell (let same =
+      length-scrubbed other cells in omega arith) ∙ sym (get_or_past cells reg empty_cell past)
 ]
 
 module _ (v : Versions) (slot : ℕ) (some : slot ≢ 0) where
@@ -189,7 +189,7 @@ module _ (v : Versions) (slot : ℕ) (some : slot ≢ 0) where
         entries = more_is (seal_entry (who_of core victim.slot) victim.line version victim.bytes);
         precede = more_precede (seal_entry (who_of core victim.slot) victim.line version
             victim.bytes) (place, (dirty, (version, refl)));
-        left = put_left (more_with (seal_entry (who_of core victim.slot) victim.line version
+        session_after_leaving = put_left (more_with (seal_entry (who_of core victim.slot) victim.line version
             victim.bytes)) core.ways place (λ at is. refl)
             (λ _. inr (more_has (SealsWay core victim) (seal_entry (who_of core victim.slot)
             victim.line version victim.bytes) (version, refl)));
@@ -210,7 +210,7 @@ module _ (v : Versions) (slot : ℕ) (some : slot ≢ 0) where
       unfolding without_guest after_raise
       torn_brings differs torn = rw (apart_test differs) (record {
         session = get_or-set_other core.sessions victim.slot slot
-            (left (session_of core victim.slot) (state.Stopped (rule.TreeNode torn.level))) free
+            (session_after_leaving (session_of core victim.slot) (state.Stopped (rule.TreeNode torn.level))) free
             (λ is. differs (sym is));
         cells = λ reg is. scrubbed-stays victim.slot core.cells reg (λ its. differs (sym its ∙ is));
         others = λ reg is. scrubbed-own victim.slot slot core.cells reg some is;
@@ -221,7 +221,7 @@ module _ (v : Versions) (slot : ℕ) (some : slot ≢ 0) where
             (rule.TreeNode torn.level));
         precede = more_precede (entry.Stop (session_of core victim.slot).install
             (rule.TreeNode torn.level)) (victim.slot, (differs, refl));
-        left = put_left (more_with (entry.Stop (session_of core victim.slot).install
+        session_after_leaving = put_left (more_with (entry.Stop (session_of core victim.slot).install
             (rule.TreeNode torn.level))) (without_slot victim.slot core.ways) place
             (λ at is. way-without victim.slot core.ways at ∙ free_if-other victim.slot
             (way_at core.ways at) (λ own. differs (sym own ∙ is))) (λ is. absurd (differs is));
@@ -305,10 +305,10 @@ module _ (v : Versions) (slot : ℕ) (some : slot ≢ 0) where
           (read_from v asked_core slot line frame version) (λ result. Brought core result)
           (λ _. fresh_brings core line (replicate 32 0) alone texts)
           (λ _. read_opens version (ct_place frame line) (sealed_at core.ram frame line).ct
-          (unsealed_line (name_of (who_of core slot) line version)
+          (unsealed_line (line_name_of (who_of core slot) line version)
           (keys_of (who_of core slot) line version) (sealed_at core.ram frame line)))
 
-    looked_brings : (frame : ℕ) (at : Option ℕ) → found core.ways slot line ≡ at
+    looked_brings : (frame : ℕ) (at : Option ℕ) → place_of_line core.ways slot line ≡ at
         → Brought core (reach_by_cache v core slot line frame at)
     looked_brings frame (Some at) is = brings_none core
     looked_brings frame None is =
@@ -318,7 +318,7 @@ module _ (v : Versions) (slot : ℕ) (some : slot ≢ 0) where
 
     mapped_brings : (frame : Option ℕ) → Brought core (reach_in_frame v core slot line frame)
     mapped_brings None = refl
-    mapped_brings (Some frame) = looked_brings frame (found core.ways slot line) refl
+    mapped_brings (Some frame) = looked_brings frame (place_of_line core.ways slot line) refl
 
     access_brings : Brought core (access v core slot line)
     unfolding access
@@ -333,8 +333,8 @@ module _ (v : Versions) (slot : ℕ) (some : slot ≢ 0) where
       let trap = entry.Trap (session_of new slot).install why in
       let within = running-within new slot (ap (λ s. s.state) brings.session ∙ runs) in
       record {
-        session = get_or-set_same new.sessions slot (paused (session_of new slot)) free within
-            ∙ ap (λ s. paused s) brings.session;
+        session = get_or-set_same new.sessions slot (session_after_pause (session_of new slot)) free within
+            ∙ ap (λ s. session_after_pause s) brings.session;
         cells = brings.cells;
         others = brings.others;
         lines = brings.lines;

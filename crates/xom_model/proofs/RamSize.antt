@@ -19,13 +19,13 @@ use Rattle.keyed_mac.proofs.Lengths.{tags_have_their_length}
 use Rattle.mips_effect.specs.declared.effects.Effect.{Effect}
 use Rattle.mips_effect.specs.declared.wish.Wish.{Wish}
 use Rattle.mips_effect.specs.declared.wish.Wish.TheVariants as wish
-use Rattle.mips_effect.specs.Effects.{set as set_register}
+use Rattle.mips_effect.specs.Effects.{write_of_register as set_register}
 use Rattle.mips_plain.specs.Memory.{low_bytes, written_at}
 use Rattle.mips_plain.proofs.Stores.{length-written_at}
 use Rattle.line_ram.specs.Bytes.{HoldsRange, tag_place}
 use Rattle.xom_versions.specs.Store.{area_size}
-use Rattle.xom_model.specs.State.{CoreState, holds, store_of}
-use Rattle.xom_model.specs.Lines.{ct_place, index_of, with_sealed}
+use Rattle.xom_model.specs.State.{CoreState, ram_holds_range, store_of}
+use Rattle.xom_model.specs.Lines.{ct_place, index_in_frame, with_sealed}
 use Rattle.xom_model.specs.Saves.{with_saved}
 use Rattle.xom_model.specs.Guest.{given_out}
 use Rattle.xom_model.specs.Holds.{AreasFit, FramesFit, IsLive}
@@ -62,7 +62,7 @@ length-with_sealed ram (Some frame) line sealed ct tag fit =
     let first : length (written_at ram (ct_place frame line) sealed.ct) ≡ length ram =
     length-written_at ram (ct_place frame line) sealed.ct (omega arith) in
     length-written_at (written_at ram (ct_place frame line) sealed.ct)
-    (tag_place frame (index_of line)) sealed.tag (omega arith) ∙ first
+    (tag_place frame (index_in_frame line)) sealed.tag (omega arith) ∙ first
 
 -- the tag of a sealed register
 pub length-register_tag : (name : RegName) (keys : RegisterKeys) (ct : List ℕ)
@@ -111,12 +111,12 @@ length-granted : (told : Told) (s : Open) (effect : Effect) (wished : Wish)
     → length (wish_answer told s effect wished).0.ram ≡ length s.ram
 length-granted told s effect wish.Nothing = refl
 length-granted told s effect (wish.Load reg address how old) =
-    cond_both (holds s.ram (address - address % 4) 4)
+    cond_both (ram_holds_range s.ram (address - address % 4) 4)
     (done_answer (open_after s effect (set_register reg (loaded_open s.ram how old address))))
     (stopped_by s null.Address) (λ (a : Answer). length a.0.ram ≡ length s.ram)
     (λ _. refl) (λ _. refl)
 length-granted told s effect (wish.Store address count value) =
-    cond_both (holds s.ram address count)
+    cond_both (ram_holds_range s.ram address count)
     (done_answer (stored_open (open_after s effect effect.writes) address
     (low_bytes count value))) (stopped_by s null.Address) (λ (a : Answer). length a.0.ram ≡ length
     s.ram)

@@ -17,16 +17,16 @@ use Rattle.mips_effect.specs.declared.seen.Seen.{Seen}
 use Rattle.mips_effect.specs.declared.wish.LoadKind.TheVariants as kind
 use Rattle.mips_effect.specs.declared.wish.Wish.{Wish}
 use Rattle.mips_effect.specs.declared.wish.Wish.TheVariants as wish
-use Rattle.mips_instruction.specs.Numbers.{extended, plus_signed}
+use Rattle.mips_instruction.specs.Numbers.{plus_signed, sign_extended}
 use Rattle.mips_effect.specs.Arithmetic.{difference, sum}
-use Rattle.mips_effect.specs.Effects.{act, effect_of, is_barred, is_open, is_reserved, judged, number_of, seen_at, set as set_register, sets_or_overflows, size_of, sources_of}
+use Rattle.mips_effect.specs.Effects.{act, alignment_of, effect_of, effect_or_fault, is_barred, is_open, is_reserved, number_of_seen, seen_at, sets_or_overflows, sources_of, write_of_register as set_register}
 use Rattle.mips_plain.specs.Memory.{low_bytes}
 use Rattle.xom_versions.specs.Versions.{Versions}
-use Rattle.xom_model.specs.State.{holds, CoreState, Record}
+use Rattle.xom_model.specs.State.{CoreState, Record, ram_holds_range}
 use Rattle.xom_model.specs.Null.{Answer, Open, Told, done_answer, fetched_open, loaded_open, null_step, open_after, ran_open, seen_open, stopped_by, stored_open, tried_open, wish_answer}
 use Rattle.xom_model.specs.Operation.{operation}
 use Rattle.xom_model.specs.Event.{after_operation, is_halt, null_turn, on, open_in, running_slot, told_in, with_open}
-use Rattle.xom_model.specs.Refused.{DoRefused, IsRefusal, NullRefused}
+use Rattle.xom_model.specs.Refused.{DoRefused, IsRefusalStatus, NullRefused}
 use Rattle.xom_model.proofs.Refusals.{refusals_change_nothing}
 
 -- ---- An instruction that asks for an operation writes nothing
@@ -85,7 +85,7 @@ act-asks (Beq rs rt imm) mode s t d following = λ op is. absurd (cc)
 act-asks (Bne rs rt imm) mode s t d following = λ op is. absurd (cc)
 act-asks (Blez rs imm) mode s t d following = λ op is. absurd (cc)
 act-asks (Bgtz rs imm) mode s t d following = λ op is. absurd (cc)
-act-asks (Addi rt rs imm) mode s t d following = overflows-ask rt (sum s (extended imm)) following
+act-asks (Addi rt rs imm) mode s t d following = overflows-ask rt (sum s (sign_extended imm)) following
 act-asks (Addiu rt rs imm) mode s t d following = λ op is. absurd (cc)
 act-asks (Slti rt rs imm) mode s t d following = λ op is. absurd (cc)
 act-asks (Sltiu rt rs imm) mode s t d following = λ op is. absurd (cc)
@@ -94,19 +94,19 @@ act-asks (Ori rt rs imm) mode s t d following = λ op is. absurd (cc)
 act-asks (Xori rt rs imm) mode s t d following = λ op is. absurd (cc)
 act-asks (Lui rt imm) mode s t d following = λ op is. absurd (cc)
 act-asks (Lb rt imm rs) mode s t d following =
-    either-asks (is_open mode (size_of kind.Byte) (plus_signed s imm)) _ _ (λ op is. refl) tt
+    either-asks (is_open mode (alignment_of kind.Byte) (plus_signed s imm)) _ _ (λ op is. refl) tt
 act-asks (Lh rt imm rs) mode s t d following =
-    either-asks (is_open mode (size_of kind.Half) (plus_signed s imm)) _ _ (λ op is. refl) tt
+    either-asks (is_open mode (alignment_of kind.Half) (plus_signed s imm)) _ _ (λ op is. refl) tt
 act-asks (Lwl rt imm rs) mode s t d following =
-    either-asks (is_open mode (size_of kind.Left) (plus_signed s imm)) _ _ (λ op is. refl) tt
+    either-asks (is_open mode (alignment_of kind.Left) (plus_signed s imm)) _ _ (λ op is. refl) tt
 act-asks (Lw rt imm rs) mode s t d following =
-    either-asks (is_open mode (size_of kind.Word) (plus_signed s imm)) _ _ (λ op is. refl) tt
+    either-asks (is_open mode (alignment_of kind.Word) (plus_signed s imm)) _ _ (λ op is. refl) tt
 act-asks (Lbu rt imm rs) mode s t d following =
-    either-asks (is_open mode (size_of kind.ByteU) (plus_signed s imm)) _ _ (λ op is. refl) tt
+    either-asks (is_open mode (alignment_of kind.ByteU) (plus_signed s imm)) _ _ (λ op is. refl) tt
 act-asks (Lhu rt imm rs) mode s t d following =
-    either-asks (is_open mode (size_of kind.HalfU) (plus_signed s imm)) _ _ (λ op is. refl) tt
+    either-asks (is_open mode (alignment_of kind.HalfU) (plus_signed s imm)) _ _ (λ op is. refl) tt
 act-asks (Lwr rt imm rs) mode s t d following =
-    either-asks (is_open mode (size_of kind.Right) (plus_signed s imm)) _ _ (λ op is. refl) tt
+    either-asks (is_open mode (alignment_of kind.Right) (plus_signed s imm)) _ _ (λ op is. refl) tt
 act-asks (Sb rt imm rs) mode s t d following =
     either-asks (is_open mode 1 (plus_signed s imm)) _ _ (λ op is. refl) tt
 act-asks (Sh rt imm rs) mode s t d following =
@@ -142,11 +142,11 @@ act-asks (Xarg rd) mode s t d following = λ op is. refl
 act-asks (Xwho rd) mode s t d following = λ op is. refl
 
 judged-asks : (i : Ins) (mode : Mode) (first second third : Seen) (following : ℕ)
-    → IfOk (judged i mode first second third following) AsksOnly
+    → IfOk (effect_or_fault i mode first second third following) AsksOnly
 judged-asks i mode first second third following =
     either-asks (is_reserved mode i) (Err fault.Reserved) _ tt
     (either-asks (is_barred mode i first second third) (Err fault.Foreign) _ tt
-    (act-asks i mode (number_of first) (number_of second) (number_of third) following))
+    (act-asks i mode (number_of_seen first) (number_of_seen second) (number_of_seen third) following))
 
 effect-asks : (i : Ins) (a b c : Seen) (pc npc : ℕ) → IfOk (effect_of i Null a b c pc npc) AsksOnly
 unfolding effect_of
@@ -174,11 +174,11 @@ granted_stays : (told : Told) (s : Open) (effect : Effect) → AsksOnly effect �
     → effect.wish ≡ wished → Stays s (wish_answer told s effect wished)
 granted_stays told s effect asks wish.Nothing is op asked = absurd (cc)
 granted_stays told s effect asks (wish.Load reg address how old) is op asked =
-    stays_either s (holds s.ram (address - address % 4) 4)
+    stays_either s (ram_holds_range s.ram (address - address % 4) 4)
     (done_answer (open_after s effect (set_register reg (loaded_open s.ram how old address))))
     (stopped_by s null.Address) (λ o no_op. absurd (cc)) (λ o no_op. absurd (cc)) op asked
 granted_stays told s effect asks (wish.Store address count value) is op asked =
-    stays_either s (holds s.ram address count)
+    stays_either s (ram_holds_range s.ram address count)
     (done_answer (stored_open (open_after s effect effect.writes) address
     (low_bytes count value))) (stopped_by s null.Address) (λ o no_op. absurd (cc))
     (λ o no_op. absurd (cc)) op asked
@@ -209,7 +209,7 @@ null_stays told s =
 -- ---- The record
 
 -- Halt is never refused
-halt_done : (v : Versions) (core : CoreState) (op : Op) → IsRefusal (operation v core op).1
+halt_done : (v : Versions) (core : CoreState) (op : Op) → IsRefusalStatus (operation v core op).1
     → is_halt op ≡ false
 unfolding operation
 halt_done v core Halt refusal = absurd (let low = refusal.0 in omega arith)
@@ -224,7 +224,7 @@ halt_done v core (SetReg reg value) refusal = refl
 halt_done v core (Kill slot) refusal = refl
 halt_done v core (Out byte) refusal = refl
 
-core_same : (v : Versions) (core : CoreState) (op : Op) → IsRefusal (operation v core op).1
+core_same : (v : Versions) (core : CoreState) (op : Op) → IsRefusalStatus (operation v core op).1
     → (operation v core op).0 ≡ core
 core_same v core op refusal = elim (refusals_change_nothing v core op) [
   | inl done ↦ absurd (let low = refusal.0 in omega (arith, done))
@@ -236,7 +236,7 @@ core_same v core op refusal = elim (refusals_change_nothing v core op) [
 
 -- a machine that isn't halted
 operated_refused : (v : Versions) (r : Record) (op : Op) → r.halted ≡ false
-    → IsRefusal (operation v r.core op).1
+    → IsRefusalStatus (operation v r.core op).1
     → (after_operation r op (operation v r.core op)).0 ≡ record r {
       status =
           (operation v r.core op).1;
@@ -269,7 +269,7 @@ do_refused v r op bytes fit refusal =
 
 null_refused_by : (v : Versions) (r : Record) (op : Op) (answer : Answer) → r.halted ≡ false
     → answer.1 ≡ Ok (Some op) → (answer.0.cells ≡ r.core.cells) × (answer.0.ram ≡ r.core.ram)
-    → IsRefusal (null_turn v r answer).0.status
+    → IsRefusalStatus (null_turn v r answer).0.status
     → (null_turn v r answer).0 ≡ record r {
       status = (null_turn v r answer).0.status;
       events =

@@ -4,13 +4,13 @@ use Rattle.std.specs.Prelude.{nat_le}
 use Rattle.xom_base.specs.declared.event.Op.TheVariants.{Install, Enter, Resume, Save, Restore, Map, Unmap, SetReg, Kill, Out, Halt}
 use Rattle.xom_base.specs.declared.event.Rule.{Rule}
 use Rattle.xom_seal.specs.declared.envelope.Unwrapped.{Unwrapped}
-use Rattle.xom_seal.specs.Envelopes.{unwrapped}
+use Rattle.xom_seal.specs.Envelopes.{envelope_contents}
 use Rattle.session_table.specs.declared.session.SlotState.{SlotState}
 use Rattle.session_table.specs.declared.session.SlotState.TheVariants as state
 use Rattle.xom_versions.specs.Versions.{Versions}
 use Rattle.xom_model.specs.State.{CoreState, session_of}
 use Rattle.xom_model.specs.Access.{after_flush}
-use Rattle.xom_model.specs.Operation.{after_reopening, after_unmap, enter, envelope_at, first_refusal_or, go_on, image_tests, install_tests, is_cell, is_slot, kill_tests, map_tests, missing_cell, operation, refusal_of, restore_tests, resume, save_tests, slot_takes_signal, unmap_tests, unwrap}
+use Rattle.xom_model.specs.Operation.{after_reopening, after_unmap, enter, envelope_in_ram, first_refusal_or, image_tests, install_tests, is_cell, is_slot, kill_tests, map_tests, missing_cell, operation, refusal_of, restore_tests, resume, resume_or_stop, save_tests, slot_takes_signal, unmap_tests, unwrap}
 use Rattle.xom_model.specs.Laws.{RefusalsChangeNothing}
 
 -- each outcome of an operation
@@ -31,7 +31,7 @@ enter_outcome core slot state.Ended = inr (inr refl)
 enter_outcome core slot (state.Stopped why) = inr (inr refl)
 
 go_on_outcome : (core : CoreState) (slot signal : ℕ) (lost : Option ℕ)
-    → Outcome core (go_on core slot signal lost)
+    → Outcome core (resume_or_stop core slot signal lost)
 go_on_outcome core slot signal None = inl refl
 go_on_outcome core slot signal (Some reg) = inr (inl refl)
 
@@ -42,10 +42,10 @@ resume_outcome core slot signal state.Fresh = inr (inr refl)
 resume_outcome core slot signal state.Running = inr (inr refl)
 resume_outcome core slot signal state.Paused =
     either core (nat_le signal 63) (cond (slot_takes_signal (session_of core slot) signal)
-    (go_on core slot signal (missing_cell slot (session_of core slot).mask core.cells)) (core, 2))
+    (resume_or_stop core slot signal (missing_cell slot (session_of core slot).mask core.cells)) (core, 2))
     (core, 7)
     (either core (slot_takes_signal (session_of core slot) signal)
-    (go_on core slot signal (missing_cell slot (session_of core slot).mask core.cells)) (core, 2)
+    (resume_or_stop core slot signal (missing_cell slot (session_of core slot).mask core.cells)) (core, 2)
     (go_on_outcome core slot signal _) (inr (inr refl)))
     (inr (inr refl))
 resume_outcome core slot signal state.Ended = inr (inr refl)
@@ -86,7 +86,7 @@ refusals_change_nothing v core (SetReg reg value) =
 refusals_change_nothing v core Halt = inl refl
 refusals_change_nothing v core (Install slot place area) =
     tested_outcome core (install_tests core slot place area) _ (unwrap_outcome v core slot place
-    area (unwrapped core.machine (envelope_at core place)))
+    area (envelope_contents core.machine (envelope_in_ram core place)))
 refusals_change_nothing v core (Save slot reg address) =
     tested_outcome core (save_tests core slot reg address) _ (inl refl)
 refusals_change_nothing v core (Restore slot reg address) =

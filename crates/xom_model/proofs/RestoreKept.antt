@@ -16,9 +16,9 @@ use Rattle.xom_seal.specs.Sealing.{register_masked, register_tag, unsealed_regis
 use Rattle.xom_seal.proofs.SealLaws.{lets_through, registers_open}
 use Rattle.xom_owners.specs.declared.owner.Owner.{Owner}
 use Rattle.mips_plain.specs.declared.cell.PlainCell.TheVariants.{Own}
-use Rattle.mips_plain.specs.Machine.{State, cell_at as plain_cell}
+use Rattle.mips_plain.specs.Machine.{State, plain_cell_at as plain_cell}
 use Rattle.tag_regs.specs.declared.cell.Cell.{Cell}
-use Rattle.tag_regs.specs.TaggedCells.{cell_at, empty}
+use Rattle.tag_regs.specs.TaggedCells.{cell_at, empty_cell}
 use Rattle.session_table.specs.declared.session.Session.{Session}
 use Rattle.session_table.specs.declared.session.SlotState.TheVariants as state
 use Rattle.image_sealer.specs.Membership.{is_sealed, is_sealing}
@@ -30,7 +30,7 @@ use Rattle.xom_model.specs.State.{CoreState, session_of}
 use Rattle.xom_model.specs.Lines.{who_of}
 use Rattle.xom_model.specs.Saves.{reg_accept_entry, reg_keys, reg_name, saved_at}
 use Rattle.xom_model.specs.Operation.{epoch_of}
-use Rattle.xom_model.specs.Holds.{Agrees, Holds, IsHeld, IsLive, IsRunning, line_in}
+use Rattle.xom_model.specs.Holds.{Agrees, Holds, IsHeld, IsLive, IsRunning, line_of_bytes}
 use Rattle.xom_model.proofs.Growth.{IsTrusted, Goes, goes_entry, honest_before, seals_none}
 use Rattle.xom_model.proofs.KeptLaws.{aside_private, aside_shape}
 use Rattle.xom_model.proofs.Frame.{FollowsAlone-same, IsAlone-same}
@@ -152,11 +152,11 @@ module _ (Stands : StandsFor) (owners : List Owner) (v : Versions) (law : Versio
 
   here : cell_at cells reg ≡ record { value = value; tag = slot }
   here =
-      get_or-set_same core.cells reg _ empty
+      get_or-set_same core.cells reg _ empty_cell
       (let places : length core.cells ≡ 34 = holds.slots.cell_places in omega arith)
 
   there : (r : ℕ) → r ≢ reg → cell_at cells r ≡ cell_at core.cells r
-  there r differs = get_or-set_other core.cells reg r _ empty differs
+  there r differs = get_or-set_other core.cells reg r _ empty_cell differs
 
   values : (k : ℕ) (lives : IsLive core k) (r : ℕ) → 1 ≤ r → r < 34 → (cell_at cells r).tag ≡ k
       → plain_cell (holds.slots.held k lives).1.cells r ≡ Own (cell_at cells r).value
@@ -188,7 +188,7 @@ module _ (Stands : StandsFor) (owners : List Owner) (v : Versions) (law : Versio
         agrees_cells (session_of core k) core.cells cells core.entries entries k h.0 h.1
             (values k lives) steps h.3,
         aside_private Stands owners v law core cells core.pointers core.ram entries goes_out.more
-            seals_same k h.0 (line_in h.1.bytes) h.4,
+            seals_same k h.0 (line_of_bytes h.1.bytes) h.4,
         saves_carry core out refl k refl
             (λ key other bytes. ap (is_sealed key (register_message other bytes)) seals_same) h.1 h.5,
       )

@@ -5,7 +5,7 @@ use Rattle.xom_base.specs.declared.step.Writes.{Writes}
 use Rattle.mips_effect.specs.declared.effects.Effect.{Effect}
 use Rattle.mips_effect.specs.declared.wish.Wish.{Wish}
 use Rattle.mips_effect.specs.declared.wish.Wish.TheVariants as wish
-use Rattle.mips_effect.specs.Effects.{AreCells, IsInRange, Ranged, set as set_register}
+use Rattle.mips_effect.specs.Effects.{AreCells, IsInRange, Ranged, write_of_register as set_register}
 use Rattle.mips_plain.specs.declared.given.Given.{Given}
 use Rattle.mips_plain.specs.declared.given.PlainStep.TheVariants.{Did, Over, Unfit}
 use Rattle.mips_plain.specs.declared.given.Given.TheVariants as given

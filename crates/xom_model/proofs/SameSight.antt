@@ -6,7 +6,7 @@ use Rattle.std.proofs.lemmas.Bool.Decides.{eqb_tells}
 use Rattle.std.specs.Int.{bit_at}
 use Rattle.xom_base.specs.declared.event.OwnFault.{OwnFault}
 use Rattle.mips_instruction.specs.declared.instruction.Ins.{Ins}
-use Rattle.mips_instruction.specs.Words.{Fits, read}
+use Rattle.mips_instruction.specs.Words.{Fits, instruction_of_word}
 use Rattle.mips_isa.proofs.Reading.{read-Fits}
 use Rattle.mips_effect.specs.declared.seen.Seen.{Seen}
 use Rattle.mips_effect.specs.declared.seen.Mode.TheVariants.{Guest}
@@ -17,9 +17,9 @@ use Rattle.mips_effect.specs.Effects.{sources_of, effect_of, Ranged}
 use Rattle.mips_effect.proofs.Ranges.{sources_of-below, effect_of-Ranged}
 use Rattle.mips_plain.specs.declared.cell.PlainCell.{PlainCell}
 use Rattle.mips_plain.specs.declared.cell.PlainCell.TheVariants.{Own, Lent}
-use Rattle.mips_plain.specs.Memory.{word_at}
+use Rattle.mips_plain.specs.Memory.{word_at_address}
 use Rattle.mips_plain.specs.Instruction.{effect_at, instruction_in, instruction_or_fault, is_code, with_kept_pair, with_return}
-use Rattle.mips_plain.specs.Machine.{cell_at as plain_cell, seen_in, seen_of_cell}
+use Rattle.mips_plain.specs.Machine.{plain_cell_at as plain_cell, seen_in, seen_of_cell}
 use Rattle.tag_regs.specs.declared.cell.Cell.{Cell}
 use Rattle.tag_regs.specs.TaggedCells.{cell_at}
 use Rattle.xom_model.specs.Guest.{seen_as, seen_by}
@@ -41,8 +41,8 @@ pub fetched-Fits : (bytes : List ℕ) (pc : ℕ) (ins : Ins) → instruction_in 
     → Fits ins
 unfolding instruction_in
 fetched-Fits bytes pc ins is =
-    chosen-Fits (is_code pc) (read (word_at bytes pc)) ins _
-    (λ i has. read-Fits i (word_at bytes pc) has) is
+    chosen-Fits (is_code pc) (instruction_of_word (word_at_address bytes pc)) ins _
+    (λ i has. read-Fits i (word_at_address bytes pc) has) is
 
 -- what is tried depends on nothing but what is seen in cells below 34
 pub tried-same : (see sight : ℕ → Seen) (kept : Option (ℕ × ℕ)) (found : Result Ins OwnFault)

@@ -10,7 +10,7 @@ use Rattle.xom_seal.proofs.MessageLaws.{kinds_differ, register_messages_tell}
 use Rattle.xom_seal.proofs.NamingLaws.{run_lines_are_told}
 use Rattle.xom_owners.specs.declared.owner.Owner.{Owner}
 use Rattle.mips_plain.specs.declared.cell.PlainCell.TheVariants.{Own}
-use Rattle.mips_plain.specs.Machine.{cell_at as plain_cell}
+use Rattle.mips_plain.specs.Machine.{plain_cell_at as plain_cell}
 use Rattle.tag_regs.specs.TaggedCells.{cell_at}
 use Rattle.session_table.specs.declared.session.SlotState.TheVariants as state
 use Rattle.image_sealer.specs.Membership.{is_sealed}
@@ -21,7 +21,7 @@ use Rattle.xom_model.specs.State.{CoreState, session_of, store_of}
 use Rattle.xom_model.specs.Lines.{Who, line_seals, names_line, names_version, version_of_line, version_seals, who_of}
 use Rattle.xom_model.specs.Saves.{IsOnce, SavesAgree, SealsHold, before_ct, reg_keys, reg_name, reg_pair, reg_seal_entry}
 use Rattle.xom_model.specs.Operation.{epoch_of}
-use Rattle.xom_model.specs.Holds.{Holds, IsHeld, IsLive, IsRunning, LineHolds, Private, Shape, line_in}
+use Rattle.xom_model.specs.Holds.{Holds, IsHeld, IsLive, IsRunning, LineHolds, Private, Shape, line_of_bytes}
 use Rattle.xom_model.proofs.Growth.{Goes, goes_entry, seals_more}
 use Rattle.xom_model.proofs.Frame.{Agrees-same, FollowsAlone-same, IsAlone-same}
 use Rattle.xom_model.proofs.SealCounts.{filter-no}
@@ -267,7 +267,7 @@ module _ (Stands : StandsFor) (owners : List Owner) (v : Versions) (law : Versio
             (session_of core k).id h.0 h.1 steps h.2,
         Agrees-same (session_of core k) core.cells core.cells core.entries entries k h.0 h.1
             (λ r low high tag. refl) steps h.3,
-        private_out k h.0 (line_in h.1.bytes) h.4,
+        private_out k h.0 (line_of_bytes h.1.bytes) h.4,
         saves_out k lives,
       )
 

@@ -5,7 +5,7 @@ use Rattle.std.proofs.lemmas.List.{length-append}
 use Rattle.std.proofs.lemmas.List.Elements.{filter-append}
 use Rattle.std.proofs.lemmas.Bool.{eq-eqb}
 use Rattle.std.proofs.lemmas.Bool.Decides.{eqb_tells}
-use Rattle.xom_seal.specs.Messages.{version_in}
+use Rattle.xom_seal.specs.Messages.{version_of_message}
 use Rattle.xom_seal.proofs.NamingLaws.{run_lines_are_told}
 use Rattle.xom_model.specs.Honest.{Sealing}
 use Rattle.xom_model.specs.Lines.{Who, line_seals, names_line, names_version, run_pair, version_seals}
@@ -56,7 +56,7 @@ module _ (who : Who) (line version : ℕ) (bytes : List ℕ) (install_low : who.
       run_lines_are_told.run install at who.boot who.install line version _ low (omega arith)
       install_low (omega arith)
 
-  its_version : version_in pair.1 ≡ version
+  its_version : version_of_message pair.1 ≡ version
   its_version = run_lines_are_told.version who.boot who.install line version _ version_low
 
   names_own : names_line who.install line pair ≡ true
@@ -79,12 +79,12 @@ module _ (who : Who) (line version : ℕ) (bytes : List ℕ) (install_low : who.
         version seals ++ pair ∷ []
     own_version =
         filter-yes (names_version who.install line version) seals pair
-        (rw names_own (eq-eqb (version_in pair.1) version its_version))
+        (rw names_own (eq-eqb (version_of_message pair.1) version its_version))
 
     pub later_version : (other : ℕ) → other ≢ version
         → version_seals who.install line other more ≡ version_seals who.install line other seals
     later_version other differs = filter-no (names_version who.install line other) seals pair
-        (elim (eqb_tells (version_in pair.1) other) [
+        (elim (eqb_tells (version_of_message pair.1) other) [
           | inl is ↦ absurd (differs (sym is.1 ∙ its_version))
           | inr other_number ↦ rw (names_own, other_number.0) refl
         ])

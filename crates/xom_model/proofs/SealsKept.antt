@@ -8,7 +8,7 @@ use Rattle.std.proofs.lemmas.Bool.Decides.{eqb_tells}
 use Rattle.xom_base.specs.declared.entry.Entry.{Entry}
 use Rattle.xom_seal.specs.declared.names.LineName.TheVariants.{Run}
 use Rattle.xom_seal.specs.declared.names.RegName.{RegName}
-use Rattle.xom_seal.specs.Messages.{line_message, names_run_line, register_message, version_in}
+use Rattle.xom_seal.specs.Messages.{line_message, names_run_line, register_message, version_of_message}
 use Rattle.xom_seal.specs.Sealing.{line_masked}
 use Rattle.xom_seal.specs.Keys.{run_keys}
 use Rattle.xom_seal.proofs.MessageLaws.{kinds_differ}
@@ -161,11 +161,11 @@ module _ (who : Who) (line version : ℕ) (bytes : List ℕ) (install_low : who.
         eq-eqb who.install who.install refl,
         eq-eqb line line refl,
       )
-      (eq-eqb (version_in (line_message (Run who.boot who.install line version) rest)) version
+      (eq-eqb (version_of_message (line_message (Run who.boot who.install line version) rest)) version
       (run_lines_are_told.version who.boot who.install line version rest version_low)) in
       let weaker : (s : Sealing) → is_sealing key message s ≡ true → names_version who.install line
       version s ≡ true = λ s its.
-      subst (λ m. (names_run_line who.install line m && (version_in m == version)) ≡ true)
+      subst (λ m. (names_run_line who.install line m && (version_of_message m == version)) ≡ true)
       (sym whole ∙ (is_sealing_told key message s its).1) names in
       let among = subst (λ l. list_any (is_sealing key message) l ≡ true) none
       (any_filtered (is_sealing key message) (names_version who.install line version) weaker seals

@@ -1,7 +1,7 @@
 -- What the machine keeps holds at power-on, whatever stands in RAM.
 use Rattle.std.proofs.Common.{◌≡◌, inl, inr, ℕ, ◌<◌, None, length, get_or, replicate, refl, ◌∙◌, ap, arith}
 use Rattle.std.proofs.lemmas.List.{get_or-replicate, get_or_past, length-replicate}
-use Rattle.tag_regs.specs.TaggedCells.{all_empty, cell_at, empty}
+use Rattle.tag_regs.specs.TaggedCells.{all_empty, cell_at, empty_cell}
 use Rattle.session_table.specs.Sessions.{free, is_live, none_held, session_at}
 use Rattle.xom_versions.specs.Versions.{Versions}
 use Rattle.xom_model.specs.Versions.{StandsFor}
@@ -25,9 +25,9 @@ unfolding none_held
 length-none_held = refl
 
 -- each cell is empty
-empty_at : (reg : ℕ) → reg < 34 → cell_at all_empty reg ≡ empty
+empty_at : (reg : ℕ) → reg < 34 → cell_at all_empty reg ≡ empty_cell
 unfolding all_empty
-empty_at reg to = get_or-replicate 34 reg empty empty to
+empty_at reg to = get_or-replicate 34 reg empty_cell empty_cell to
 
 length-all_empty : length all_empty ≡ 34
 unfolding all_empty

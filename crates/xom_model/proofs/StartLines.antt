@@ -2,11 +2,11 @@
 use Rattle.std.proofs.Common.{◌≡◌, inl, inr, ℕ, zero, suc, ◌+◌, ◌-◌, ◌*◌, ◌<◌, ◌≤◌, ◌^◌, List, ◌∷◌, ◌++◌, length, take, drop, replicate, refl, sym, ◌∙◌, ap, arith, append-nil}
 use Rattle.std.proofs.lemmas.List.{drop-append-le, drop-replicate, length-append, length-drop, length-replicate, length-take-le, take-append-le, take_all}
 use Rattle.std.proofs.Math.Seq.{drop-append-add, take-append-add}
-use Rattle.xom_base.specs.Padded.{filled}
-use Rattle.image_sealer.specs.Sealing.{line_count, line_of}
+use Rattle.xom_base.specs.Padded.{padded_block}
+use Rattle.image_sealer.specs.Sealing.{line_count, line_of_image}
 use Rattle.mips_plain.specs.Memory.{private_size}
 use Rattle.mips_plain.proofs.Sizes.{private_size_is}
-use Rattle.xom_model.specs.Holds.{line_in}
+use Rattle.xom_model.specs.Holds.{line_of_bytes}
 use Rattle.xom_model.proofs.Gone.{less}
 
 abbrev zeros : ℕ → List ℕ
@@ -27,17 +27,17 @@ module _ (bytes : List ℕ) (small : length bytes ≤ 2 ^ 20) (line : ℕ) (low 
   abbrev pad : List ℕ
   pad = zeros (2 ^ 20 - length bytes)
 
-  whole : line_in (filled private_size bytes) line ≡ take 32 (drop m (bytes ++ pad))
+  whole : line_of_bytes (padded_block private_size bytes) line ≡ take 32 (drop m (bytes ++ pad))
   whole = ap (λ n. take 32 (drop m (bytes ++ zeros (n - length bytes)))) private_size_is
 
-  pub start_size : length (line_in (filled private_size bytes) line) ≡ 32
+  pub start_size : length (line_of_bytes (padded_block private_size bytes) line) ≡ 32
   start_size =
       ap length whole
       ∙ length-take-le 32 (drop m (bytes ++ pad)) (let a = length-drop m (bytes ++ pad) in let b =
       length-append bytes pad in let c = len (2 ^ 20 - length bytes) in omega arith)
 
   -- behind the image
-  pub start_zeros : line_count bytes ≤ line → line_in (filled private_size bytes) line ≡ zeros 32
+  pub start_zeros : line_count bytes ≤ line → line_of_bytes (padded_block private_size bytes) line ≡ zeros 32
   start_zeros past =
       let split : m ≡ length bytes + (m - length bytes) = omega arith in
       whole
@@ -47,7 +47,7 @@ module _ (bytes : List ℕ) (small : length bytes ≤ 2 ^ 20) (line : ℕ) (low 
 
   -- in the image
   pub start_image : line < line_count bytes
-      → line_in (filled private_size bytes) line ≡ line_of bytes line
+      → line_of_bytes (padded_block private_size bytes) line ≡ line_of_image bytes line
   start_image inside =
       let within : m ≤ length bytes = omega arith in
       let rest = drop m bytes in

@@ -26,7 +26,7 @@ use Rattle.mips_plain.proofs.Runs.{Reaches-more}
 use Rattle.tag_regs.specs.TaggedCells.{cell_at}
 use Rattle.session_table.specs.declared.session.Session.{Session}
 use Rattle.session_table.specs.declared.session.SlotState.TheVariants as state
-use Rattle.session_table.specs.Sessions.{free, is_live, left}
+use Rattle.session_table.specs.Sessions.{free, is_live, session_after_leaving}
 use Rattle.xom_versions.specs.Versions.{VersionLaw, Versions}
 use Rattle.xom_model.specs.Versions.{StandsFor}
 use Rattle.xom_model.specs.State.{CoreState, session_of}
@@ -38,8 +38,8 @@ use Rattle.xom_seal.specs.declared.names.RegName.{RegName}
 use Rattle.xom_seal.specs.Messages.{register_message}
 use Rattle.xom_model.specs.Kept.{Kept}
 use Rattle.xom_model.specs.Access.{without_guest}
-use Rattle.xom_model.specs.Guest.{after_delivery, after_exit, after_retirement, cells_after, core_after_step, given_out, mask_after, mask_written, received_by, seen_by, session_after_signal, session_after_step, signal_of, with_writes}
-use Rattle.xom_model.specs.Holds.{Agrees, FollowsAlone, RamFits, Holds, Installs, IsAlone, IsInstalled, IsLive, IsRunning, Private, Shape, line_in}
+use Rattle.xom_model.specs.Guest.{after_delivery, after_exit, after_retirement, cells_after_step, core_after_step, given_out, mask_after, mask_written, received_by, seen_by, session_after_signal, session_after_step, signal_of, with_writes}
+use Rattle.xom_model.specs.Holds.{Agrees, FollowsAlone, Holds, Installs, IsAlone, IsInstalled, IsLive, IsRunning, Private, RamFits, Shape, line_of_bytes}
 use Rattle.xom_model.proofs.Places.{steps_of-other, steps_of-step, step_in-other, IsInstalled-more}
 use Rattle.xom_model.proofs.Frame.{IsAlone-same, Owes, changed_holds}
 use Rattle.xom_model.proofs.SameSight.{tried-same, sight-same}
@@ -70,7 +70,7 @@ module _ (Stands : StandsFor) (owners : List Owner) (v : Versions) (law : Versio
     (owner : Owner) (p : State) (follows : FollowsAlone owners core.entries
     (session_of core slot).install (session_of core slot).id owner p)
     (agrees : Agrees (session_of core slot) core.cells core.entries slot owner p)
-    (private : Private Stands core slot owner (line_in p.bytes)) where
+    (private : Private Stands core slot owner (line_of_bytes p.bytes)) where
   pub live : IsLive core slot
   live = rw runs refl
 
@@ -152,7 +152,7 @@ module _ (Stands : StandsFor) (owners : List Owner) (v : Versions) (law : Versio
     }
 
     -- the registers are those of the program after it
-    tied_next : Tied slot (cells_after slot core.cells step) next.cells
+    tied_next : Tied slot (cells_after_step slot core.cells step) next.cells
         (mask_after (session_of core slot).mask step)
     tied_next = rw takes.cells (Tied-released slot (with_writes slot core.cells step.writes)
         (with_owned p.cells step.writes) (mask_written (session_of core slot).mask step.writes)
@@ -162,9 +162,9 @@ module _ (Stands : StandsFor) (owners : List Owner) (v : Versions) (law : Versio
         tied))
 
     -- a cell that has another slot's tag afterwards is as it was
-    foreign_next : (reg : ℕ) → (cell_at (cells_after slot core.cells step) reg).tag ≢ 0
-        → (cell_at (cells_after slot core.cells step) reg).tag ≢ slot
-        → cell_at (cells_after slot core.cells step) reg ≡ cell_at core.cells reg
+    foreign_next : (reg : ℕ) → (cell_at (cells_after_step slot core.cells step) reg).tag ≢ 0
+        → (cell_at (cells_after_step slot core.cells step) reg).tag ≢ slot
+        → cell_at (cells_after_step slot core.cells step) reg ≡ cell_at core.cells reg
     foreign_next reg has other =
         let written = with_writes slot core.cells step.writes in
         let places = length-written slot core.cells step.writes ∙ holds.slots.cell_places in
@@ -217,7 +217,7 @@ module _ (Stands : StandsFor) (owners : List Owner) (v : Versions) (law : Versio
 
     abbrev rest : CoreState
     rest =
-        aside Stands owners v law mid (cells_after slot core.cells step) core.pointers
+        aside Stands owners v law mid (cells_after_step slot core.cells step) core.pointers
         (given_out core.ram step.released) longer
         (entry.Step (session_of core slot).install step ∷ [], refl) rest_seals
 
@@ -239,7 +239,7 @@ module _ (Stands : StandsFor) (owners : List Owner) (v : Versions) (law : Versio
     shape_taken : Shape taken
     shape_taken = session_shape Stands rest slot session not_null within live its_live its_install
         its_id
-        (aside_shape Stands owners v law mid (cells_after slot core.cells step) core.pointers
+        (aside_shape Stands owners v law mid (cells_after_step slot core.cells step) core.pointers
         (given_out core.ram step.released) longer (
           entry.Step (session_of core slot).install step
               ∷ [],
@@ -251,17 +251,17 @@ module _ (Stands : StandsFor) (owners : List Owner) (v : Versions) (law : Versio
         → Private Stands taken k its memory
     private_more k its memory old = session_private Stands rest slot session not_null within live
         its_live its_install its_id its_who k its memory
-        (aside_private Stands owners v law mid (cells_after slot core.cells step) core.pointers
+        (aside_private Stands owners v law mid (cells_after_step slot core.cells step) core.pointers
         (given_out core.ram step.released) longer (
           entry.Step (session_of core slot).install step
               ∷ [],
           refl,
         ) rest_seals k its memory old)
 
-    private_own : Private Stands taken slot owner (line_in next.bytes)
+    private_own : Private Stands taken slot owner (line_of_bytes next.bytes)
     private_own =
-        private_more slot owner (line_in next.bytes)
-        (subst (λ b. Private Stands mid slot owner (line_in b)) (sym takes.bytes)
+        private_more slot owner (line_of_bytes next.bytes)
+        (subst (λ b. Private Stands mid slot owner (line_of_bytes b)) (sym takes.bytes)
         (stored_own Stands core slot place not_null step.stored at holds.slots.shape owner
         p.bytes private))
 
@@ -378,7 +378,7 @@ module _ (Stands : StandsFor) (owners : List Owner) (v : Versions) (law : Versio
     abbrev pub left_core : CoreState
     left_core = (after_exit taken slot).0
 
-    session_gone : session_of left_core slot ≡ left (session_of taken slot) state.Ended
+    session_gone : session_of left_core slot ≡ session_after_leaving (session_of taken slot) state.Ended
     unfolding without_guest
     session_gone =
         get_or-set_same taken.sessions slot _ free

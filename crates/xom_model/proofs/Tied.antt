@@ -14,23 +14,23 @@ use Rattle.xom_base.specs.declared.step.Released.TheVariants as released
 use Rattle.mips_effect.specs.Effects.{AreCells}
 use Rattle.mips_plain.specs.declared.cell.PlainCell.{PlainCell}
 use Rattle.mips_plain.specs.declared.cell.PlainCell.TheVariants.{Own, Lent}
-use Rattle.mips_plain.specs.Machine.{cell_at as plain_cell, with_lent, with_owned}
+use Rattle.mips_plain.specs.Machine.{plain_cell_at as plain_cell, with_lent, with_owned}
 use Rattle.tag_regs.specs.declared.cell.Cell.{Cell}
-use Rattle.tag_regs.specs.TaggedCells.{cell_at, empty}
-use Rattle.session_table.specs.Masks.{with_cell, without_cell}
+use Rattle.tag_regs.specs.TaggedCells.{cell_at, empty_cell}
+use Rattle.session_table.specs.Masks.{mask_with_cell, without_cell}
 use Rattle.xom_model.specs.Guest.{mask_released, mask_written, with_release, with_writes}
 use Rattle.xom_model.specs.Holds.{own_bit}
 
 -- the mask after a cell was added
-with_cell-same : (mask reg : ℕ) → bit_at (with_cell mask reg) reg ≡ 1
-unfolding with_cell
+with_cell-same : (mask reg : ℕ) → bit_at (mask_with_cell mask reg) reg ≡ 1
+unfolding mask_with_cell
 with_cell-same mask reg =
     bit_at_or mask (2 ^ reg) reg
     ∙ rw (bit_at-pow_same reg) (let low : bit_at mask reg < 2 = bit_at-lt mask reg in omega arith)
 
 with_cell-other : (mask reg other : ℕ) → other ≢ reg
-    → bit_at (with_cell mask reg) other ≡ bit_at mask other
-unfolding with_cell
+    → bit_at (mask_with_cell mask reg) other ≡ bit_at mask other
+unfolding mask_with_cell
 with_cell-other mask reg other differs =
     bit_at_or mask (2 ^ reg) other ∙ rw (bit_at-pow_other reg other differs) (omega arith)
 
@@ -64,7 +64,7 @@ module _ (slot : ℕ) (cells : List Cell) (owns : List PlainCell) (mask reg valu
   new_cell : (tag : ℕ) → cell_at (set cells reg (record { value = value; tag = tag }))
       reg ≡ record { value = value; tag = tag }
   new_cell tag =
-      get_or-set_same cells reg _ empty
+      get_or-set_same cells reg _ empty_cell
       (let whole : length cells ≡ 34 = tied.cell_places in omega arith)
 
   new_own : (own : PlainCell) → plain_cell (set owns reg own) reg ≡ own
@@ -74,7 +74,7 @@ module _ (slot : ℕ) (cells : List Cell) (owns : List PlainCell) (mask reg valu
 
   -- a cell is written
   Tied-owned : Tied slot (set cells reg (record { value = value; tag = slot }))
-      (set owns reg (Own value)) (with_cell mask reg)
+      (set owns reg (Own value)) (mask_with_cell mask reg)
   Tied-owned = record {
     bits = λ r from to. elim (eqb_tells r reg) [
       | inl is ↦ rw is.1 (with_cell-same mask reg ∙ sym (ap own_bit (new_own (Own value))))
@@ -84,7 +84,7 @@ module _ (slot : ℕ) (cells : List Cell) (owns : List PlainCell) (mask reg valu
     values = λ r from to tag. elim (eqb_tells r reg) [
       | inl is ↦ rw is.1 (new_own (Own value) ∙ ap (λ c. Own c.value) (sym (new_cell slot)))
       | inr other ↦
-          let same = get_or-set_other cells reg r (record { value = value; tag = slot }) empty
+          let same = get_or-set_other cells reg r (record { value = value; tag = slot }) empty_cell
           other.1 in
           get_or-set_other owns reg r (Own value) Lent other.1 ∙ tied.values r from to
           (ap (λ c. c.tag) (sym same) ∙ tag) ∙ ap (λ c. Own c.value) (sym same)
@@ -92,7 +92,7 @@ module _ (slot : ℕ) (cells : List Cell) (owns : List PlainCell) (mask reg valu
     tags = λ r from to bit. elim (eqb_tells r reg) [
       | inl is ↦ rw is.1 (ap (λ c. c.tag) (new_cell slot))
       | inr other ↦
-          ap (λ c. c.tag) (get_or-set_other cells reg r (record { value = value; tag = slot }) empty
+          ap (λ c. c.tag) (get_or-set_other cells reg r (record { value = value; tag = slot }) empty_cell
           other.1)
           ∙ tied.tags r from to (sym (with_cell-other mask reg r other.1) ∙ bit)
     ];
@@ -114,7 +114,7 @@ module _ (slot : ℕ) (cells : List Cell) (owns : List PlainCell) (mask reg valu
     values = λ r from to tag. elim (eqb_tells r reg) [
       | inl is ↦ absurd (some (sym (rw is.1 at tag) ∙ ap (λ c. c.tag) (new_cell 0)))
       | inr other ↦
-          let same = get_or-set_other cells reg r (record { value = value; tag = 0 }) empty
+          let same = get_or-set_other cells reg r (record { value = value; tag = 0 }) empty_cell
           other.1 in
           get_or-set_other owns reg r Lent Lent other.1 ∙ tied.values r from to
           (ap (λ c. c.tag) (sym same) ∙ tag) ∙ ap (λ c. Own c.value) (sym same)
@@ -124,7 +124,7 @@ module _ (slot : ℕ) (cells : List Cell) (owns : List PlainCell) (mask reg valu
           reg (omega arith) in let one : bit_at (without_cell mask reg) reg ≡ 1 = rw is.1 at bit in
           omega arith)
       | inr other ↦
-          ap (λ c. c.tag) (get_or-set_other cells reg r (record { value = value; tag = 0 }) empty
+          ap (λ c. c.tag) (get_or-set_other cells reg r (record { value = value; tag = 0 }) empty_cell
           other.1)
           ∙ tied.tags r from to
           (sym (without_cell-other mask reg r (omega arith) (omega arith) other.1) ∙ bit)
@@ -171,9 +171,9 @@ foreign-set : (slot tag reg r value : ℕ) (cells : List Cell) → length cells 
 foreign-set slot tag reg r value cells whole known own some other = elim (eqb_tells r reg) [
   | inl is ↦
       let here : (cell_at (set cells reg (record { value = value; tag = tag })) r).tag ≡ tag =
-      rw is.1 (ap (λ c. c.tag) (get_or-set_same cells reg _ empty (omega arith))) in
+      rw is.1 (ap (λ c. c.tag) (get_or-set_same cells reg _ empty_cell (omega arith))) in
       absurd (elim own [ inl none ↦ some (here ∙ none) | inr its ↦ other (here ∙ its) ])
-  | inr differs ↦ get_or-set_other cells reg r _ empty differs.1
+  | inr differs ↦ get_or-set_other cells reg r _ empty_cell differs.1
 ]
 
 pub foreign-written : (slot r : ℕ) (cells : List Cell) (written : Writes) → length cells ≡ 34

@@ -25,16 +25,16 @@ use Rattle.mips_effect.specs.declared.wish.Wish.TheVariants as wish
 use Rattle.mips_plain.specs.Instruction.{is_code, step_made, step_of_wish}
 use Rattle.session_table.specs.declared.session.Session.{Session}
 use Rattle.session_table.specs.declared.session.SlotState.TheVariants as state
-use Rattle.session_table.specs.Sessions.{free, left, session_at}
+use Rattle.session_table.specs.Sessions.{free, session_after_leaving, session_at}
 use Rattle.xom_versions.specs.declared.store.Torn.{Torn}
 use Rattle.xom_model.specs.declared.reach.Reach.{Reach}
 use Rattle.xom_model.specs.declared.reach.Reach.TheVariants as reach
 use Rattle.xom_versions.specs.Versions.{Versions}
 use Rattle.line_cache.specs.declared.way.Way.{Way}
-use Rattle.line_cache.specs.Ways.{found, free_way, way_at, new_way, place_for}
+use Rattle.line_cache.specs.Ways.{free_way, new_way, place_for, place_of_line, way_at}
 use Rattle.page_map.specs.Pages.{frame_of}
-use Rattle.xom_model.specs.State.{CoreState, core_with_hashes, page_of, session_of, store_of, with_entry, with_way}
-use Rattle.xom_model.specs.Lines.{accept_entry, ct_place, keys_of, name_of, sealed_at, who_of}
+use Rattle.xom_model.specs.State.{CoreState, core_with_hashes, core_with_way, page_of, session_of, store_of, with_entry}
+use Rattle.xom_model.specs.Lines.{accept_entry, ct_place, keys_of, line_name_of, sealed_at, who_of}
 use Rattle.xom_model.specs.Access.{access, after_opening, after_raise, after_seal, after_stop, after_victim, brought, cleared_at, or_stopped, reach_after_placing, reach_after_victim, reach_by_cache, reach_in_frame, read_from, sealed_by_raise, with_pointers, without_guest}
 use Rattle.xom_model.specs.Guest.{address_in, after_effect, after_exit, after_retirement, after_step, after_trap, code_reached, core_after_step, data_of, data_reached, guest, received_by, retirement, session_after_step, word_in, word_loaded, word_tried}
 use Rattle.xom_model.specs.Holds.{IsLive, IsRunning}
@@ -90,11 +90,11 @@ pub record Parts (v : Versions) (slot : ℕ) (R : CoreState → CoreState → Ty
       → R core (with_entry core (accept_entry (who_of core slot) line version ct place))
   pub point : (core : CoreState) (line : ℕ) → R core (with_pointers core line)
   pub bring : (core : CoreState) (place : ℕ) (way : Way) → (way_at core.ways place).dirty ≡ false
-      → MayCome slot core way → R core (with_way core place way)
+      → MayCome slot core way → R core (core_with_way core place way)
   pub seal : (core : CoreState) (place version : ℕ) (way : Way)
       → (way_at core.ways place).dirty ≡ true
       → raised_for v core (way_at core.ways place) ≡ Ok version → MayCome slot core way
-      → R core (with_way (written_back v core (way_at core.ways place) version) place way)
+      → R core (core_with_way (written_back v core (way_at core.ways place) version) place way)
   pub tear : (core : CoreState) (place : ℕ) (torn : Torn) → (way_at core.ways place).dirty ≡ true
       → raised_for v core (way_at core.ways place) ≡ Err torn
       → R core (torn_off v core (way_at core.ways place) torn)
@@ -204,7 +204,7 @@ torn-session : (v : Versions) (core : CoreState) (way : Way) (torn : Torn) (slot
 unfolding without_guest after_raise
 torn-session v core way torn slot differs =
     get_or-set_other core.sessions way.slot slot
-    (left (session_of core way.slot) (state.Stopped (rule.TreeNode torn.level))) free differs
+    (session_after_leaving (session_of core way.slot) (state.Stopped (rule.TreeNode torn.level))) free differs
 
 written-sessions : (v : Versions) (core : CoreState) (way : Way) (version : ℕ)
     → (written_back v core way version).sessions ≡ core.sessions
@@ -243,10 +243,10 @@ module _ (v : Versions) (slot : ℕ) (R : CoreState → CoreState → Type 0)
 
     -- the new line is put
     filled : (mid : CoreState) → session_of mid slot ≡ session_of core slot
-        → R pointed (with_way mid place fresh_way)
-        → Walked core (with_way mid place fresh_way, reach.Ready place)
+        → R pointed (core_with_way mid place fresh_way)
+        → Walked core (core_with_way mid place fresh_way, reach.Ready place)
     filled mid same walked = (
-      parts.on core pointed (with_way mid place fresh_way) (parts.point core line) walked,
+      parts.on core pointed (core_with_way mid place fresh_way) (parts.point core line) walked,
       (same, own-put mid.ways slot place fresh_way refl),
     )
 
@@ -307,10 +307,10 @@ module _ (v : Versions) (slot : ℕ) (R : CoreState → CoreState → Type 0)
       (read_from v core slot line frame version) (λ result. Walked core result)
       (λ _. walk_placed core line (replicate 32 0) runs)
       (λ _. walk_opened core line version (ct_place frame line) (sealed_at core.ram frame line).ct
-      (unsealed_line (name_of (who_of core slot) line version)
+      (unsealed_line (line_name_of (who_of core slot) line version)
       (keys_of (who_of core slot) line version) (sealed_at core.ram frame line)) runs)
 
-  walk_looked : (core : CoreState) (line frame : ℕ) (at : Option ℕ) → found core.ways slot line ≡ at
+  walk_looked : (core : CoreState) (line frame : ℕ) (at : Option ℕ) → place_of_line core.ways slot line ≡ at
       → IsRunning core slot → Walked core (reach_by_cache v core slot line frame at)
   walk_looked core line frame (Some place) is runs =
       (parts.none core, (refl, inl (found-IsOf core.ways slot line place is).0))
@@ -329,8 +329,8 @@ module _ (v : Versions) (slot : ℕ) (R : CoreState → CoreState → Type 0)
       → Accessed core (reach_in_frame v core slot line frame)
   walk_mapped core line None runs = (parts.none core, refl)
   walk_mapped core line (Some frame) runs =
-      let result = reach_by_cache v core slot line frame (found core.ways slot line) in
-      let walked = walk_looked core line frame (found core.ways slot line) refl runs in
+      let result = reach_by_cache v core slot line frame (place_of_line core.ways slot line) in
+      let walked = walk_looked core line frame (place_of_line core.ways slot line) refl runs in
       (walked.0, found-Reached core slot result.0 result.1 walked.1)
 
   pub walk_access : (core : CoreState) (line : ℕ) → IsRunning core slot

@@ -15,22 +15,22 @@ use Rattle.xom_base.specs.declared.step.Writes.{Writes}
 use Rattle.xom_base.specs.declared.step.Writes.TheVariants as writes
 use Rattle.xom_seal.specs.declared.envelope.Unwrapped.{Unwrapped}
 use Rattle.xom_seal.specs.declared.names.RegName.{RegName}
-use Rattle.xom_seal.specs.Envelopes.{unwrapped}
+use Rattle.xom_seal.specs.Envelopes.{envelope_contents}
 use Rattle.xom_seal.specs.Messages.{register_message}
 use Rattle.tag_regs.specs.declared.cell.Cell.{Cell}
 use Rattle.session_table.specs.declared.session.SlotState.{SlotState}
 use Rattle.session_table.specs.declared.session.SlotState.TheVariants as state
-use Rattle.session_table.specs.Sessions.{entered, free, is_live, resumed}
+use Rattle.session_table.specs.Sessions.{free, is_live, session_after_enter, session_after_resume}
 use Rattle.xom_versions.specs.declared.store.Torn.{Torn}
 use Rattle.xom_versions.specs.Versions.{Versions}
 use Rattle.line_cache.specs.declared.way.Way.{Way}
-use Rattle.line_cache.specs.Ways.{found, free_way, way_at}
+use Rattle.line_cache.specs.Ways.{free_way, place_of_line, way_at}
 use Rattle.page_map.specs.Pages.{with_page}
 use Rattle.tag_regs.specs.TaggedCells.{cell_at}
-use Rattle.xom_model.specs.State.{CoreState, Record, session_of, with_cells, with_entry, with_session}
+use Rattle.xom_model.specs.State.{CoreState, Record, core_with_session, session_of, with_cells, with_entry}
 use Rattle.xom_model.specs.Access.{after_eviction, after_flush, after_raise, after_victim, and_then, cleared_at, or_stopped, sealed_by_raise, taken_out}
 use Rattle.xom_model.specs.Guest.{after_delivery, guest, session_after_signal, signal_of}
-use Rattle.xom_model.specs.Operation.{after_install, after_kill, after_reopening, after_restore, after_save, after_unmap, can_come_back, enter, envelope_at, epoch_of, first_refusal_or, go_on, image_tests, install, install_tests, is_bad_image, is_bad_slot, is_cell, is_free_state, is_paused, is_slot, kill, kill_tests, map_page, map_tests, missing_cell, operation, refusal_of, reopening, restore_register, restore_tests, resume, resume_paused, save_register, save_tests, session_for, set_register, slot_takes_signal, unmap_page, unmap_tests, unwrap, with_signal}
+use Rattle.xom_model.specs.Operation.{after_install, after_kill, after_reopening, after_restore, after_save, after_unmap, can_come_back, enter, envelope_in_ram, epoch_of, first_refusal_or, image_tests, install, install_tests, is_bad_image, is_bad_slot, is_cell, is_free_state, is_paused, is_slot, kill, kill_tests, map_page, map_tests, missing_cell, operation, refusal_of, reopening, restore_register, restore_tests, resume, resume_or_stop, resume_paused, save_register, save_tests, session_for, set_register, slot_takes_signal, unmap_page, unmap_tests, unwrap, with_signal}
 use Rattle.xom_model.specs.Lines.{who_of}
 use Rattle.xom_model.specs.Saves.{reg_accept_entry, reg_keys, reg_name, reg_pair, saved_at, sealed_reg}
 use Rattle.xom_model.specs.Null.{Answer, null_step, with_null_writes}
@@ -49,9 +49,9 @@ pub record Deeds (v : Versions) (slot : ℕ) (R T : CoreState → CoreState → 
       → R core (with_cells core (set core.cells reg (record { value = value; tag = 0 })))
   pub sets_ram : (core : CoreState) (ram : List ℕ) → R core (record core { ram = ram })
   pub enters : (core : CoreState) → (session_of core slot).state ≡ state.Fresh
-      → R core (with_session core slot (entered (session_of core slot)))
+      → R core (core_with_session core slot (session_after_enter (session_of core slot)))
   pub resumes : (core : CoreState) → (session_of core slot).state ≡ state.Paused
-      → R core (with_session core slot (resumed (session_of core slot)))
+      → R core (core_with_session core slot (session_after_resume (session_of core slot)))
   pub maps : (core : CoreState) (page : ℕ) (frame : Option ℕ) → IsLive core slot ⊎ (frame ≡ None)
       → R core (record core { pages = with_page core.pages slot page frame })
   pub kills : (core : CoreState) → 1 ≤ slot → slot ≤ 16
@@ -59,7 +59,7 @@ pub record Deeds (v : Versions) (slot : ℕ) (R T : CoreState → CoreState → 
   pub outs : (core : CoreState) (byte : ℕ) → R core (with_entry core (entry.Out byte))
   pub installs : (core : CoreState) (place area : ℕ) (plain : Unwrapped) → 1 ≤ slot → slot ≤ 16
       → (session_of core slot).state ≡ state.Free
-      → unwrapped core.machine (envelope_at core place) ≡ Some plain
+      → envelope_contents core.machine (envelope_in_ram core place) ≡ Some plain
       → is_bad_image (session_for core plain) ≡ false
       → T core (after_install v core slot place area plain)
   pub saves : (core : CoreState) (key ct : List ℕ) (name : RegName) → IsLive core slot
@@ -171,8 +171,8 @@ module _ (v : Versions) (slot : ℕ) (R T : CoreState → CoreState → Type 0) 
   unfolding after_flush
   walk_flushed zero line core = parts.none core
   walk_flushed (suc count) line core =
-      then_walks core (taken_out v core (found core.ways slot line))
-      (after_flush v slot count (line + 1)) (walk_taken core (found core.ways slot line))
+      then_walks core (taken_out v core (place_of_line core.ways slot line))
+      (after_flush v slot count (line + 1)) (walk_taken core (place_of_line core.ways slot line))
       (λ mid. walk_flushed count (line + 1) mid)
 
   -- ---- Operations
@@ -194,9 +194,9 @@ module _ (v : Versions) (slot : ℕ) (R T : CoreState → CoreState → Type 0) 
 
   module _ (core : CoreState) (is : (session_of core slot).state ≡ state.Paused) (signal : ℕ) where
     abbrev now : CoreState
-    now = with_session core slot (resumed (session_of core slot))
+    now = core_with_session core slot (session_after_resume (session_of core slot))
 
-    here : session_of now slot ≡ resumed (session_of core slot)
+    here : session_of now slot ≡ session_after_resume (session_of core slot)
     here = get_or-set_same core.sessions slot _ free (paused-within core slot is)
 
     -- a signal is a step
@@ -209,7 +209,7 @@ module _ (v : Versions) (slot : ℕ) (R T : CoreState → CoreState → Type 0) 
         (record { install = refl; id = refl; key = refl; lines = refl; epoch = refl; state = refl })
         tt)
 
-    walk_go_on : (lost : Option ℕ) → T core (go_on core slot signal lost).0
+    walk_go_on : (lost : Option ℕ) → T core (resume_or_stop core slot signal lost).0
     walk_go_on None = by_parts core _ (parts.on core now _ (deeds.resumes core is) walk_signal)
     walk_go_on (Some reg) =
         by_parts core _ (parts.stop core (rule.RegisterMissing reg) (ap is_live is))
@@ -217,10 +217,10 @@ module _ (v : Versions) (slot : ℕ) (R T : CoreState → CoreState → Type 0) 
     walk_paused : T core (resume_paused core slot signal).0
     walk_paused =
         either core (nat_le signal 63) (cond (slot_takes_signal (session_of core slot) signal)
-        (go_on core slot signal (missing_cell slot (session_of core slot).mask core.cells))
+        (resume_or_stop core slot signal (missing_cell slot (session_of core slot).mask core.cells))
         (core, 2)) (core, 7)
         (λ _. either core (slot_takes_signal (session_of core slot) signal)
-        (go_on core slot signal (missing_cell slot (session_of core slot).mask core.cells))
+        (resume_or_stop core slot signal (missing_cell slot (session_of core slot).mask core.cells))
         (core, 2)
         (λ _. walk_go_on (missing_cell slot (session_of core slot).mask core.cells))
         (ends.went core))
@@ -245,7 +245,7 @@ module _ (v : Versions) (slot : ℕ) (R T : CoreState → CoreState → Type 0) 
 
   walk_unwrap : (core : CoreState) (place area : ℕ) → (1 ≤ slot) × (slot ≤ 16)
       → (session_of core slot).state ≡ state.Free
-      → (opens : Option Unwrapped) → unwrapped core.machine (envelope_at core place) ≡ opens
+      → (opens : Option Unwrapped) → envelope_contents core.machine (envelope_in_ram core place) ≡ opens
       → T core (unwrap v core slot place area opens).0
   walk_unwrap core place area slots is_free None is = ends.went core
   walk_unwrap core place area slots is_free (Some plain) is =
@@ -255,10 +255,10 @@ module _ (v : Versions) (slot : ℕ) (R T : CoreState → CoreState → Type 0) 
 
   walk_install : (core : CoreState) (place area : ℕ) → T core (install v core slot place area).0
   walk_install core place area = walk_tested core (install_tests core slot place area)
-      (unwrap v core slot place area (unwrapped core.machine (envelope_at core place)))
+      (unwrap v core slot place area (envelope_contents core.machine (envelope_in_ram core place)))
       (λ (p : Passes (install_tests core slot place area)).
       walk_unwrap core place area (slot_from slot p.0) (free_of (session_of core slot).state p.1.0)
-      (unwrapped core.machine (envelope_at core place)) refl)
+      (envelope_contents core.machine (envelope_in_ram core place)) refl)
 
   walk_map : (core : CoreState) (page frame : ℕ) → T core (map_page v core slot page frame).0
   walk_map core page frame = walk_tested core (map_tests core slot page frame)
@@ -298,8 +298,8 @@ module _ (v : Versions) (slot : ℕ) (R T : CoreState → CoreState → Type 0) 
       (deeds.sets_ram sealed _)))
 
   -- it comes back, or stops its slot
-  walk_reopened : (core : CoreState) (reg address : ℕ) → IsLive core slot → (found : Option ℕ)
-      → T core (after_reopening core slot reg address found).0
+  walk_reopened : (core : CoreState) (reg address : ℕ) → IsLive core slot → (place_of_line : Option ℕ)
+      → T core (after_reopening core slot reg address place_of_line).0
   unfolding after_restore
   walk_reopened core reg address alive None =
       by_parts core _ (parts.stop core (rule.RegisterTag reg) alive)

@@ -17,7 +17,7 @@ use Rattle.xom_model.specs.State.{Record, power_on}
 use Rattle.xom_model.specs.Operation.{operation}
 use Rattle.xom_model.specs.Null.{fetched_open, null_step, ram_after_write}
 use Rattle.xom_model.specs.Event.{on}
-use Rattle.xom_model.specs.Run.{end_of, event_of, run_from}
+use Rattle.xom_model.specs.Run.{end_of_run, event_of, run_from}
 use Rattle.xom_model.specs.Seen.{View}
 
 -- a machine with these bytes in RAM, and null code at address 0
@@ -50,7 +50,7 @@ always t k view = Some (t, ([], k))
 
 abbrev ends_as : Option Record → Option RunEnd
 ends_as None = None
-ends_as (Some r) = Some (end_of r)
+ends_as (Some r) = Some (end_of_run r)
 
 abbrev five_events : Turn → Option RunEnd
 five_events t = ends_as (run_from chip (always t) calm 5 0 (machine []) 0)

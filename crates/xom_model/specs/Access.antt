@@ -4,10 +4,10 @@ use Rattle.xom_base.specs.declared.entry.Entry.TheVariants as entry
 use Rattle.xom_base.specs.declared.event.Rule.{Rule}
 use Rattle.xom_base.specs.declared.event.Rule.TheVariants as rule
 use Rattle.xom_seal.specs.Sealing.{unsealed_line}
-use Rattle.tag_regs.specs.TaggedCells.{scrubbed}
+use Rattle.tag_regs.specs.TaggedCells.{cells_after_scrub}
 use Rattle.session_table.specs.declared.session.SlotState.{SlotState}
 use Rattle.session_table.specs.declared.session.SlotState.TheVariants as state
-use Rattle.session_table.specs.Sessions.{left}
+use Rattle.session_table.specs.Sessions.{session_after_leaving}
 use Rattle.xom_model.specs.declared.reach.Reach.{Reach}
 use Rattle.xom_model.specs.declared.reach.Reach.TheVariants as reach
 use Rattle.xom_versions.specs.declared.store.Torn.{Torn}
@@ -15,9 +15,9 @@ use Rattle.xom_versions.specs.Versions.{Versions}
 use Rattle.line_ram.specs.Bytes.{line_size}
 use Rattle.page_map.specs.Pages.{frame_of, without_pages}
 use Rattle.line_cache.specs.declared.way.Way.{Way}
-use Rattle.line_cache.specs.Ways.{free_way, found, new_way, place_for, pointers_after, way_at, without_slot}
-use Rattle.xom_model.specs.State.{CoreState, core_with_hashes, page_of, session_of, store_of, with_entry, with_session, with_way}
-use Rattle.xom_model.specs.Lines.{who_of, name_of, keys_of, sealed_as, seal_entry, accept_entry, ct_place, sealed_at, with_sealed}
+use Rattle.line_cache.specs.Ways.{free_way, new_way, place_for, place_of_line, pointers_after, way_at, without_slot}
+use Rattle.xom_model.specs.State.{CoreState, core_with_hashes, core_with_session, core_with_way, page_of, session_of, store_of, with_entry}
+use Rattle.xom_model.specs.Lines.{accept_entry, ct_place, keys_of, line_name_of, seal_entry, sealed_as, sealed_at, who_of, with_sealed}
 
 -- ---- Leaving for good
 
@@ -26,7 +26,7 @@ use Rattle.xom_model.specs.Lines.{who_of, name_of, keys_of, sealed_as, seal_entr
 unfoldable pub without_guest : CoreState → ℕ → CoreState
 without_guest core slot =
     record core {
-      cells = scrubbed slot core.cells;
+      cells = cells_after_scrub slot core.cells;
       ways = without_slot slot core.ways;
       pages =
           without_pages core.pages slot;
@@ -34,7 +34,7 @@ without_guest core slot =
 
 abbrev pub after_leaving : CoreState → ℕ → SlotState → CoreState
 after_leaving core slot final =
-    with_session (without_guest core slot) slot (left (session_of core slot) final)
+    core_with_session (without_guest core slot) slot (session_after_leaving (session_of core slot) final)
 
 -- the guest is stopped for good by a rule
 abbrev pub after_stop : CoreState → ℕ → Rule → CoreState
@@ -52,7 +52,7 @@ with_pointers core line = record core { pointers = pointers_after core.ways core
 
 -- a line that was written back, where it was dirty, is taken out
 abbrev pub after_eviction : ℕ → CoreState × Option Rule → CoreState × Option Rule
-after_eviction place (core, None) = (with_way core place free_way, None)
+after_eviction place (core, None) = (core_with_way core place free_way, None)
 after_eviction place (core, Some why) = (core, Some why)
 
 -- one part, and then the rest, unless the slot was stopped
@@ -111,10 +111,10 @@ module _ (v : Versions) where
   abbrev pub reach_after_victim : ℕ → ℕ → ℕ → ℕ → List ℕ → CoreState × Option Rule
       → CoreState × Reach
   reach_after_victim victim place slot line bytes (core, None) =
-      (with_way core place (new_way slot line bytes), reach.Ready place)
+      (core_with_way core place (new_way slot line bytes), reach.Ready place)
   reach_after_victim victim place slot line bytes (core, Some why) =
       if victim == slot then (core, reach.Stopped why)
-      else (with_way core place (new_way slot line bytes), reach.Ready place)
+      else (core_with_way core place (new_way slot line bytes), reach.Ready place)
 
   -- A line is placed: its way is chosen first, and stays chosen; then a dirty victim is written
   -- back.
@@ -137,7 +137,7 @@ module _ (v : Versions) where
   read_from core slot line frame version =
       let sealed = sealed_at core.ram frame line in
       after_opening core slot line version (ct_place frame line) sealed.ct
-      (unsealed_line (name_of (who_of core slot) line version)
+      (unsealed_line (line_name_of (who_of core slot) line version)
       (keys_of (who_of core slot) line version) sealed)
 
   -- version 0 means zeros, and RAM isn't read
@@ -158,7 +158,7 @@ module _ (v : Versions) where
   abbrev pub reach_in_frame : CoreState → ℕ → ℕ → Option ℕ → CoreState × Reach
   reach_in_frame core slot line None = (core, reach.PageFault (page_of line))
   reach_in_frame core slot line (Some frame) =
-      reach_by_cache core slot line frame (found core.ways slot line)
+      reach_by_cache core slot line frame (place_of_line core.ways slot line)
 
   -- the private access to a line of a slot
   unfoldable pub access : CoreState → ℕ → ℕ → CoreState × Reach
@@ -175,4 +175,4 @@ module _ (v : Versions) where
   unfoldable pub after_flush : ℕ → ℕ → ℕ → CoreState → CoreState × Option Rule
   after_flush slot zero line core = (core, None)
   after_flush slot (suc count) line core =
-      and_then (taken_out core (found core.ways slot line)) (after_flush slot count (line + 1))
+      and_then (taken_out core (place_of_line core.ways slot line)) (after_flush slot count (line + 1))

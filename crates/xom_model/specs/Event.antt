@@ -11,7 +11,7 @@ use Rattle.xom_model.specs.declared.outcome.NullFault.{NullFault}
 use Rattle.xom_model.specs.Null.{Answer, Open, Told, null_step, ram_after_write}
 use Rattle.session_table.specs.Sessions.{running_in}
 use Rattle.xom_versions.specs.Versions.{Versions}
-use Rattle.xom_model.specs.State.{CoreState, Record, holds}
+use Rattle.xom_model.specs.State.{CoreState, Record, ram_holds_range}
 use Rattle.xom_model.specs.Guest.{guest}
 use Rattle.xom_model.specs.Operation.{operation}
 
@@ -77,7 +77,7 @@ abbrev pub after_kernel_write : Record → ℕ → List ℕ → Record × Outcom
 after_kernel_write r address bytes = (
   record (with_ram r (ram_after_write r.core.ram address bytes)) {
     status =
-        if holds r.core.ram address (length bytes) then 0 else 4;
+        if ram_holds_range r.core.ram address (length bytes) then 0 else 4;
   },
   outcome.Went,
 )

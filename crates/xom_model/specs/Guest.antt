@@ -16,27 +16,27 @@ use Rattle.xom_base.specs.declared.step.Released.TheVariants as released
 use Rattle.xom_base.specs.declared.step.StepEnd.{StepEnd}
 use Rattle.xom_base.specs.declared.step.StepEnd.TheVariants as ended
 use Rattle.xom_base.specs.declared.step.Step.{Step}
-use Rattle.mips_instruction.specs.Words.{read}
+use Rattle.mips_instruction.specs.Words.{instruction_of_word}
 use Rattle.mips_effect.specs.declared.effects.Effect.{Effect}
 use Rattle.mips_effect.specs.declared.seen.Seen.{Seen}
 use Rattle.mips_effect.specs.declared.seen.Seen.TheVariants.{Value, Foreign}
 use Rattle.mips_effect.specs.declared.wish.Wish.{Wish}
 use Rattle.mips_effect.specs.declared.wish.Wish.TheVariants as wish
 use Rattle.mips_plain.specs.Instruction.{effect_at, handler_after, instruction_or_fault, is_code, kept_after, signal_step, step_made}
-use Rattle.mips_plain.specs.Memory.{low_bytes, word_at, written_at}
-use Rattle.line_ram.specs.Bytes.{line_size, stored as stored_in_ram}
+use Rattle.mips_plain.specs.Memory.{low_bytes, word_at_address, written_at}
+use Rattle.line_ram.specs.Bytes.{line_size, ram_with_bytes as stored_in_ram}
 use Rattle.tag_regs.specs.declared.cell.Cell.{Cell}
 use Rattle.tag_regs.specs.TaggedCells.{cell_at, with_cell as written_cell}
 use Rattle.session_table.specs.declared.session.Session.{Session}
 use Rattle.session_table.specs.declared.session.SlotState.TheVariants as state
-use Rattle.session_table.specs.Masks.{with_cell, without_cell}
-use Rattle.session_table.specs.Sessions.{paused}
+use Rattle.session_table.specs.Masks.{mask_with_cell, without_cell}
+use Rattle.session_table.specs.Sessions.{session_after_pause}
 use Rattle.xom_model.specs.declared.reach.Reach.{Reach}
 use Rattle.xom_model.specs.declared.reach.Reach.TheVariants as reach
 use Rattle.xom_versions.specs.Versions.{Versions}
 use Rattle.line_cache.specs.declared.way.Way.{Way}
-use Rattle.line_cache.specs.Ways.{way_at, written}
-use Rattle.xom_model.specs.State.{CoreState, holds, line_at, session_of, with_entry, with_session}
+use Rattle.line_cache.specs.Ways.{way_at, way_with_bytes}
+use Rattle.xom_model.specs.State.{CoreState, core_with_session, line_of_address, ram_holds_range, session_of, with_entry}
 use Rattle.xom_model.specs.Access.{access, after_leaving}
 
 -- what a slot's guest sees in a cell: the value where the cell has the slot's tag; $0 is zero
@@ -48,7 +48,7 @@ seen_by slot cells reg = if reg == 0 then Value 0 else seen_as slot (cell_at cel
 
 -- the word of RAM at an address, 0 outside
 abbrev pub null_word : List ℕ → ℕ → ℕ
-null_word ram address = if holds ram address 4 then word_at ram address else 0
+null_word ram address = if ram_holds_range ram address 4 then word_at_address ram address else 0
 
 -- what comes from outside: the value of a cell of the null compartment, and 0 of any other's; or a
 -- word of RAM
@@ -65,7 +65,7 @@ abbrev pub given_out : List ℕ → Released → List ℕ
 given_out ram released.Nothing = ram
 given_out ram (released.Cell reg value) = ram
 given_out ram (released.Null address value) =
-    if holds ram address 4 then stored_in_ram ram address (to_be_bytes w32 value) else ram
+    if ram_holds_range ram address 4 then stored_in_ram ram address (to_be_bytes w32 value) else ram
 
 -- a written cell gets the slot's tag
 abbrev pub with_writes : ℕ → List Cell → Writes → List Cell
@@ -80,14 +80,14 @@ with_release cells (released.Cell reg value) = written_cell cells reg value 0
 with_release cells (released.Null address value) = cells
 
 -- the cells after a step of a slot's guest
-abbrev pub cells_after : ℕ → List Cell → Step → List Cell
-cells_after slot cells step = with_release (with_writes slot cells step.writes) step.released
+abbrev pub cells_after_step : ℕ → List Cell → Step → List Cell
+cells_after_step slot cells step = with_release (with_writes slot cells step.writes) step.released
 
 -- the cells that the guest owns after what it wrote and released
 abbrev pub mask_written : ℕ → Writes → ℕ
 mask_written mask writes.Nothing = mask
-mask_written mask (writes.One reg value) = with_cell mask reg
-mask_written mask (writes.Pair hi lo) = with_cell (with_cell mask 32) 33
+mask_written mask (writes.One reg value) = mask_with_cell mask reg
+mask_written mask (writes.Pair hi lo) = mask_with_cell (mask_with_cell mask 32) 33
 
 abbrev pub mask_released : ℕ → Released → ℕ
 mask_released mask released.Nothing = mask
@@ -109,7 +109,7 @@ session_after_step s effect step = record s {
 
 -- a way with bytes stored in it has still to be sealed
 abbrev pub stored_way : Way → ℕ → List ℕ → Way
-stored_way way address bytes = written way (written_at way.bytes (address % line_size) bytes)
+stored_way way address bytes = way_with_bytes way (written_at way.bytes (address % line_size) bytes)
 
 -- the cache after what a step stored in the line at a place
 abbrev pub stored_at : List Way → ℕ → Stored → List Way
@@ -123,7 +123,7 @@ abbrev pub core_after_step : CoreState → ℕ → ℕ → Session → Step → 
 core_after_step core slot place session step =
     with_entry
     (record core {
-      cells = cells_after slot core.cells step;
+      cells = cells_after_step slot core.cells step;
       sessions = slice_set core.sessions slot session;
       ways = stored_at core.ways place step.stored;
       ram = given_out core.ram step.released;
@@ -156,7 +156,7 @@ after_delivery core slot n =
 -- the guest leaves to come back: the pair is kept, and the epoch is raised
 abbrev pub after_trap : CoreState → ℕ → Cause → CoreState × Option Cause
 after_trap core slot why = (
-  with_entry (with_session core slot (paused (session_of core slot)))
+  with_entry (core_with_session core slot (session_after_pause (session_of core slot)))
       (entry.Trap (session_of core slot).install why),
   Some why,
 )
@@ -188,7 +188,7 @@ address_in other = None
 
 -- the word of a line that holds an address
 abbrev pub word_in : List ℕ → ℕ → ℕ
-word_in bytes address = word_at bytes ((address - address % 4) % line_size)
+word_in bytes address = word_at_address bytes ((address - address % 4) % line_size)
 
 -- the word that a load is made of, from its line; 0 where nothing is loaded
 abbrev pub word_loaded : List ℕ → Wish → ℕ
@@ -210,7 +210,7 @@ module _ (v : Versions) where
   abbrev pub data_of : CoreState → ℕ → Bool → Effect → Option ℕ → CoreState × Option Cause
   data_of core slot interrupt effect None = retirement core slot interrupt effect 0 0
   data_of core slot interrupt effect (Some address) = data_reached slot interrupt effect
-      (access v core slot (line_at address))
+      (access v core slot (line_of_address address))
 
   -- an own fault traps before anything changes, and an effect goes on to its access
   abbrev pub after_effect : CoreState → ℕ → Bool → Result Effect OwnFault → CoreState × Option Cause
@@ -222,7 +222,7 @@ module _ (v : Versions) where
   abbrev pub word_tried : CoreState → ℕ → ℕ → Result Effect OwnFault
   word_tried core slot word =
       effect_at (seen_by slot core.cells) (session_of core slot).saved
-      (instruction_or_fault (read word)) (session_of core slot).pc (session_of core slot).npc
+      (instruction_or_fault (instruction_of_word word)) (session_of core slot).pc (session_of core slot).npc
 
   abbrev pub code_reached : ℕ → Bool → CoreState × Reach → CoreState × Option Cause
   code_reached slot interrupt (core, reach.PageFault page) = after_trap core slot (cause.Page page)
@@ -236,5 +236,5 @@ module _ (v : Versions) where
   unfoldable pub guest : CoreState → ℕ → Bool → CoreState × Option Cause
   guest core slot interrupt =
       if is_code (session_of core slot).pc
-      then code_reached slot interrupt (access v core slot (line_at (session_of core slot).pc))
+      then code_reached slot interrupt (access v core slot (line_of_address (session_of core slot).pc))
       else after_trap core slot (cause.Fault fault.Address)

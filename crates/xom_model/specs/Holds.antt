@@ -12,10 +12,10 @@ use Rattle.xom_seal.specs.declared.names.LineName.TheVariants.{Image}
 use Rattle.xom_seal.specs.Messages.{envelope_message, line_message}
 use Rattle.xom_owners.specs.declared.owner.Owner.{Owner}
 use Rattle.xom_owners.specs.Owners.{owner_of}
-use Rattle.image_sealer.specs.Sealing.{line_count, line_of}
+use Rattle.image_sealer.specs.Sealing.{line_count, line_of_image}
 use Rattle.mips_plain.specs.declared.cell.PlainCell.{PlainCell}
 use Rattle.mips_plain.specs.declared.cell.PlainCell.TheVariants.{Own, Lent}
-use Rattle.mips_plain.specs.Machine.{State, start, cell_at as plain_cell}
+use Rattle.mips_plain.specs.Machine.{State, plain_cell_at as plain_cell, start}
 use Rattle.mips_plain.specs.Follows.{Reaches}
 use Rattle.tag_regs.specs.declared.cell.Cell.{Cell}
 use Rattle.tag_regs.specs.TaggedCells.{cell_at}
@@ -31,7 +31,7 @@ use Rattle.line_cache.specs.declared.way.Way.{Way}
 use Rattle.line_cache.specs.Ways.{way_at}
 use Rattle.line_ram.specs.Bytes.{HoldsFrame, bytes_at, line_size}
 use Rattle.page_map.specs.Pages.{Pages, frame_of}
-use Rattle.xom_model.specs.State.{CoreState, lines_of, page_of, session_of, store_of}
+use Rattle.xom_model.specs.State.{CoreState, lines_of_session, page_of, session_of, store_of}
 use Rattle.xom_model.specs.Lines.{Who, is_image_at, line_seals, run_pair, version_of_line, version_seals, who_of}
 use Rattle.xom_model.specs.Saves.{SavesAgree, SealsHold}
 
@@ -89,12 +89,12 @@ pub record Agrees (s : Session) (registers : List Cell) (entries : List Entry) (
 -- ---- Private memory, line by line
 
 -- a line of a block of bytes
-abbrev pub line_in : List ℕ → ℕ → List ℕ
-line_in bytes line = bytes_at bytes (line_size * line) line_size
+abbrev pub line_of_bytes : List ℕ → ℕ → List ℕ
+line_of_bytes bytes line = bytes_at bytes (line_size * line) line_size
 
 -- a line of an owner's image
 abbrev pub image_line : Owner → ℕ → List ℕ
-image_line owner line = line_of owner.plain.bytes line
+image_line owner line = line_of_image owner.plain.bytes line
 
 -- a place of the cache holds the line
 abbrev pub IsOf : Way → ℕ → ℕ → Type 0
@@ -127,7 +127,7 @@ pub record Shape (core : CoreState) : Type 0 where
   pub live : (place : ℕ) → (way_at core.ways place).slot ≢ 0
       → IsLive core (way_at core.ways place).slot
   pub inside : (place : ℕ) → (way_at core.ways place).slot ≢ 0
-      → (way_at core.ways place).line < lines_of (session_of core (way_at core.ways place).slot)
+      → (way_at core.ways place).line < lines_of_session (session_of core (way_at core.ways place).slot)
   pub mapped : (place : ℕ) → (way_at core.ways place).slot ≢ 0
       → (frame : ℕ) × (frame_of core.pages (way_at core.ways place).slot
       (page_of (way_at core.ways place).line) ≡ Some frame)
@@ -178,7 +178,7 @@ pub record RamFits (core : CoreState) : Type 0 where
 -- for the versions.
 pub record Private (Stands : StandsFor) (core : CoreState) (slot : ℕ) (owner : Owner)
     (memory : ℕ → List ℕ) : Type 0 where
-  pub lines : (line : ℕ) → line < lines_of (session_of core slot)
+  pub lines : (line : ℕ) → line < lines_of_session (session_of core slot)
       → LineHolds owner (who_of core slot) slot line core.ways (seals_of core.entries) (memory line)
   pub stands : Stands (store_of core slot) core.entries (version_of_line (who_of core slot)
       (seals_of core.entries))
@@ -190,7 +190,7 @@ IsHeld Stands owners core slot =
     × FollowsAlone owners core.entries (session_of core slot).install (session_of core slot).id
     owner p
     × Agrees (session_of core slot) core.cells core.entries slot owner p
-    × Private Stands core slot owner (line_in p.bytes)
+    × Private Stands core slot owner (line_of_bytes p.bytes)
     × SavesAgree (who_of core slot) (session_of core slot) (seals_of core.entries) p
 
 -- the entry installs a guest under this number and id

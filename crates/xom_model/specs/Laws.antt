@@ -13,7 +13,7 @@ use Rattle.image_sealer.specs.Laws.{IsOwner}
 use Rattle.mips_plain.specs.Machine.{State, plain}
 use Rattle.mips_plain.specs.declared.given.Given.TheVariants as given
 use Rattle.mips_plain.specs.declared.given.PlainStep.TheVariants as plain_step
-use Rattle.journal_findings.specs.Findings.{collision, forged, sealed_by}
+use Rattle.journal_findings.specs.Findings.{first_collision, first_forgery, sealed_by}
 use Rattle.xom_model.specs.Honest.{IsBounded, IsHonest, NoForgery, Sealing}
 use Rattle.xom_versions.specs.Store.{NoCollision}
 use Rattle.xom_versions.specs.Chip.{ChipStands, chip}
@@ -28,8 +28,8 @@ use Rattle.xom_model.specs.Holds.{FollowsAlone, Holds, IsRunning}
 -- A journal is honest exactly where the judge's two searches find nothing.
 pub record HonestyIsJudged : Type 0 where
   pub forgery : (sealed : List Sealing) (entries : List Entry)
-      → (forged sealed entries ≡ None) ↔ NoForgery sealed entries
-  pub collision : (entries : List Entry) → (collision entries ≡ None) ↔ NoCollision entries
+      → (first_forgery sealed entries ≡ None) ↔ NoForgery sealed entries
+  pub collision : (entries : List Entry) → (first_collision entries ≡ None) ↔ NoCollision entries
 
 -- the law of versions on chip
 abbrev pub ChipKeepsTheLaw : Type 0

@@ -10,9 +10,9 @@ use Rattle.xom_seal.specs.declared.line.SealedLine.{SealedLine}
 use Rattle.xom_seal.specs.declared.names.LineName.{LineName}
 use Rattle.xom_seal.specs.declared.names.LineName.TheVariants.{Image, Run}
 use Rattle.xom_seal.specs.Keys.{image_keys, run_keys}
-use Rattle.xom_seal.specs.Messages.{line_message, names_run_line, version_in}
+use Rattle.xom_seal.specs.Messages.{line_message, names_run_line, version_of_message}
 use Rattle.xom_seal.specs.Sealing.{line_masked, sealed_line}
-use Rattle.line_ram.specs.Bytes.{bytes_at, ciphertext_place, frame_lines, line_size, tag_place, with_line}
+use Rattle.line_ram.specs.Bytes.{bytes_at, ciphertext_place, frame_lines, line_size, ram_with_line, tag_place}
 use Rattle.session_table.specs.declared.session.Session.{Session}
 use Rattle.xom_versions.specs.Versions.{start_version}
 use Rattle.xom_model.specs.Honest.{Sealing}
@@ -41,8 +41,8 @@ is_image_at who line version = nat_lt line who.lines && (version == 1)
 abbrev pub run_name : Who → ℕ → ℕ → LineName
 run_name who line version = Run who.boot who.install line version
 
-abbrev pub name_of : Who → ℕ → ℕ → LineName
-name_of who line version =
+abbrev pub line_name_of : Who → ℕ → ℕ → LineName
+line_name_of who line version =
     if is_image_at who line version then Image who.id line else run_name who line version
 
 abbrev pub keys_of : Who → ℕ → ℕ → LineKeys
@@ -53,11 +53,11 @@ keys_of who line version =
 -- a line's bytes as they are sealed under a version
 abbrev pub sealed_as : Who → ℕ → ℕ → List ℕ → SealedLine
 sealed_as who line version bytes =
-    sealed_line (name_of who line version) (keys_of who line version) bytes
+    sealed_line (line_name_of who line version) (keys_of who line version) bytes
 
 -- the message of a line with this ciphertext
 abbrev pub message_as : Who → ℕ → ℕ → List ℕ → List ℕ
-message_as who line version ct = line_message (name_of who line version) ct
+message_as who line version ct = line_message (line_name_of who line version) ct
 
 abbrev pub seal_entry : Who → ℕ → ℕ → List ℕ → Entry
 seal_entry who line version bytes =
@@ -80,24 +80,24 @@ run_pair who line version bytes =
 -- ---- Places
 
 -- the place of a line in its frame
-abbrev pub index_of : ℕ → ℕ
-index_of line = line % frame_lines
+abbrev pub index_in_frame : ℕ → ℕ
+index_in_frame line = line % frame_lines
 
 -- where the ciphertext of a line stands
 abbrev pub ct_place : ℕ → ℕ → ℕ
-ct_place frame line = ciphertext_place frame (index_of line)
+ct_place frame line = ciphertext_place frame (index_in_frame line)
 
 -- what stands in RAM for a line
 abbrev pub sealed_at : List ℕ → ℕ → ℕ → SealedLine
 sealed_at ram frame line = record {
   ct = bytes_at ram (ct_place frame line) line_size;
-  tag = bytes_at ram (tag_place frame (index_of line)) line_size;
+  tag = bytes_at ram (tag_place frame (index_in_frame line)) line_size;
 }
 
 -- RAM with a sealed line in a frame, where there is one
 abbrev pub with_sealed : List ℕ → Option ℕ → ℕ → SealedLine → List ℕ
 with_sealed ram None line sealed = ram
-with_sealed ram (Some frame) line sealed = with_line ram frame (index_of line) sealed.ct sealed.tag
+with_sealed ram (Some frame) line sealed = ram_with_line ram frame (index_in_frame line) sealed.ct sealed.tag
 
 -- ---- Versions, counted in a journal's Seals
 
@@ -110,7 +110,7 @@ line_seals install line seals = filter (names_line install line) seals
 
 abbrev pub names_version : ℕ → ℕ → ℕ → Sealing → Bool
 names_version install line version sealing =
-    names_run_line install line sealing.1 && (version_in sealing.1 == version)
+    names_run_line install line sealing.1 && (version_of_message sealing.1 == version)
 
 -- the Seals of one of its versions
 abbrev pub version_seals : ℕ → ℕ → ℕ → List Sealing → List Sealing

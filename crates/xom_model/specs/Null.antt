@@ -2,7 +2,7 @@
 -- compartment.
 use Rattle.std.specs.Prelude.{ℕ, ◌-◌, ◌%◌, ◌==◌, ◌&&◌, length, List, Option, Some, None, Result, Ok, Err, if◌then◌else◌}
 use Rattle.mips_instruction.specs.declared.instruction.Ins.{Ins}
-use Rattle.mips_instruction.specs.Words.{read}
+use Rattle.mips_instruction.specs.Words.{instruction_of_word}
 use Rattle.mips_effect.specs.declared.effects.Effect.{Effect}
 use Rattle.mips_effect.specs.declared.seen.Mode.TheVariants.{Null}
 use Rattle.mips_effect.specs.declared.seen.Seen.{Seen}
@@ -12,7 +12,7 @@ use Rattle.mips_effect.specs.declared.wish.Asked.TheVariants as asked
 use Rattle.mips_effect.specs.declared.wish.LoadKind.{LoadKind}
 use Rattle.mips_effect.specs.declared.wish.Wish.{Wish}
 use Rattle.mips_effect.specs.declared.wish.Wish.TheVariants as wish
-use Rattle.mips_effect.specs.Effects.{sources_of, effect_of, merge_of, set}
+use Rattle.mips_effect.specs.Effects.{effect_of, merge_of, sources_of, write_of_register}
 use Rattle.xom_base.specs.declared.event.Cause.{Cause}
 use Rattle.xom_base.specs.declared.event.Cause.TheVariants as cause
 use Rattle.xom_model.specs.declared.outcome.NullFault.{NullFault}
@@ -27,14 +27,14 @@ use Rattle.xom_base.specs.declared.step.Writes.TheVariants as writes
 use Rattle.tag_regs.specs.declared.cell.Cell.{Cell}
 use Rattle.tag_regs.specs.TaggedCells.{cell_at, with_cell}
 use Rattle.mips_plain.specs.Instruction.{instruction_or_fault}
-use Rattle.mips_plain.specs.Memory.{low_bytes, word_at}
-use Rattle.line_ram.specs.Bytes.{stored}
-use Rattle.xom_model.specs.State.{holds}
+use Rattle.mips_plain.specs.Memory.{low_bytes, word_at_address}
+use Rattle.line_ram.specs.Bytes.{ram_with_bytes}
+use Rattle.xom_model.specs.State.{ram_holds_range}
 
 -- a write outside RAM changes nothing
 unfoldable pub ram_after_write : List ℕ → ℕ → List ℕ → List ℕ
 ram_after_write ram address bytes =
-    if holds ram address (length bytes) then stored ram address bytes else ram
+    if ram_holds_range ram address (length bytes) then ram_with_bytes ram address bytes else ram
 
 -- what null code may be told
 pub record Told : Type 0 where
@@ -82,11 +82,11 @@ cause_argument (cause.Fault why) = fault_number why
 cause_argument cause.Exit = 0
 cause_argument (cause.Stopped why) = rule_number why
 
-abbrev pub answer_of : Told → Asked → ℕ
-answer_of told asked.Status = told.status
-answer_of told asked.Cause = cause_number told.cause
-answer_of told asked.Arg = cause_argument told.cause
-answer_of told asked.Who = told.who
+abbrev pub null_answer : Told → Asked → ℕ
+null_answer told asked.Status = told.status
+null_answer told asked.Cause = cause_number told.cause
+null_answer told asked.Arg = cause_argument told.cause
+null_answer told asked.Who = told.who
 
 -- ---- What it sees
 
@@ -100,7 +100,7 @@ seen_open cells reg = if reg == 0 then Value 0 else open_cell (cell_at cells reg
 -- the instruction at an address of RAM
 unfoldable pub fetched_open : List ℕ → ℕ → Result Ins OwnFault
 fetched_open ram pc =
-    if (pc % 4 == 0) && holds ram pc 4 then instruction_or_fault (read (word_at ram pc))
+    if (pc % 4 == 0) && ram_holds_range ram pc 4 then instruction_or_fault (instruction_of_word (word_at_address ram pc))
     else Err fault.Address
 
 -- what it comes to
@@ -129,11 +129,11 @@ open_after s effect written = record {
 }
 
 abbrev pub stored_open : Open → ℕ → List ℕ → Open
-stored_open s address bytes = record s { ram = stored s.ram address bytes }
+stored_open s address bytes = record s { ram = ram_with_bytes s.ram address bytes }
 
 -- what a load gives, of the word that holds its address
 abbrev pub loaded_open : List ℕ → LoadKind → ℕ → ℕ → ℕ
-loaded_open ram how old address = merge_of how old address (word_at ram (address - address % 4))
+loaded_open ram how old address = merge_of how old address (word_at_address ram (address - address % 4))
 
 abbrev pub null_fault : OwnFault → NullFault
 null_fault fault.Reserved = null.Reserved
@@ -157,17 +157,17 @@ stopped_by s why = (s, Err why)
 abbrev pub wish_answer : Told → Open → Effect → Wish → Answer
 wish_answer told s effect wish.Nothing = done_answer (open_after s effect effect.writes)
 wish_answer told s effect (wish.Load reg address how old) =
-    if holds s.ram (address - address % 4) 4
-    then done_answer (open_after s effect (set reg (loaded_open s.ram how old address)))
+    if ram_holds_range s.ram (address - address % 4) 4
+    then done_answer (open_after s effect (write_of_register reg (loaded_open s.ram how old address)))
     else stopped_by s null.Address
 wish_answer told s effect (wish.Store address count value) =
-    if holds s.ram address count then done_answer (stored_open (open_after s effect effect.writes)
+    if ram_holds_range s.ram address count then done_answer (stored_open (open_after s effect effect.writes)
     address (low_bytes count value)) else stopped_by s null.Address
 wish_answer told s effect (wish.Call code) = stopped_by s null.Call
 wish_answer told s effect (wish.Do operation) =
     (open_after s effect effect.writes, Ok (Some operation))
 wish_answer told s effect (wish.Ask reg what) =
-    done_answer (open_after s effect (set reg (answer_of told what)))
+    done_answer (open_after s effect (write_of_register reg (null_answer told what)))
 wish_answer told s effect (wish.Release reg value) = stopped_by s null.Reserved
 wish_answer told s effect (wish.Receive reg from) = stopped_by s null.Reserved
 wish_answer told s effect (wish.NullLoad reg address) = stopped_by s null.Reserved

@@ -7,7 +7,7 @@ use Rattle.xom_base.specs.declared.event.Op.TheVariants.{Install, Enter, Resume,
 use Rattle.xom_base.specs.declared.event.Rule.{Rule}
 use Rattle.xom_base.specs.declared.event.Rule.TheVariants as rule
 use Rattle.xom_seal.specs.declared.envelope.Unwrapped.{Unwrapped}
-use Rattle.xom_seal.specs.Envelopes.{unwrapped}
+use Rattle.xom_seal.specs.Envelopes.{envelope_contents}
 use Rattle.xom_seal.specs.Messages.{envelope_message}
 use Rattle.xom_seal.specs.Sealing.{unsealed_register}
 use Rattle.mips_plain.specs.Instruction.{is_signal_ready}
@@ -16,12 +16,12 @@ use Rattle.tag_regs.specs.TaggedCells.{cell_at, with_cell}
 use Rattle.session_table.specs.declared.session.Session.{Session}
 use Rattle.session_table.specs.declared.session.SlotState.{SlotState}
 use Rattle.session_table.specs.declared.session.SlotState.TheVariants as state
-use Rattle.session_table.specs.Sessions.{entered, resumed, free, fresh}
+use Rattle.session_table.specs.Sessions.{free, fresh_session, session_after_enter, session_after_resume}
 use Rattle.xom_versions.specs.Store.{area_size}
 use Rattle.xom_versions.specs.Versions.{Versions}
 use Rattle.line_ram.specs.Bytes.{bytes_at, frame_lines, frame_size}
 use Rattle.page_map.specs.Pages.{frame_of, with_page}
-use Rattle.xom_model.specs.State.{CoreState, core_with_hashes, holds, lines_of, pages_of, session_of, window_of, with_cells, with_entry, with_session}
+use Rattle.xom_model.specs.State.{CoreState, core_with_hashes, core_with_session, lines_of_session, pages_of_session, ram_holds_range, session_of, window_of, with_cells, with_entry}
 use Rattle.xom_model.specs.Lines.{who_of}
 use Rattle.xom_model.specs.Saves.{reg_accept_entry, reg_keys, reg_name, reg_seal_entry, saved_at, saved_size, sealed_reg, with_saved}
 use Rattle.xom_model.specs.Access.{after_flush, after_stop, without_guest}
@@ -45,7 +45,7 @@ is_cell reg = nat_le 1 reg && nat_le reg 33
 -- Enter: only a fresh guest is started
 abbrev pub enter : CoreState → ℕ → SlotState → CoreState × ℕ
 enter core slot state.Free = refusal_of core 1
-enter core slot state.Fresh = success (with_session core slot (entered (session_of core slot)))
+enter core slot state.Fresh = success (core_with_session core slot (session_after_enter (session_of core slot)))
 enter core slot state.Running = refusal_of core 2
 enter core slot state.Paused = refusal_of core 2
 enter core slot state.Ended = refusal_of core 2
@@ -71,10 +71,10 @@ abbrev pub with_signal : CoreState → ℕ → ℕ → CoreState
 with_signal core slot signal = if signal == 0 then core else after_delivery core slot signal
 
 -- a guest goes on only where each cell that it owns has its tag; else it is stopped for good
-abbrev pub go_on : CoreState → ℕ → ℕ → Option ℕ → CoreState × ℕ
-go_on core slot signal None =
-    success (with_signal (with_session core slot (resumed (session_of core slot))) slot signal)
-go_on core slot signal (Some reg) = (after_stop core slot (rule.RegisterMissing reg), 8)
+abbrev pub resume_or_stop : CoreState → ℕ → ℕ → Option ℕ → CoreState × ℕ
+resume_or_stop core slot signal None =
+    success (with_signal (core_with_session core slot (session_after_resume (session_of core slot))) slot signal)
+resume_or_stop core slot signal (Some reg) = (after_stop core slot (rule.RegisterMissing reg), 8)
 
 -- the slot takes the signal: there is none, or the slot is ready for one
 abbrev pub slot_takes_signal : Session → ℕ → Bool
@@ -84,7 +84,7 @@ slot_takes_signal s signal = (signal == 0) || is_signal_ready s.handler s.saved
 abbrev pub resume_paused : CoreState → ℕ → ℕ → CoreState × ℕ
 resume_paused core slot signal =
     if nat_le signal 63
-    then (if slot_takes_signal (session_of core slot) signal then go_on core slot signal
+    then (if slot_takes_signal (session_of core slot) signal then resume_or_stop core slot signal
     (missing_cell slot (session_of core slot).mask core.cells) else refusal_of core 2)
     else refusal_of core 7
 
@@ -132,23 +132,23 @@ is_paused other = false
 abbrev pub envelope_size : ℕ
 envelope_size = 88
 
-abbrev pub envelope_at : CoreState → ℕ → List ℕ
-envelope_at core place = bytes_at core.ram place envelope_size
+abbrev pub envelope_in_ram : CoreState → ℕ → List ℕ
+envelope_in_ram core place = bytes_at core.ram place envelope_size
 
 -- the session that an envelope asks for, under the next install number
 abbrev pub session_for : CoreState → Unwrapped → Session
-session_for core plain = fresh (core.installs + 1) plain.id plain.key plain.entry plain.lines
+session_for core plain = fresh_session (core.installs + 1) plain.id plain.key plain.entry plain.lines
 
 -- what it says can't be: too many lines, or an entry that is no place of an instruction
 abbrev pub is_bad_image : Session → Bool
 is_bad_image s =
-    nat_lt (lines_of s) s.lines || (not (s.entry % 4 == 0) || nat_le (window_of s) s.entry)
+    nat_lt (lines_of_session s) s.lines || (not (s.entry % 4 == 0) || nat_le (window_of s) s.entry)
 
 -- the tests of each, in their order, with their statuses
 abbrev pub install_tests : CoreState → ℕ → ℕ → ℕ → List (Bool × ℕ)
 install_tests core slot place area =
     (not (is_slot slot), 1) ∷ (not (is_free_state (session_of core slot).state), 2)
-    ∷ (not (holds core.ram place envelope_size && holds core.ram area area_size), 4) ∷ []
+    ∷ (not (ram_holds_range core.ram place envelope_size && ram_holds_range core.ram area area_size), 4) ∷ []
 
 abbrev pub image_tests : CoreState → Unwrapped → List (Bool × ℕ)
 image_tests core plain = (is_bad_image (session_for core plain), 7) ∷ []
@@ -156,14 +156,14 @@ image_tests core plain = (is_bad_image (session_for core plain), 7) ∷ []
 abbrev pub map_tests : CoreState → ℕ → ℕ → ℕ → List (Bool × ℕ)
 map_tests core slot page frame =
     (is_bad_slot core slot, 1) ∷ (not (can_come_back (session_of core slot).state), 2)
-    ∷ (nat_le (pages_of (session_of core slot)) page, 7)
-    ∷ (not (holds core.ram (frame * frame_size) frame_size), 4)
+    ∷ (nat_le (pages_of_session (session_of core slot)) page, 7)
+    ∷ (not (ram_holds_range core.ram (frame * frame_size) frame_size), 4)
     ∷ (is_some (frame_of core.pages slot page), 5) ∷ []
 
 abbrev pub unmap_tests : CoreState → ℕ → ℕ → List (Bool × ℕ)
 unmap_tests core slot page =
     (is_bad_slot core slot, 1) ∷ (not (can_come_back (session_of core slot).state), 2)
-    ∷ (nat_le (pages_of (session_of core slot)) page, 7)
+    ∷ (nat_le (pages_of_session (session_of core slot)) page, 7)
     ∷ (is_none (frame_of core.pages slot page), 5) ∷ []
 
 abbrev pub kill_tests : CoreState → ℕ → List (Bool × ℕ)
@@ -178,7 +178,7 @@ abbrev pub register_tests : CoreState → ℕ → ℕ → ℕ → List (Bool × 
 register_tests core slot reg address last =
     (is_bad_slot core slot, 1) ∷ (not (is_paused (session_of core slot).state), 2)
     ∷ (not (is_cell reg), 7)
-    ∷ (not (holds core.ram address saved_size), 4) ∷ last
+    ∷ (not (ram_holds_range core.ram address saved_size), 4) ∷ last
 
 abbrev pub save_tests : CoreState → ℕ → ℕ → ℕ → List (Bool × ℕ)
 save_tests core slot reg address =
@@ -244,7 +244,7 @@ module _ (v : Versions) where
         ram = v.ram_after_build area plain.lines core.ram;
         installs = core.installs + 1;
         entries = core.entries
-            ++ entry.Accept core.machine.0 (envelope_message (envelope_at core place)) place
+            ++ entry.Accept core.machine.0 (envelope_message (envelope_in_ram core place)) place
             ∷ entry.Install (core.installs + 1) slot plain.id place plain.entry plain.lines ∷ [];
       })
       (v.texts_of_build area plain.lines core.ram)
@@ -257,7 +257,7 @@ module _ (v : Versions) where
 
   abbrev pub install : CoreState → ℕ → ℕ → ℕ → CoreState × ℕ
   install core slot place area = first_refusal_or core (install_tests core slot place area)
-      (unwrap core slot place area (unwrapped core.machine (envelope_at core place)))
+      (unwrap core slot place area (envelope_contents core.machine (envelope_in_ram core place)))
 
   -- Map
   abbrev pub map_page : CoreState → ℕ → ℕ → ℕ → CoreState × ℕ
@@ -279,7 +279,7 @@ module _ (v : Versions) where
   -- Kill: the slot is free again, and its version store stays as it is
   abbrev pub after_kill : CoreState → ℕ → CoreState
   after_kill core slot =
-      with_entry (with_session (without_guest core slot) slot free)
+      with_entry (core_with_session (without_guest core slot) slot free)
       (entry.Kill (session_of core slot).install)
 
   abbrev pub kill : CoreState → ℕ → CoreState × ℕ

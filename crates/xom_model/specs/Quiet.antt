@@ -7,7 +7,7 @@ use Rattle.xom_base.specs.declared.event.Cause.TheVariants as cause
 use Rattle.xom_base.specs.declared.event.Event.{Event}
 use Rattle.xom_model.specs.declared.outcome.Outcome.TheVariants as outcome
 use Rattle.tag_regs.specs.TaggedCells.{cell_at}
-use Rattle.session_table.specs.Sessions.{paused}
+use Rattle.session_table.specs.Sessions.{session_after_pause}
 use Rattle.xom_versions.specs.Versions.{Versions}
 use Rattle.line_cache.specs.declared.way.Way.{Way}
 use Rattle.line_cache.specs.Ways.{way_at}
@@ -62,7 +62,7 @@ IsKeptOrSealed core new more place =
 -- A trap that changes nothing of its guest but that it waits.
 pub record TrapsQuietly (core new : CoreState) (slot : ℕ) (why : Cause) : Type 0 where
   -- it goes on where it was
-  pub session : session_of new slot ≡ paused (session_of core slot)
+  pub session : session_of new slot ≡ session_after_pause (session_of core slot)
   -- no cell of it changes, and none becomes its own
   pub cells : (reg : ℕ) → (cell_at core.cells reg).tag ≡ slot
       → cell_at new.cells reg ≡ cell_at core.cells reg

@@ -8,13 +8,13 @@ use Rattle.xom_model.specs.State.{Record}
 use Rattle.xom_model.specs.Event.{fits, on, open_in, told_in}
 
 -- the statuses of an operation that was refused; 0 is done, and 8 stopped its guest
-abbrev pub IsRefusal : ℕ → Type 0
-IsRefusal status = (1 ≤ status) × (status ≤ 7)
+abbrev pub IsRefusalStatus : ℕ → Type 0
+IsRefusalStatus status = (1 ≤ status) × (status ≤ 7)
 
 -- a refused operation of a script leaves all but its status and the count of events
 abbrev pub DoRefused : Type 0
 DoRefused = (v : Versions) (r : Record) (op : Op) (bytes : List ℕ) → fits r (event.Do op) ≡ true
-    → IsRefusal (on v r (event.Do op) bytes).0.status
+    → IsRefusalStatus (on v r (event.Do op) bytes).0.status
     → (on v r (event.Do op) bytes).0 ≡ record r {
       status = (on v r (event.Do op) bytes).0.status;
       events = r.events + 1;
@@ -24,7 +24,7 @@ DoRefused = (v : Versions) (r : Record) (op : Op) (bytes : List ℕ) → fits r 
 abbrev pub NullRefused : Type 0
 NullRefused = (v : Versions) (r : Record) (op : Op) (bytes : List ℕ) → fits r event.Null ≡ true
     → (null_step (told_in r) (open_in r)).1 ≡ Ok (Some op)
-    → IsRefusal (on v r event.Null bytes).0.status
+    → IsRefusalStatus (on v r event.Null bytes).0.status
     → (on v r event.Null bytes).0
     ≡ record r {
       status = (on v r event.Null bytes).0.status;

@@ -101,5 +101,5 @@ end_by None = end.Halted
 end_by (Some (at, why)) = end.KernelFault at why
 
 -- of a run that made as many events as it might: a halt or a fault comes before the budget
-abbrev pub end_of : Record → RunEnd
-end_of r = if r.halted then end_by r.fault else end.Budget
+abbrev pub end_of_run : Record → RunEnd
+end_of_run r = if r.halted then end_by r.fault else end.Budget

@@ -12,8 +12,8 @@ use Rattle.xom_seal.specs.Keys.{register_keys}
 use Rattle.xom_seal.specs.Messages.{IsRegName, register_message}
 use Rattle.xom_seal.specs.Sealing.{register_masked, sealed_register}
 use Rattle.mips_plain.specs.declared.cell.PlainCell.TheVariants.{Own}
-use Rattle.mips_plain.specs.Machine.{State, cell_at as plain_cell}
-use Rattle.line_ram.specs.Bytes.{stored, bytes_at}
+use Rattle.mips_plain.specs.Machine.{State, plain_cell_at as plain_cell}
+use Rattle.line_ram.specs.Bytes.{bytes_at, ram_with_bytes}
 use Rattle.session_table.specs.declared.session.Session.{Session}
 use Rattle.session_table.specs.declared.session.SlotState.TheVariants as state
 use Rattle.session_table.specs.Sessions.{is_live, session_at}
@@ -60,7 +60,7 @@ abbrev pub saved_at : List ℕ → ℕ → SealedReg
 saved_at ram address = record { ct = bytes_at ram address 4; tag = bytes_at ram (address + 4) 32 }
 
 abbrev pub with_saved : List ℕ → ℕ → SealedReg → List ℕ
-with_saved ram address sealed = stored (stored ram address sealed.ct) (address + 4) sealed.tag
+with_saved ram address sealed = ram_with_bytes (ram_with_bytes ram address sealed.ct) (address + 4) sealed.tag
 
 -- ---- What is kept
 

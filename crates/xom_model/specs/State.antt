@@ -56,15 +56,15 @@ abbrev pub window_of : Session → ℕ
 window_of s = private_bytes
 
 -- how many lines of 32 bytes that is, and how many pages of 128 lines
-abbrev pub lines_of : Session → ℕ
-lines_of s = line_limit
+abbrev pub lines_of_session : Session → ℕ
+lines_of_session s = line_limit
 
-abbrev pub pages_of : Session → ℕ
-pages_of s = 256
+abbrev pub pages_of_session : Session → ℕ
+pages_of_session s = 256
 
 -- the line of an address, and the page of a line
-abbrev pub line_at : ℕ → ℕ
-line_at address = address / line_size
+abbrev pub line_of_address : ℕ → ℕ
+line_of_address address = address / line_size
 
 abbrev pub page_of : ℕ → ℕ
 page_of line = line / frame_lines
@@ -72,8 +72,8 @@ page_of line = line / frame_lines
 -- ---- RAM
 
 -- a range lies in RAM
-abbrev pub holds : List ℕ → ℕ → ℕ → Bool
-holds ram address count = nat_le (address + count) (length ram)
+abbrev pub ram_holds_range : List ℕ → ℕ → ℕ → Bool
+ram_holds_range ram address count = nat_le (address + count) (length ram)
 
 -- ---- The whole
 
@@ -123,12 +123,12 @@ abbrev pub with_cells : CoreState → List Cell → CoreState
 with_cells core cells = record core { cells = cells }
 
 -- the core with another session in a slot
-abbrev pub with_session : CoreState → ℕ → Session → CoreState
-with_session core slot session = record core { sessions = slice_set core.sessions slot session }
+abbrev pub core_with_session : CoreState → ℕ → Session → CoreState
+core_with_session core slot session = record core { sessions = slice_set core.sessions slot session }
 
 -- the core with another way at a place
-abbrev pub with_way : CoreState → ℕ → Way → CoreState
-with_way core place way = record core { ways = slice_set core.ways place way }
+abbrev pub core_with_way : CoreState → ℕ → Way → CoreState
+core_with_way core place way = record core { ways = slice_set core.ways place way }
 
 -- the core with one more entry
 abbrev pub with_entry : CoreState → Entry → CoreState

@@ -9,5 +9,5 @@ abbrev pub open_of : List Cell → List ℕ → ℕ × ℕ → Open
 open_of cells ram pair = record { cells = cells; ram = ram; pc = pair.0; npc = pair.1 }
 
 -- what it may be told: the last status, and why and from which slot a guest left last
-abbrev pub told_of : ℕ → Cause → ℕ → Told
-told_of status cause who = record { status = status; cause = cause; who = who }
+abbrev pub null_told : ℕ → Cause → ℕ → Told
+null_told status cause who = record { status = status; cause = cause; who = who }

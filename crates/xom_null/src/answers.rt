@@ -1,13 +1,13 @@
 ghost use Rattle.std.specs.Prelude.{◌≡◌};
-ghost use Rattle.xom_model.specs.Null.{answer_of, cause_argument as cause_argument_of, cause_number as cause_number_of, fault_number as fault_number_of, rule_number as rule_number_of};
-ghost use Rattle.xom_null.specs.Parts.{told_of};
+ghost use Rattle.xom_model.specs.Null.{cause_argument as cause_argument_of, cause_number as cause_number_of, fault_number as fault_number_of, null_answer, rule_number as rule_number_of};
+ghost use Rattle.xom_null.specs.Parts.{null_told};
 
 use mips_effect::Asked;
 use xom_base::{Cause, OwnFault, Rule};
 
 /// What null code is told, of the last status, and of why and from which slot a guest left last.
 pub fn answer(status: u32, cause: Cause, who: u8, asked: Asked) -> u32
-    ensures { result ≡ answer_of (told_of status cause who) asked }
+    ensures { result ≡ null_answer (null_told status cause who) asked }
 {
     match asked {
         Asked::Status => status,

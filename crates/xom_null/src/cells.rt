@@ -1,5 +1,5 @@
 ghost use Rattle.std.specs.Prelude.{◌≡◌, ◌<◌};
-ghost use Rattle.mips_effect.specs.Effects.{AreCells, set as set_of};
+ghost use Rattle.mips_effect.specs.Effects.{AreCells, write_of_register as set_of};
 ghost use Rattle.xom_model.specs.Null.{open_cell, seen_open, with_null_writes};
 
 use mips_effect::Seen;

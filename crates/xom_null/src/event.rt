@@ -1,7 +1,7 @@
 ghost use Rattle.std.specs.Prelude.{◌≡◌, length, IfOk, OnErr};
 ghost use Rattle.mips_effect.specs.Effects.{Opened};
 ghost use Rattle.xom_model.specs.Null.{fetched_open, null_fault as null_fault_of, null_step, seen_open, tried_open, wish_answer};
-ghost use Rattle.xom_null.specs.Parts.{open_of, told_of};
+ghost use Rattle.xom_null.specs.Parts.{null_told, open_of};
 
 use crate::answers::answer;
 use crate::cells::{seen, write, write_one};
@@ -25,8 +25,8 @@ pub fn null_event(
     cause: Cause,
     who: u8,
 ) -> Result<Option<Op>, NullFault>
-    ensures state { open_of cells.new ram.new pair.new ≡ (null_step (told_of status cause who) (open_of cells.old ram.old pair.old)).0 }
-    ensures answer { result ≡ (null_step (told_of status cause who) (open_of cells.old ram.old pair.old)).1 }
+    ensures state { open_of cells.new ram.new pair.new ≡ (null_step (null_told status cause who) (open_of cells.old ram.old pair.old)).0 }
+    ensures answer { result ≡ (null_step (null_told status cause who) (open_of cells.old ram.old pair.old)).1 }
 
     // A fault changes nothing.
     ensures fault { OnErr result ((cells.new ≡ cells.old) × (ram.new ≡ ram.old) × (pair.new ≡ pair.old)) }
@@ -79,8 +79,8 @@ fn grant(
     effect: &Effect,
 ) -> Result<Option<Op>, NullFault>
     requires { Opened effect.now }
-    ensures state { open_of cells.new ram.new pair.new ≡ (wish_answer (told_of status cause who) (open_of cells.old ram.old pair.old) effect.now effect.now.wish).0 }
-    ensures answer { result ≡ (wish_answer (told_of status cause who) (open_of cells.old ram.old pair.old) effect.now effect.now.wish).1 }
+    ensures state { open_of cells.new ram.new pair.new ≡ (wish_answer (null_told status cause who) (open_of cells.old ram.old pair.old) effect.now effect.now.wish).0 }
+    ensures answer { result ≡ (wish_answer (null_told status cause who) (open_of cells.old ram.old pair.old) effect.now effect.now.wish).1 }
     ensures fault { OnErr result ((cells.new ≡ cells.old) × (ram.new ≡ ram.old) × (pair.new ≡ pair.old)) }
     ensures size { length ram.new ≡ length ram.old }
 {

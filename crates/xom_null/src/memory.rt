@@ -1,10 +1,10 @@
 ghost use Rattle.std.specs.Prelude.{◌≡◌, ◌≤◌, ◌-◌, ◌%◌, length, IfOk, Some, None, if◌then◌else◌};
-ghost use Rattle.line_ram.specs.Bytes.{HoldsRange, stored};
+ghost use Rattle.line_ram.specs.Bytes.{HoldsRange, ram_with_bytes};
 ghost use Rattle.mips_instruction.specs.Words.{Fits};
 ghost use Rattle.mips_effect.specs.Effects.{IsAligned};
-ghost use Rattle.mips_plain.specs.Memory.{low_bytes, word_at as word_of};
+ghost use Rattle.mips_plain.specs.Memory.{low_bytes, word_at_address as word_of};
 ghost use Rattle.xom_model.specs.Null.{fetched_open, loaded_open};
-ghost use Rattle.xom_model.specs.State.{holds as holds_range};
+ghost use Rattle.xom_model.specs.State.{ram_holds_range as holds_range};
 
 use line_ram::LineRam;
 use mips_effect::{LoadKind, merge};
@@ -47,7 +47,7 @@ pub fn load(ram: &LineRam, address: u32, kind: LoadKind, old: u32) -> Option<u32
 pub fn store(ram: &mut LineRam, address: u32, count: u8, value: u32) -> bool
     requires some { 1 ≤ count }
     requires word { count ≤ 4 }
-    ensures bytes { ram.new ≡ (if holds_range ram.old address count then stored ram.old address (low_bytes count value) else ram.old) }
+    ensures bytes { ram.new ≡ (if holds_range ram.old address count then ram_with_bytes ram.old address (low_bytes count value) else ram.old) }
     ensures inside { result ≡ holds_range ram.old address count }
     ensures size { length ram.new ≡ length ram.old }
 {

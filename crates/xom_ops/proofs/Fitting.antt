@@ -10,7 +10,7 @@ use Rattle.line_ram.specs.Bytes.{HoldsFrame, HoldsRange}
 use Rattle.page_map.specs.Pages.{ChangesPage, Pages, frame_of}
 use Rattle.session_table.specs.declared.session.Session.{Session}
 use Rattle.session_table.specs.declared.session.SlotState.TheVariants as state
-use Rattle.session_table.specs.Sessions.{free, fresh, is_live, session_at}
+use Rattle.session_table.specs.Sessions.{free, fresh_session, is_live, session_at}
 use Rattle.slot_keys.specs.GuestKeys.{AreKeysOf, GuestKeys, OthersKeep, keys_at}
 use Rattle.xom_versions.specs.Store.{HoldsArea, Store, area_size}
 use Rattle.xom_versions.specs.Versions.{VersionLaw, Versions}
@@ -148,7 +148,7 @@ module _ {Stands : Store → List Entry → (ℕ → ℕ) → Type 0} (v : Versi
   new_store = v.store_after_build area lines ram
 
   abbrev guest : Session
-  guest = fresh install id key begin lines
+  guest = fresh_session install id key begin lines
 
   size : length new_ram ≡ length ram
   size = law.size_after_build area lines ram inside
@@ -241,7 +241,7 @@ pub fits_built : {Stands : Store → List Entry → (ℕ → ℕ) → Type 0} (v
     (sessions new_sessions : List Session) (pages : Pages) (ways : List Way) (ram new_ram : List ℕ)
     (stores new_stores : List Store) (keys new_keys : List GuestKeys)
     (boot slot area number install : ℕ) (id : ImageId) (key : Key256) (begin lines : ℕ)
-    → new_sessions ≡ set sessions slot (fresh install id key begin lines) → number ≡ install
+    → new_sessions ≡ set sessions slot (fresh_session install id key begin lines) → number ≡ install
     → new_ram ≡ v.ram_after_build area lines ram
     → new_stores ≡ set stores slot (v.store_after_build area lines ram)
     → (session_at sessions slot).state ≡ state.Free → HoldsRange ram area area_size

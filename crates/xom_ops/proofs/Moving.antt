@@ -5,7 +5,7 @@ use Rattle.line_cache.specs.Ways.{without_slot}
 use Rattle.page_map.specs.Pages.{Pages, without_pages}
 use Rattle.session_table.specs.declared.session.Session.{Session}
 use Rattle.session_table.specs.declared.session.SlotState.TheVariants as state
-use Rattle.session_table.specs.Sessions.{entered, free, is_live, resumed, session_at}
+use Rattle.session_table.specs.Sessions.{free, is_live, session_after_enter, session_after_resume, session_at}
 use Rattle.slot_keys.specs.GuestKeys.{GuestKeys}
 use Rattle.xom_versions.specs.Store.{Store}
 use Rattle.xom_private.specs.Cores.{Fits, IsLiveIn}
@@ -25,13 +25,13 @@ module _ (sessions : List Session) (pages : Pages) (ways : List Way) (ram : List
       fits_moved sessions pages ways ram stores keys boot slot s
       (subst (λ t. AreAlike t old) (sym is) alike) fits
 
-  pub fits_entered : s ≡ entered old → old.state ≡ state.Fresh
+  pub fits_entered : s ≡ session_after_enter old → old.state ≡ state.Fresh
       → Fits (set sessions slot s) pages ways ram stores keys boot
-  fits_entered is fresh = moved (entered old) is (sym (ap is_live fresh), refl, refl, refl, refl)
+  fits_entered is fresh = moved (session_after_enter old) is (sym (ap is_live fresh), refl, refl, refl, refl)
 
-  pub fits_resumed : s ≡ resumed old → IsLiveIn sessions slot
+  pub fits_resumed : s ≡ session_after_resume old → IsLiveIn sessions slot
       → Fits (set sessions slot s) pages ways ram stores keys boot
-  fits_resumed is live = moved (resumed old) is (sym live, refl, refl, refl, refl)
+  fits_resumed is live = moved (session_after_resume old) is (sym live, refl, refl, refl, refl)
 
   pub fits_signalled : s ≡ at_handler old
       → Fits (set sessions slot s) pages ways ram stores keys boot

@@ -5,7 +5,7 @@ use Rattle.line_ram.specs.Bytes.{frame_size}
 use Rattle.page_map.specs.Pages.{frame_of, with_page}
 use Rattle.tag_regs.specs.TaggedCells.{cell_at}
 use Rattle.xom_model.specs.Operation.{can_come_back, is_bad_slot, is_own_cell, refusal_of}
-use Rattle.xom_model.specs.State.{CoreState, holds, pages_of, session_of}
+use Rattle.xom_model.specs.State.{CoreState, pages_of_session, ram_holds_range, session_of}
 
 -- the status of the first test that holds, if one does
 abbrev pub refusal : List (Bool × ℕ) → Option ℕ
@@ -21,12 +21,12 @@ or_refused core (Some status) after = refusal_of core status
 abbrev pub page_tests : CoreState → ℕ → ℕ → List (Bool × ℕ)
 page_tests core slot page =
     (is_bad_slot core slot, 1) ∷ (not (can_come_back (session_of core slot).state), 2)
-    ∷ (nat_le (pages_of (session_of core slot)) page, 7) ∷ []
+    ∷ (nat_le (pages_of_session (session_of core slot)) page, 7) ∷ []
 
 -- the tests that Map has behind them
 abbrev pub frame_tests : CoreState → ℕ → ℕ → ℕ → List (Bool × ℕ)
 frame_tests core slot page frame =
-    (not (holds core.ram (frame * frame_size) frame_size), 4)
+    (not (ram_holds_range core.ram (frame * frame_size) frame_size), 4)
     ∷ (is_some (frame_of core.pages slot page), 5) ∷ []
 
 -- the core in which a page has a frame

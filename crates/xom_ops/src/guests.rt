@@ -1,9 +1,9 @@
 ghost use Rattle.std.specs.Prelude.{◌≡◌, ◌≤◌, ◌+◌};
 ghost use Rattle.session_table.specs.declared.session.SlotState.TheVariants as state;
-ghost use Rattle.session_table.specs.Sessions.{entered, resumed};
+ghost use Rattle.session_table.specs.Sessions.{session_after_enter, session_after_resume};
 ghost use Rattle.xom_model.specs.Holds.{IsLive};
-ghost use Rattle.xom_model.specs.Operation.{enter as enter_of, go_on as go_on_of, resume as resume_of, resume_paused as resume_paused_of};
-ghost use Rattle.xom_model.specs.State.{session_of, with_session};
+ghost use Rattle.xom_model.specs.Operation.{enter as enter_of, resume as resume_of, resume_or_stop as go_on_of, resume_paused as resume_paused_of};
+ghost use Rattle.xom_model.specs.State.{core_with_session, session_of};
 
 use crate::missing::missing;
 use crate::signal::{takes, with_signal};
@@ -35,7 +35,7 @@ fn start<V: VersionStore>(core: &mut Core<V>, slot: u8)
     requires some { 1 ≤ slot }
     requires known { slot ≤ 16 }
     requires fresh { (session_of core.old.core slot).state ≡ state.Fresh }
-    ensures core { core.new.core ≡ with_session core.old.core slot (entered (session_of core.old.core slot)) }
+    ensures core { core.new.core ≡ core_with_session core.old.core slot (session_after_enter (session_of core.old.core slot)) }
     ensures room { core.new.spare ≡ core.old.spare }
 {
     let session = *core.table.session(slot);
@@ -109,7 +109,7 @@ fn run<V: VersionStore>(core: &mut Core<V>, slot: u8)
     requires some { 1 ≤ slot }
     requires known { slot ≤ 16 }
     requires live { IsLive core.old.core slot }
-    ensures core { core.new.core ≡ with_session core.old.core slot (resumed (session_of core.old.core slot)) }
+    ensures core { core.new.core ≡ core_with_session core.old.core slot (session_after_resume (session_of core.old.core slot)) }
     ensures room { core.new.spare ≡ core.old.spare }
 {
     let session = *core.table.session(slot);

@@ -2,9 +2,9 @@ ghost use Rattle.std.specs.Prelude.{◌≡◌, ◌≤◌, ◌<◌, ◌+◌, ◌^
 ghost use Rattle.line_ram.specs.Bytes.{HoldsRange};
 ghost use Rattle.xom_journal.specs.Log.{cost};
 ghost use Rattle.xom_versions.specs.Store.{area_size, line_limit};
-ghost use Rattle.xom_model.specs.Operation.{after_install, envelope_at, envelope_size, install as install_of, is_bad_image as is_bad_image_of, unwrap as unwrap_of};
+ghost use Rattle.xom_model.specs.Operation.{after_install, envelope_in_ram, envelope_size, install as install_of, is_bad_image as is_bad_image_of, unwrap as unwrap_of};
 ghost use Rattle.xom_model.specs.State.{session_of};
-ghost use Rattle.session_table.specs.Sessions.{fresh};
+ghost use Rattle.session_table.specs.Sessions.{fresh_session};
 ghost use Rattle.session_table.specs.declared.session.SlotState.TheVariants as state;
 
 use crate::tests::{holds, is_free, is_slot};
@@ -41,7 +41,7 @@ pub fn install<V: VersionStore>(core: &mut Core<V>, slot: u32, envelope: u32, ar
 /// The bytes of an envelope in RAM.
 fn envelope_in<V: VersionStore>(core: &Core<V>, place: u32) -> [u8; 88]
     requires { HoldsRange core.now.core.ram place envelope_size }
-    ensures { result ≡ envelope_at core.now.core place }
+    ensures { result ≡ envelope_in_ram core.now.core place }
 {
     let mut envelope = [0; 88];
     core.ram.read(place, &mut envelope);
@@ -79,7 +79,7 @@ fn start<V: VersionStore>(
 
 /// Whether an image has too many lines, or an entry that is no place of an instruction.
 fn is_bad_image(plain: &Unwrapped) -> bool
-    ensures image { result ≡ is_bad_image_of (fresh 0 plain.now.id plain.now.key plain.now.entry plain.now.lines) }
+    ensures image { result ≡ is_bad_image_of (fresh_session 0 plain.now.id plain.now.key plain.now.entry plain.now.lines) }
     ensures lines { result ≡ false → plain.now.lines ≤ line_limit }
 {
     plain.lines > 32_768 || (plain.entry % 4 != 0 || plain.entry >= 0x10_0000)

@@ -3,7 +3,7 @@ ghost use Rattle.line_ram.specs.Bytes.{HoldsFrame, frame_size};
 ghost use Rattle.page_map.specs.Pages.{frame_of};
 ghost use Rattle.xom_model.specs.Holds.{IsLive};
 ghost use Rattle.xom_model.specs.Operation.{first_refusal_or, map_page as map_page_of, success};
-ghost use Rattle.xom_model.specs.State.{holds as holds_range};
+ghost use Rattle.xom_model.specs.State.{ram_holds_range as holds_range};
 ghost use Rattle.xom_ops.specs.Refusals.{frame_tests, page_tests, refusal, with_frame};
 
 use crate::tests::{is_bad_slot, waits};

@@ -1,6 +1,6 @@
 ghost use Rattle.std.specs.Prelude.{◌≡◌, ◌≤◌, false};
 ghost use Rattle.xom_model.specs.Operation.{can_come_back as waits_of, is_bad_slot as is_bad_slot_of, is_cell as is_cell_of, is_free_state, is_paused as is_paused_of, is_slot as is_slot_of};
-ghost use Rattle.xom_model.specs.State.{holds as holds_of};
+ghost use Rattle.xom_model.specs.State.{ram_holds_range as holds_of};
 
 use line_ram::LineRam;
 use session_table::SlotState;

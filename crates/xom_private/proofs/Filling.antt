@@ -12,10 +12,10 @@ use Rattle.xom_versions.specs.declared.store.Torn.{Torn}
 use Rattle.xom_versions.specs.Versions.{Versions}
 use Rattle.xom_model.specs.declared.reach.Reach.TheVariants as reach
 use Rattle.xom_model.specs.Access.{after_raise, after_seal, after_stop, after_victim, cleared_at, or_stopped, reach_after_placing, reach_after_victim, sealed_by_raise, with_pointers, without_guest}
-use Rattle.xom_model.specs.State.{CoreState, store_of, with_way}
+use Rattle.xom_model.specs.State.{CoreState, core_with_way, store_of}
 use Rattle.xom_model.proofs.Gone.{free_if-other}
 use Rattle.xom_private.specs.Cores.{FreeAreClean}
-use Rattle.xom_private.specs.Settling.{cache_of, filled, if_dirty, settled, settled_by, to_write}
+use Rattle.xom_private.specs.Settling.{access_after_settling, cache_of, core_with_new_line, if_dirty, settled_by, to_write}
 
 -- ---- What is pushed out
 
@@ -96,7 +96,7 @@ module _ (v : Versions) (core : CoreState) (slot line : ℕ) (bytes : List ℕ) 
   moved = with_pointers core line
 
   abbrev full : CoreState
-  full = with_way moved place (new_way slot line bytes)
+  full = core_with_way moved place (new_way slot line bytes)
 
   abbrev Same : Result ℕ Torn → Type 0
   Same answer = reach_after_victim v way.slot place slot line bytes
@@ -138,21 +138,21 @@ module _ (v : Versions) (core : CoreState) (slot line : ℕ) (bytes : List ℕ) 
 
   same_dirty : (dirty : Bool)
       → reach_after_victim v way.slot place slot line bytes (after_victim v moved way dirty)
-      ≡ settled v full slot place (if_dirty (victim_of way) dirty)
+      ≡ access_after_settling v full slot place (if_dirty (victim_of way) dirty)
   same_dirty false = refl
   same_dirty true = same_answer (v.answer_of_raise (store_of core way.slot) way.line core.ram)
 
-  pub placed_settles : reach_after_placing v core slot line bytes ≡ settled v
-      (filled core slot line bytes) slot place (if_dirty (victim_of way) way.dirty)
-  unfolding reach_after_placing cleared_at filled
+  pub placed_settles : reach_after_placing v core slot line bytes ≡ access_after_settling v
+      (core_with_new_line core slot line bytes) slot place (if_dirty (victim_of way) way.dirty)
+  unfolding reach_after_placing cleared_at core_with_new_line
   placed_settles = same_dirty way.dirty
 
 -- what the code makes of a new line is what the model makes of it
 pub settles : (v : Versions) (core now : CoreState) (slot line at : ℕ) (bytes : List ℕ)
     (victim : Option Victim)
-    → now ≡ filled core slot line bytes → at ≡ place_for core.ways core.pointers line
+    → now ≡ core_with_new_line core slot line bytes → at ≡ place_for core.ways core.pointers line
     → victim ≡ to_write (victim_for (cache_of core) line) → FreeAreClean core.ways
-    → settled v now slot at victim ≡ reach_after_placing v core slot line bytes
+    → access_after_settling v now slot at victim ≡ reach_after_placing v core slot line bytes
 settles v core now slot line at bytes victim now_is at_is victim_is clean =
     rw (now_is, at_is, victim_is ∙ pushed core line clean)
     (sym (placed_settles v core slot line bytes))

@@ -9,11 +9,11 @@ use Rattle.xom_base.specs.declared.event.Rule.TheVariants as rule
 use Rattle.line_cache.specs.declared.way.Victim.{Victim}
 use Rattle.line_cache.specs.declared.way.Way.{Way}
 use Rattle.line_cache.specs.Lines.{HasNoLine, TakesLeast, way_found}
-use Rattle.line_cache.specs.Ways.{Cache, found, free_if, free_way, victim_of, way_at, without_slot}
+use Rattle.line_cache.specs.Ways.{Cache, free_if, free_way, place_of_line, victim_of, way_at, without_slot}
 use Rattle.xom_versions.specs.declared.store.Torn.{Torn}
 use Rattle.xom_versions.specs.Versions.{Versions}
 use Rattle.xom_model.specs.Access.{after_eviction, after_flush, after_raise, after_seal, after_stop, after_victim, and_then, cleared_at, or_stopped, sealed_by_raise, taken_out, without_guest}
-use Rattle.xom_model.specs.State.{CoreState, store_of, with_way}
+use Rattle.xom_model.specs.State.{CoreState, core_with_way, store_of}
 use Rattle.xom_model.proofs.Gone.{less}
 use Rattle.xom_private.specs.Cores.{rule_in}
 use Rattle.xom_private.specs.Settling.{cache_of}
@@ -39,7 +39,7 @@ module _ (v : Versions) (core : CoreState) (place : ℕ) where
   way = way_at core.ways place
 
   abbrev out : CoreState
-  out = with_way core place free_way
+  out = core_with_way core place free_way
 
   abbrev Same : Result ℕ Torn → Type 0
   Same answer = after_eviction place
@@ -147,20 +147,20 @@ module _ (v : Versions) where
   unfolding after_flush
   flushed_pages slot zero line core none = refl
   flushed_pages slot (suc count) line core none =
-      let first : CoreState × Option Rule = taken_out v core (found core.ways slot line) in
+      let first : CoreState × Option Rule = taken_out v core (place_of_line core.ways slot line) in
       let rest : CoreState → CoreState × Option Rule = after_flush v slot count (line + 1) in
       let ended : first.1 ≡ None = no_rule_first first rest none in
       let whole : and_then first rest ≡ rest first.0 = then_rest first rest ended in
       ap (λ (r : CoreState × Option Rule). r.0.pages) whole
       ∙ flushed_pages slot count (line + 1) first.0
       (sym (ap (λ (r : CoreState × Option Rule). r.1) whole) ∙ none)
-      ∙ taken_out_pages core (found core.ways slot line) ended
+      ∙ taken_out_pages core (place_of_line core.ways slot line) ended
 
 -- ---- Lines that aren't cached
 
 -- no line from one on to another is cached
 abbrev pub NoneFrom : List Way → ℕ → ℕ → ℕ → Type 0
-NoneFrom ways slot from to = (line : ℕ) → from ≤ line → line < to → found ways slot line ≡ None
+NoneFrom ways slot from to = (line : ℕ) → from ≤ line → line < to → place_of_line ways slot line ≡ None
 
 module _ (v : Versions) (slot more : ℕ) where
   -- such lines are passed over
@@ -231,13 +231,13 @@ module _ (v : Versions) (slot page : ℕ) (some : 1 ≤ slot) (old mid : CoreSta
 
   after : NoneFrom mid.ways slot (128 * page) (victim.line + 1)
   after line low high = elim (less line victim.line) [
-    | inl lower ↦ not_found mid.ways (found mid.ways slot line)
+    | inl lower ↦ not_found mid.ways (place_of_line mid.ways slot line)
         (takes.other_lines slot line (λ none. absurd (omega arith)) (λ _ same. absurd (omega arith))
         ∙ ap (way_found old.ways) (before line low lower))
     | inr last ↦
         let same : victim.line ≡ line = omega arith in
-        subst (λ l. found mid.ways slot l ≡ None) same
-        (not_found mid.ways (found mid.ways slot victim.line) takes.gone)
+        subst (λ l. place_of_line mid.ways slot l ≡ None) same
+        (not_found mid.ways (place_of_line mid.ways slot victim.line) takes.gone)
   ]
 
   from_here : after_flush v slot 128 (128 * page) old ≡ and_then settled
@@ -257,7 +257,7 @@ module _ (v : Versions) (slot page : ℕ) (some : 1 ≤ slot) (old mid : CoreSta
       let within = in_page in
       passed_over v slot remaining (victim.line + 1 - 128 * page) 128 (128 * page) (victim.line + 1)
       new (omega arith) (omega arith)
-      (λ line low high. ap (λ ways. found ways slot line) ways_are ∙ after line low high)
+      (λ line low high. ap (λ ways. place_of_line ways slot line) ways_are ∙ after line low high)
 
   -- the least line is past those that are gone
   past_gone : (count : ℕ) → NoneFrom old.ways slot (128 * page) (128 * page + count)
@@ -281,7 +281,7 @@ module _ (v : Versions) (slot page : ℕ) (some : 1 ≤ slot) (old mid : CoreSta
             ∙ sym from_here ∙ reached.same;
         gone = λ line low high.
             let past = past_gone count reached.gone in
-            ap (λ ways. found ways slot line) ways_are ∙ after line low (omega arith);
+            ap (λ ways. place_of_line ways slot line) ways_are ∙ after line low (omega arith);
       }
 
   -- the slot was stopped, and the flush ends with that

@@ -8,7 +8,7 @@ use Rattle.xom_versions.specs.Versions.{Versions}
 use Rattle.xom_model.specs.declared.reach.Reach.{Reach}
 use Rattle.xom_model.specs.declared.reach.Reach.TheVariants as reach
 use Rattle.xom_model.specs.Access.{after_stop, with_pointers, write_back}
-use Rattle.xom_model.specs.State.{CoreState, with_way}
+use Rattle.xom_model.specs.State.{CoreState, core_with_way}
 
 abbrev pub if_dirty : Victim → Bool → Option Victim
 if_dirty victim false = None
@@ -23,9 +23,9 @@ abbrev pub cache_of : CoreState → Cache
 cache_of core = record { ways = core.ways; pointers = core.pointers }
 
 -- the core with the new line in its way
-unfoldable pub filled : CoreState → ℕ → ℕ → List ℕ → CoreState
-filled core slot line bytes =
-    with_way (with_pointers core line) (place_for core.ways core.pointers line)
+unfoldable pub core_with_new_line : CoreState → ℕ → ℕ → List ℕ → CoreState
+core_with_new_line core slot line bytes =
+    core_with_way (with_pointers core line) (place_for core.ways core.pointers line)
     (new_way slot line bytes)
 
 -- what the access comes to, where the line that was pushed out was written back, or its slot is to
@@ -36,9 +36,9 @@ settled_by slot place who core (Some why) =
     (after_stop core who why, if who == slot then reach.Stopped why else reach.Ready place)
 
 module _ (v : Versions) where
-  abbrev pub settled : CoreState → ℕ → ℕ → Option Victim → CoreState × Reach
-  settled core slot place None = (core, reach.Ready place)
-  settled core slot place (Some victim) =
+  abbrev pub access_after_settling : CoreState → ℕ → ℕ → Option Victim → CoreState × Reach
+  access_after_settling core slot place None = (core, reach.Ready place)
+  access_after_settling core slot place (Some victim) =
       settled_by slot place victim.slot (write_back v core victim.slot victim.line victim.bytes).0
       (write_back v core victim.slot victim.line victim.bytes).1
 

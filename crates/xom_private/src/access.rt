@@ -1,11 +1,11 @@
 ghost use Rattle.std.specs.Prelude.{◌≡◌, ◌≤◌, ◌<◌, ◌+◌, None, Some, IfSome, option_map};
-ghost use Rattle.line_cache.specs.Ways.{found};
+ghost use Rattle.line_cache.specs.Ways.{place_of_line};
 ghost use Rattle.page_map.specs.Pages.{frame_of};
 ghost use Rattle.xom_seal.specs.Sealing.{unsealed_line};
 ghost use Rattle.xom_versions.specs.Store.{line_limit, version_room};
 ghost use Rattle.xom_model.specs.Access.{access, reach_by_cache, read_from};
 ghost use Rattle.xom_model.specs.Holds.{IsLive};
-ghost use Rattle.xom_model.specs.Lines.{accept_entry, ct_place, keys_of, message_as, name_of, sealed_at as sealed_in, who_of};
+ghost use Rattle.xom_model.specs.Lines.{accept_entry, ct_place, keys_of, line_name_of, message_as, sealed_at as sealed_in, who_of};
 ghost use Rattle.xom_model.specs.State.{core_with_hashes, page_of, store_of, with_entry};
 ghost use Rattle.xom_private.specs.Settling.{stopped_for};
 
@@ -32,7 +32,7 @@ impl<V: VersionStore> Core<V> {
     fn opened(&self, slot: u8, line: u32, version: u64, sealed: &SealedLine) -> Option<LineOpening>
         requires known { slot ≤ 16 }
         requires live { IsLive self.now.core slot }
-        ensures plain { option_map (λ o. o.plain) result ≡ unsealed_line (name_of (who_of self.now.core slot) line version) (keys_of (who_of self.now.core slot) line version) sealed.now }
+        ensures plain { option_map (λ o. o.plain) result ≡ unsealed_line (line_name_of (who_of self.now.core slot) line version) (keys_of (who_of self.now.core slot) line version) sealed.now }
         ensures message { IfSome result (λ o. o.message ≡ message_as (who_of self.now.core slot) line version sealed.now.ct) }
     {
         let name = self.name(slot, line, version);
@@ -90,7 +90,7 @@ impl<V: VersionStore> Core<V> {
         requires line { line < line_limit }
         requires live { IsLive self.old.core slot }
         requires frame { frame_of self.old.core.pages slot (page_of line) ≡ Some frame }
-        requires absent { found self.old.core.ways slot line ≡ None }
+        requires absent { place_of_line self.old.core.ways slot line ≡ None }
         requires room { 5500 ≤ self.old.spare }
         ensures core { self.new.core ≡ (read_from V.versions self.old.core slot line frame version).0 }
         ensures reach { result ≡ (read_from V.versions self.old.core slot line frame version).1 }
@@ -129,7 +129,7 @@ impl<V: VersionStore> Core<V> {
         requires line { line < line_limit }
         requires live { IsLive self.old.core slot }
         requires frame { frame_of self.old.core.pages slot (page_of line) ≡ Some frame }
-        requires absent { found self.old.core.ways slot line ≡ None }
+        requires absent { place_of_line self.old.core.ways slot line ≡ None }
         requires room { 10000 ≤ self.old.spare }
         ensures core { self.new.core ≡ (reach_by_cache V.versions self.old.core slot line frame None).0 }
         ensures reach { result ≡ (reach_by_cache V.versions self.old.core slot line frame None).1 }

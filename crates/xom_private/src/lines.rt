@@ -1,6 +1,6 @@
 ghost use Rattle.std.specs.Prelude.{◌≡◌, ◌≤◌};
 ghost use Rattle.xom_model.specs.Holds.{IsLive};
-ghost use Rattle.xom_model.specs.Lines.{is_image_at, keys_of, message_as, name_of, sealed_as, who_of};
+ghost use Rattle.xom_model.specs.Lines.{is_image_at, keys_of, line_name_of, message_as, sealed_as, who_of};
 
 use crate::Core;
 use xom_base::Short;
@@ -19,7 +19,7 @@ impl<V: VersionStore> Core<V> {
     /// The name of a line of a slot's guest under a version.
     pub(crate) fn name(&self, slot: u8, line: u32, version: u64) -> LineName
         requires { slot ≤ 16 }
-        ensures { result ≡ name_of (who_of self.now.core slot) line version }
+        ensures { result ≡ line_name_of (who_of self.now.core slot) line version }
     {
         let session = self.table.session(slot);
         if self.is_image(slot, line, version) {

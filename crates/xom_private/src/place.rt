@@ -1,12 +1,12 @@
 ghost use Rattle.std.specs.Prelude.{◌≡◌, ◌≤◌, ◌<◌, ◌+◌, None, IfSome};
 ghost use Rattle.line_cache.specs.Lines.{IsLine};
-ghost use Rattle.line_cache.specs.Ways.{found, place_for, victim_for};
+ghost use Rattle.line_cache.specs.Ways.{place_for, place_of_line, victim_for};
 ghost use Rattle.xom_versions.specs.Store.{line_limit};
 ghost use Rattle.xom_model.specs.Access.{reach_after_placing};
 ghost use Rattle.xom_model.specs.Holds.{IsLive};
 ghost use Rattle.xom_model.specs.State.{page_of};
 ghost use Rattle.xom_private.specs.Cores.{FreeAreClean, IsMapped};
-ghost use Rattle.xom_private.specs.Settling.{cache_of, filled as filled_with, settled as settled_by_model, to_write};
+ghost use Rattle.xom_private.specs.Settling.{access_after_settling as settled_by_model, cache_of, core_with_new_line as filled_with, to_write};
 
 use crate::Core;
 use line_cache::Victim;
@@ -16,13 +16,13 @@ use xom_versions::VersionStore;
 impl<V: VersionStore> Core<V> {
     /// Puts a line of a slot that isn't cached into its way. Answers the place, and what is to be
     /// written back of the line that stood there.
-    #[tactic(auto, unfolding(crate::specs::Settling::filled))]
+    #[tactic(auto, unfolding(crate::specs::Settling::core_with_new_line))]
     fn fill(&mut self, slot: u8, line: u32, bytes: &[u8; 32]) -> (u32, Option<Victim>)
         requires some { 1 ≤ slot }
         requires known { slot ≤ 16 }
         requires line { line < line_limit }
         requires mapped { IsMapped self.old.core.pages slot (page_of line) }
-        requires absent { found self.old.core.ways slot line ≡ None }
+        requires absent { place_of_line self.old.core.ways slot line ≡ None }
         ensures core { self.new.core ≡ filled_with self.old.core slot line bytes.now }
         ensures place { result.0 ≡ place_for self.old.core.ways self.old.core.pointers line }
         ensures victim { result.1 ≡ to_write (victim_for (cache_of self.old.core) line) }
@@ -70,7 +70,7 @@ impl<V: VersionStore> Core<V> {
         requires known { slot ≤ 16 }
         requires line { line < line_limit }
         requires mapped { IsMapped self.old.core.pages slot (page_of line) }
-        requires absent { found self.old.core.ways slot line ≡ None }
+        requires absent { place_of_line self.old.core.ways slot line ≡ None }
         requires room { 5100 ≤ self.old.spare }
         ensures core { self.new.core ≡ (reach_after_placing V.versions self.old.core slot line bytes.now).0 }
         ensures reach { result ≡ (reach_after_placing V.versions self.old.core slot line bytes.now).1 }

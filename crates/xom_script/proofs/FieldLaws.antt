@@ -10,7 +10,7 @@ use Rattle.std.proofs.lemmas.Slice.Eq.{bytes_eq-Decides}
 use Rattle.std.proofs.lemmas.Str.{IsUtf8-from_is_utf8, is_utf8-from_IsUtf8}
 use Rattle.xom_base.specs.Hex.{hex_within}
 use Rattle.xom_base.proofs.HexLaws.{hex_within-exact}
-use Rattle.xom_script.specs.Fields.{WritesBytes, name_of, row_of, write_bytes_of}
+use Rattle.xom_script.specs.Fields.{WritesBytes, name_of_word, row_by_name, write_bytes_of}
 
 -- a guarded value
 pub holds_some : {A : Type 0} (b : Bool) (x y : A) → cond b (Some x) None ≡ Some y
@@ -31,11 +31,11 @@ same_word word name h = (bytes_eq-Decides word name).0 h
 -- what holds of the value of each row holds of the value that was found
 pub row_found : {A : Type 0} (P : Type 0) (name : List ℕ) (value : A)
     (rows : List (List ℕ × Option A))
-    → row_of rows name ≡ Some value
+    → row_by_name rows name ≡ Some value
     → AllByRecursion (λ row. name ≡ row.0 → row.1 ≡ Some value → P) rows → P
 row_found P name value [] h each = absurd (none-some value h)
 row_found P name value (row ∷ rows) h each =
-    elim (chosen (bytes_eq name row.0) row.1 (row_of rows name) (Some value) h) [
+    elim (chosen (bytes_eq name row.0) row.1 (row_by_name rows name) (Some value) h) [
       | inl t ↦ each.0 (same_word name row.0 t.0) t.1
       | inr t ↦ row_found P name value rows t.1 each.1
     ]
@@ -48,17 +48,17 @@ no_items (item ∷ items) h =
 
 -- ---- file names
 
-pub name_of-utf8 : (word : List ℕ) → IsUtf8 word → name_of word ≡ Some word
-unfolding name_of
+pub name_of-utf8 : (word : List ℕ) → IsUtf8 word → name_of_word word ≡ Some word
+unfolding name_of_word
 name_of-utf8 word utf8 = rw (is_utf8-from_IsUtf8 word utf8) refl
 
-pub name_of-none : (word : List ℕ) → (IsUtf8 word → ⊥) → name_of word ≡ None
-unfolding name_of
+pub name_of-none : (word : List ℕ) → (IsUtf8 word → ⊥) → name_of_word word ≡ None
+unfolding name_of_word
 name_of-none word never =
     rw (false_from_ne_true (is_utf8 word) (λ utf8. never (IsUtf8-from_is_utf8 word utf8))) refl
 
-pub name_of-found : (word name : List ℕ) → name_of word ≡ Some name → (word ≡ name) × IsUtf8 name
-unfolding name_of
+pub name_of-found : (word name : List ℕ) → name_of_word word ≡ Some name → (word ≡ name) × IsUtf8 name
+unfolding name_of_word
 name_of-found word name h =
     let t = holds_some (is_utf8 word) word name h in
     let same : word ≡ name = same_Some word name t.1 in

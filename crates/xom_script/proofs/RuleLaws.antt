@@ -10,7 +10,7 @@ use Rattle.xom_base.specs.declared.schedule.Poke.{Poke}
 use Rattle.xom_base.specs.Words.{words_of}
 use Rattle.xom_script.specs.RunFiles.{IsRunFile, RunFormat, run_file_at}
 use Rattle.xom_script.specs.RunLines.{IsInterrupts, IsRunLine}
-use Rattle.xom_script.specs.RunOrder.{Follows, HasRoom, IsNewId, with_guest, with_owner}
+use Rattle.xom_script.specs.RunOrder.{Follows, HasRoom, IsNewId, draft_with_guest, with_owner}
 use Rattle.xom_script.specs.RunRules.{HasOwnIds, KeepsDraft, KeepsInterrupts, KeepsRules}
 use Rattle.xom_script.specs.declared.progress.Draft.{Draft}
 use Rattle.xom_script.specs.declared.progress.Progress.{Progress}
@@ -63,7 +63,7 @@ owner-keeps draft owner keeps few new = record {
 }
 
 guest-keeps : (draft : Draft) (guest : GuestFile) → KeepsDraft draft → length draft.guests < 16
-    → KeepsDraft (with_guest draft guest)
+    → KeepsDraft (draft_with_guest draft guest)
 guest-keeps draft guest keeps few = record {
   numbers = keeps.numbers;
   owners = keeps.owners;

@@ -12,7 +12,7 @@ use Rattle.xom_base.proofs.LineLaws.{Tells-words, bad_from, ok_err, only_bad, on
 use Rattle.xom_base.proofs.TextLaws.{AnswersText-exact}
 use Rattle.xom_script.specs.RunFiles.{IsBadRun, IsRunFile, IsRunRow, RunFormat, run_file_at, run_file_from, run_row_of, run_step, whole_file}
 use Rattle.xom_script.specs.RunLines.{run_line_of}
-use Rattle.xom_script.specs.RunOrder.{Follows, HasRoom, IsNewId, IsWhole, after_files, after_line, first_draft, fits_ram, has_id, has_room, is_whole, last_event, run_file, takes_owner, takes_poke, with_guest, with_owner, with_poke}
+use Rattle.xom_script.specs.RunOrder.{Follows, HasRoom, IsNewId, IsWhole, after_files, after_line, draft_with_guest, first_draft, fits_ram, has_id, has_room, is_whole, last_event, run_file, takes_owner, takes_poke, with_owner, with_poke}
 use Rattle.xom_script.specs.declared.progress.Draft.{Draft}
 use Rattle.xom_script.specs.declared.progress.Progress.{Progress}
 use Rattle.xom_script.specs.declared.progress.Progress.TheVariants as progress
@@ -87,12 +87,12 @@ follows-files draft n (line.Owner owner) after h =
     )
 follows-files draft n (line.Guest sealed input) after h =
     let guest : GuestFile = record { line = n; sealed = sealed; input = input } in
-    let t = holds_some (ltb (length draft.guests) 16) (progress.Files (with_guest draft guest))
+    let t = holds_some (ltb (length draft.guests) 16) (progress.Files (draft_with_guest draft guest))
     after h in (
       draft,
       refl,
       ltb-true (length draft.guests) 16 t.0,
-      sym (same_Some (progress.Files (with_guest draft guest)) after t.1),
+      sym (same_Some (progress.Files (draft_with_guest draft guest)) after t.1),
     )
 follows-files draft n (line.Kernel kernel) after h =
     let t = holds_some (has_room kernel draft.frames (length draft.guests))

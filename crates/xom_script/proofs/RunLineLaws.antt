@@ -7,14 +7,14 @@ use Rattle.std.proofs.lemmas.Bool.Decides.{nat_tests}
 use Rattle.std.proofs.lemmas.Bool.{leb-true, le-leb, ltb-true, lt-ltb, le-ltb}
 use Rattle.std.proofs.lemmas.Option.{none-some, option_and_then_some as steps, same_Some}
 use Rattle.xom_base.specs.Hex.{hex_of}
-use Rattle.xom_base.specs.Numbers.{IsNumber, Writes, number_below_of, number_of}
+use Rattle.xom_base.specs.Numbers.{IsNumber, WritesBelow, number_below_of, number_of_word}
 use Rattle.xom_base.specs.Options.{◌>>=◌}
 use Rattle.xom_base.proofs.CutLaws.{option_map_some}
 use Rattle.xom_base.proofs.HexLaws.{hex_of-exact}
 use Rattle.xom_base.proofs.NumberLaws.{number_below_of-exact, number_of-exact}
 use Rattle.xom_base.specs.declared.schedule.Interrupts.TheVariants as interrupts
-use Rattle.xom_script.specs.Fields.{name_of, where_holds, write_bytes_of}
-use Rattle.xom_script.specs.RunLines.{Ascends, IsRunLine, at_of, boot_of, budget_of, every_of, frames_of, guest_of, guest_with_input_of, interrupt_of, interrupt_rows, kernel_of, kernel_rows, machine_of, never_of, owner_of, pages_of, poke_of, run_line_of, run_rows, times_of}
+use Rattle.xom_script.specs.Fields.{name_of_word, where_holds, write_bytes_of}
+use Rattle.xom_script.specs.RunLines.{Ascends, IsRunLine, at_line, boot_line, budget_line, every_line, frames_line, guest_and_input_line, guest_line, interrupt_line, interrupt_rows, kernel_choice, kernel_rows, machine_line, never_line, owner_line, pages_line, poke_line, run_line_of, run_rows, times_of}
 use Rattle.xom_script.specs.declared.run_file.KernelLine.TheVariants as kernel
 use Rattle.xom_script.specs.declared.run_file.OwnerFile.{OwnerFile}
 use Rattle.xom_script.specs.declared.run_line.RunLine.{RunLine}
@@ -36,19 +36,19 @@ front_append a b None = refl
 front_append a b (Some more) = ap Some (sym (append_assoc a b more))
 
 pub times_none : (times : List ℕ) (last : ℕ) (word : List ℕ) (words : List (List ℕ))
-    → number_of word ≡ None
+    → number_of_word word ≡ None
     → option_map (λ more. times ++ more) (times_of last (word ∷ words)) ≡ None
 unfolding times_of
 times_none times last word words h = rw h refl
 
 pub times_low : (times : List ℕ) (last n : ℕ) (word : List ℕ) (words : List (List ℕ))
-    → number_of word ≡ Some n → n ≤ last
+    → number_of_word word ≡ Some n → n ≤ last
     → option_map (λ more. times ++ more) (times_of last (word ∷ words)) ≡ None
 unfolding times_of
 times_low times last n word words h low = rw (h, le-ltb last n low) refl
 
 pub times_next : (times : List ℕ) (last n : ℕ) (word : List ℕ) (words : List (List ℕ))
-    → number_of word ≡ Some n → last < n
+    → number_of_word word ≡ Some n → last < n
     → option_map (λ more. times ++ more) (times_of last (word ∷ words)) ≡ option_map
     (λ more. (times ++ n ∷ []) ++ more) (times_of n words)
 unfolding times_of
@@ -72,7 +72,7 @@ unfolding times_of
 times_found last [] times h =
     subst (λ times. AllZip IsNumber [] times × Ascends last times) (same_Some [] times h) (tt, tt)
 times_found last (word ∷ words) times h =
-    steps _ (number_of word) times h (λ n read h.
+    steps _ (number_of_word word) times h (λ n read h.
     steps _ (where_holds (ltb last n) n) times h (λ above guard h.
     steps _ (times_of n words) times h (λ more rest h.
     let behind = times_found n words more rest in
@@ -103,15 +103,15 @@ same_length (word ∷ words) (n ∷ times) h = ap suc (same_length words times h
 -- a row of one number below a bound
 number_found : (name : List ℕ) (bound : ℕ) (make : ℕ → RunLine) (w : List ℕ) (value : RunLine)
     → (number_below_of bound w >>= (λ n. Some (make n))) ≡ Some value
-    → ((n : ℕ) → Writes bound w n → IsRunLine (name ∷ w ∷ []) (make n))
+    → ((n : ℕ) → WritesBelow bound w n → IsRunLine (name ∷ w ∷ []) (make n))
     → IsRunLine (name ∷ w ∷ []) value
 number_found name bound make w value h is =
     steps _ (number_below_of bound w) value h (λ n read same.
     given (name ∷ w ∷ []) (make n) value (is n ((number_below_of-exact bound w n).0 read)) same)
 
-machine_found : (words : List (List ℕ)) (value : RunLine) → machine_of words ≡ Some value
+machine_found : (words : List (List ℕ)) (value : RunLine) → machine_line words ≡ Some value
     → IsRunLine (codes "machine" ∷ words) value
-unfolding machine_of
+unfolding machine_line
 machine_found [] value h = absurd (none-some value h)
 machine_found (k ∷ []) value h =
     steps _ (hex_of 32 k) value h (λ key read same.
@@ -119,17 +119,17 @@ machine_found (k ∷ []) value h =
     (k, refl, (hex_of-exact 32 k key).0 read) same)
 machine_found (k ∷ l ∷ words) value h = absurd (none-some value h)
 
-boot_found : (words : List (List ℕ)) (value : RunLine) → boot_of words ≡ Some value
+boot_found : (words : List (List ℕ)) (value : RunLine) → boot_line words ≡ Some value
     → IsRunLine (codes "boot" ∷ words) value
-unfolding boot_of
+unfolding boot_line
 boot_found [] value h = absurd (none-some value h)
 boot_found (w ∷ []) value h =
     number_found (codes "boot") (2 ^ 63) line.Boot w value h (λ n is. (w, refl, is))
 boot_found (w ∷ l ∷ words) value h = absurd (none-some value h)
 
-frames_found : (words : List (List ℕ)) (value : RunLine) → frames_of words ≡ Some value
+frames_found : (words : List (List ℕ)) (value : RunLine) → frames_line words ≡ Some value
     → IsRunLine (codes "frames" ∷ words) value
-unfolding frames_of
+unfolding frames_line
 frames_found [] value h = absurd (none-some value h)
 frames_found (w ∷ []) value h =
     steps _ (number_below_of 8193 w) value h (λ n read same.
@@ -138,22 +138,22 @@ frames_found (w ∷ []) value h =
     (w, refl, (number_below_of-exact 8193 w n).0 read, leb-true 4 n t.0) t.1)
 frames_found (w ∷ l ∷ words) value h = absurd (none-some value h)
 
-budget_found : (words : List (List ℕ)) (value : RunLine) → budget_of words ≡ Some value
+budget_found : (words : List (List ℕ)) (value : RunLine) → budget_line words ≡ Some value
     → IsRunLine (codes "budget" ∷ words) value
-unfolding budget_of
+unfolding budget_line
 budget_found [] value h = absurd (none-some value h)
 budget_found (w ∷ []) value h =
     number_found (codes "budget") 1048577 line.Budget w value h (λ n is. (w, refl, is))
 budget_found (w ∷ l ∷ words) value h = absurd (none-some value h)
 
-owner_found : (words : List (List ℕ)) (value : RunLine) → owner_of words ≡ Some value
+owner_found : (words : List (List ℕ)) (value : RunLine) → owner_line words ≡ Some value
     → IsRunLine (codes "owner" ∷ words) value
-unfolding owner_of
+unfolding owner_line
 owner_found [] value h = absurd (none-some value h)
 owner_found (p ∷ []) value h = absurd (none-some value h)
 owner_found (p ∷ k ∷ []) value h = absurd (none-some value h)
 owner_found (p ∷ k ∷ i ∷ []) value h =
-    steps _ (name_of p) value h (λ plain read_p h.
+    steps _ (name_of_word p) value h (λ plain read_p h.
     steps _ (hex_of 32 k) value h (λ key read_k h.
     steps _ (hex_of 16 i) value h (λ id read_i same.
     let name = name_of-found p plain read_p in
@@ -174,18 +174,18 @@ owner_found (p ∷ k ∷ i ∷ []) value h =
     ) same)))
 owner_found (p ∷ k ∷ i ∷ l ∷ words) value h = absurd (none-some value h)
 
-guest_found : (words : List (List ℕ)) (value : RunLine) → guest_of words ≡ Some value
+guest_found : (words : List (List ℕ)) (value : RunLine) → guest_line words ≡ Some value
     → IsRunLine (codes "guest" ∷ words) value
-unfolding guest_of guest_with_input_of
+unfolding guest_line guest_and_input_line
 guest_found [] value h = absurd (none-some value h)
 guest_found (s ∷ []) value h =
-    steps _ (name_of s) value h (λ sealed read same.
+    steps _ (name_of_word s) value h (λ sealed read same.
     let name = name_of-found s sealed read in
     given (codes "guest" ∷ s ∷ []) (line.Guest sealed None) value
     (ap (λ s. codes "guest" ∷ s ∷ []) name.0, name.1) same)
 guest_found (s ∷ i ∷ []) value h =
-    steps _ (name_of s) value h (λ sealed read_s h.
-    steps _ (name_of i) value h (λ input read_i same.
+    steps _ (name_of_word s) value h (λ sealed read_s h.
+    steps _ (name_of_word i) value h (λ input read_i same.
     let name = name_of-found s sealed read_s in
     let other = name_of-found i input read_i in
     given (codes "guest" ∷ s ∷ i ∷ []) (line.Guest sealed (Some input)) value (
@@ -196,16 +196,16 @@ guest_found (s ∷ i ∷ []) value h =
     ) same))
 guest_found (s ∷ i ∷ l ∷ words) value h = absurd (none-some value h)
 
-kernel_found : (words : List (List ℕ)) (value : RunLine) → kernel_of words ≡ Some value
+kernel_found : (words : List (List ℕ)) (value : RunLine) → kernel_choice words ≡ Some value
     → IsRunLine (codes "kernel" ∷ words) value
-unfolding kernel_of pages_of
+unfolding kernel_choice pages_line
 kernel_found [] value h = absurd (none-some value h)
 kernel_found (kind ∷ []) value h = absurd (none-some value h)
 kernel_found (kind ∷ w ∷ []) value h =
     let words = codes "kernel" ∷ kind ∷ w ∷ [] in
     row_found (IsRunLine words value) kind value (kernel_rows w) h (
       λ is read.
-          let m = option_map_some (λ file. line.Kernel (kernel.Script file)) (name_of w) value
+          let m = option_map_some (λ file. line.Kernel (kernel.Script file)) (name_of_word w) value
           read in
           let name = name_of-found w m.0 m.1 in
           given words (line.Kernel (kernel.Script m.0)) value (
@@ -219,7 +219,7 @@ kernel_found (kind ∷ w ∷ []) value h =
           ) m.2,
       (
         λ is read.
-            let m = option_map_some (λ file. line.Kernel (kernel.Image file)) (name_of w) value
+            let m = option_map_some (λ file. line.Kernel (kernel.Image file)) (name_of_word w) value
             read in
             let name = name_of-found w m.0 m.1 in
             given words (line.Kernel (kernel.Image m.0)) value (
@@ -252,19 +252,19 @@ kernel_found (kind ∷ w ∷ []) value h =
 kernel_found (kind ∷ w ∷ l ∷ words) value h = absurd (none-some value h)
 
 never_found : (kind : List ℕ) (words : List (List ℕ)) (value : RunLine) → kind ≡ codes "never"
-    → never_of words ≡ Some value → IsRunLine (codes "interrupt" ∷ kind ∷ words) value
-unfolding never_of
+    → never_line words ≡ Some value → IsRunLine (codes "interrupt" ∷ kind ∷ words) value
+unfolding never_line
 never_found kind [] value is same =
     given (codes "interrupt" ∷ kind ∷ []) (line.Interrupt interrupts.Never) value
     (kind ∷ [], refl, ap (λ kind. kind ∷ []) is) same
 never_found kind (w ∷ words) value is h = absurd (none-some value h)
 
 every_found : (kind : List ℕ) (words : List (List ℕ)) (value : RunLine) → kind ≡ codes "every"
-    → every_of words ≡ Some value → IsRunLine (codes "interrupt" ∷ kind ∷ words) value
-unfolding every_of
+    → every_line words ≡ Some value → IsRunLine (codes "interrupt" ∷ kind ∷ words) value
+unfolding every_line
 every_found kind [] value is h = absurd (none-some value h)
 every_found kind (w ∷ []) value is h =
-    steps _ (number_of w) value h (λ n read same.
+    steps _ (number_of_word w) value h (λ n read same.
     let t = holds_some (leb 1 n) (line.Interrupt (interrupts.Every n)) value same in
     given (codes "interrupt" ∷ kind ∷ w ∷ []) (line.Interrupt (interrupts.Every n)) value (
       kind ∷ w ∷ [],
@@ -283,8 +283,8 @@ some_words : (word : List ℕ) (words : List (List ℕ)) → eqb (length (word �
 some_words word words = grind (arith, nat_tests)
 
 at_found : (kind : List ℕ) (words : List (List ℕ)) (value : RunLine) → kind ≡ codes "at"
-    → at_of words ≡ Some value → IsRunLine (codes "interrupt" ∷ kind ∷ words) value
-unfolding at_of
+    → at_line words ≡ Some value → IsRunLine (codes "interrupt" ∷ kind ∷ words) value
+unfolding at_line
 at_found kind [] value is h = absurd (none-some value h)
 at_found kind (w ∷ words) value is h =
     steps _ (times_of 0 (w ∷ words)) value (rw (some_words w words) at h) (λ times read same.
@@ -294,23 +294,23 @@ at_found kind (w ∷ words) value is h =
     (kind ∷ w ∷ words, refl, (w ∷ words, ap (λ kind. kind ∷ w ∷ words) is, found.0, some, found.1))
     same)
 
-interrupt_found : (words : List (List ℕ)) (value : RunLine) → interrupt_of words ≡ Some value
+interrupt_found : (words : List (List ℕ)) (value : RunLine) → interrupt_line words ≡ Some value
     → IsRunLine (codes "interrupt" ∷ words) value
-unfolding interrupt_of
+unfolding interrupt_line
 interrupt_found [] value h = absurd (none-some value h)
 interrupt_found (kind ∷ words) value h =
     row_found (IsRunLine (codes "interrupt" ∷ kind ∷ words) value) kind value (interrupt_rows words)
     h
     (never_found kind words value, (every_found kind words value, (at_found kind words value, tt)))
 
-poke_found : (words : List (List ℕ)) (value : RunLine) → poke_of words ≡ Some value
+poke_found : (words : List (List ℕ)) (value : RunLine) → poke_line words ≡ Some value
     → IsRunLine (codes "poke" ∷ words) value
-unfolding poke_of
+unfolding poke_line
 poke_found [] value h = absurd (none-some value h)
 poke_found (e ∷ []) value h = absurd (none-some value h)
 poke_found (e ∷ a ∷ []) value h = absurd (none-some value h)
 poke_found (e ∷ a ∷ b ∷ []) value h =
-    steps _ (number_of e) value h (λ event read_e h.
+    steps _ (number_of_word e) value h (λ event read_e h.
     steps _ (number_below_of (2 ^ 32) a) value h (λ address read_a h.
     steps _ (write_bytes_of b) value h (λ bytes read_b same.
     given (codes "poke" ∷ e ∷ a ∷ b ∷ [])
@@ -374,16 +374,16 @@ run_line_found (kind ∷ words) value h =
 
 at_only : (numbers : List (List ℕ)) (times : List ℕ) → AllZip IsNumber numbers times
     → 0 < length times → Ascends 0 times
-    → at_of numbers ≡ Some (line.Interrupt (interrupts.At times))
-unfolding at_of
+    → at_line numbers ≡ Some (line.Interrupt (interrupts.At times))
+unfolding at_line
 at_only [] times z some a = let none = same_length [] times z in absurd (omega arith)
 at_only (w ∷ words) times z some a =
     rw (some_words w words, times_only 0 (w ∷ words) times z a) refl
 
 run_line_only : (words : List (List ℕ)) (value : RunLine) → IsRunLine words value
     → run_line_of words ≡ Some value
-unfolding run_line_of machine_of boot_of frames_of budget_of owner_of guest_of guest_with_input_of
-    kernel_of pages_of interrupt_of never_of every_of poke_of
+unfolding run_line_of machine_line boot_line frames_line budget_line owner_line guest_line guest_and_input_line
+    kernel_choice pages_line interrupt_line never_line every_line poke_line
 run_line_only words (line.Machine key) w = rw w.1 (rw ((hex_of-exact 32 w.0 key.0).1 w.2) refl)
 run_line_only words (line.Boot n) w =
     rw w.1 (rw ((number_below_of-exact (2 ^ 63) w.0 n).1 w.2) refl)

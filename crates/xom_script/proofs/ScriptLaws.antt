@@ -5,7 +5,7 @@ use Rattle.std.specs.Str.{bytes_eq}
 use Rattle.std.proofs.lemmas.Bool.{and_parts, leb-true, le-leb, ltb-true, lt-ltb}
 use Rattle.std.proofs.lemmas.Option.{none-some, option_and_then_some as steps, same_Some}
 use Rattle.xom_base.specs.Lines.{AnswersRead, AnswersText, LineStep, Rows, Tells, lines_of, made_of, read_from, rows_step}
-use Rattle.xom_base.specs.Numbers.{Writes, number_below_of}
+use Rattle.xom_base.specs.Numbers.{WritesBelow, number_below_of}
 use Rattle.xom_base.specs.Results.{◌>>=◌}
 use Rattle.xom_base.proofs.LineLaws.{Tells-rows, bad_from, only_bad, only_reads, reads_from, same_Err, same_Ok}
 use Rattle.xom_base.proofs.NumberLaws.{number_below_of-exact}
@@ -13,7 +13,7 @@ use Rattle.xom_base.proofs.TextLaws.{AnswersText-exact}
 use Rattle.xom_base.specs.declared.lines.TextFault.{TextFault}
 use Rattle.xom_base.specs.declared.event.Op.TheVariants as op
 use Rattle.xom_script.specs.Fields.{Writes32, write_bytes_of}
-use Rattle.xom_script.specs.ScriptLines.{IsScriptLine, none_of, one_of, rows_of_none, rows_of_one, rows_of_three, rows_of_two, script_line_of, three_of, two_of, write_of}
+use Rattle.xom_script.specs.ScriptLines.{IsScriptLine, kernel_write_line, no_word_line, one_word_line, rows_of_none, rows_of_one, rows_of_three, rows_of_two, script_line_of, three_word_line, two_word_line}
 use Rattle.xom_script.specs.Scripts.{IsBadScript, IsScript, script_at, script_with}
 use Rattle.xom_script.specs.declared.script.Script.{Script}
 use Rattle.xom_script.specs.declared.script_line.ScriptLine.{ScriptLine}
@@ -30,18 +30,18 @@ given words found value is same = subst (IsScriptLine words) (same_Some found va
 number32 : (word : List ℕ) (n : ℕ) → number_below_of (2 ^ 32) word ≡ Some n → Writes32 word n
 number32 word n h = (number_below_of-exact (2 ^ 32) word n).0 h
 
-none_found : (name : List ℕ) (value : ScriptLine) → none_of name ≡ Some value
+none_found : (name : List ℕ) (value : ScriptLine) → no_word_line name ≡ Some value
     → IsScriptLine (name ∷ []) value
-unfolding none_of
+unfolding no_word_line
 none_found name value h =
     row_found (IsScriptLine (name ∷ []) value) name value rows_of_none h (
       λ is same. given (name ∷ []) (line.Do op.Halt) value (ap (λ name. name ∷ []) is) same,
       (λ is same. given (name ∷ []) line.Show value (ap (λ name. name ∷ []) is) same, tt),
     )
 
-one_found : (name a : List ℕ) (value : ScriptLine) → one_of name a ≡ Some value
+one_found : (name a : List ℕ) (value : ScriptLine) → one_word_line name a ≡ Some value
     → IsScriptLine (name ∷ a ∷ []) value
-unfolding one_of
+unfolding one_word_line
 one_found name a value h =
     steps _ (number_below_of (2 ^ 32) a) value h (λ x read h.
     let w = number32 a x read in
@@ -65,9 +65,9 @@ one_found name a value h =
       ),
     ))
 
-two_found : (name a b : List ℕ) (value : ScriptLine) → two_of name a b ≡ Some value
+two_found : (name a b : List ℕ) (value : ScriptLine) → two_word_line name a b ≡ Some value
     → IsScriptLine (name ∷ a ∷ b ∷ []) value
-unfolding two_of
+unfolding two_word_line
 two_found name a b value h =
     steps _ (number_below_of (2 ^ 32) a) value h (λ x read_x h.
     steps _ (number_below_of (2 ^ 32) b) value h (λ y read_y h.
@@ -111,9 +111,9 @@ two_found name a b value h =
       ),
     )))
 
-three_found : (name a b c : List ℕ) (value : ScriptLine) → three_of name a b c ≡ Some value
+three_found : (name a b c : List ℕ) (value : ScriptLine) → three_word_line name a b c ≡ Some value
     → IsScriptLine (name ∷ a ∷ b ∷ c ∷ []) value
-unfolding three_of
+unfolding three_word_line
 three_found name a b c value h =
     steps _ (number_below_of (2 ^ 32) a) value h (λ x read_x h.
     steps _ (number_below_of (2 ^ 32) b) value h (λ y read_y h.
@@ -157,9 +157,9 @@ three_found name a b c value h =
       ),
     ))))
 
-write_found : (a h : List ℕ) (value : ScriptLine) → write_of a h ≡ Some value
+write_found : (a h : List ℕ) (value : ScriptLine) → kernel_write_line a h ≡ Some value
     → IsScriptLine (codes "write" ∷ a ∷ h ∷ []) value
-unfolding write_of
+unfolding kernel_write_line
 write_found a h value is =
     steps _ (number_below_of (2 ^ 32) a) value is (λ address read_a is.
     steps _ (write_bytes_of h) value is (λ bytes read_h same.
@@ -173,7 +173,7 @@ line_found [] value h = absurd (none-some value h)
 line_found (name ∷ []) value h = none_found name value h
 line_found (name ∷ a ∷ []) value h = one_found name a value h
 line_found (name ∷ a ∷ b ∷ []) value h =
-    elim (chosen (bytes_eq name (codes "write")) (write_of a b) (two_of name a b) (Some value) h) [
+    elim (chosen (bytes_eq name (codes "write")) (kernel_write_line a b) (two_word_line name a b) (Some value) h) [
       | inl t ↦
           subst (λ name. IsScriptLine (name ∷ a ∷ b ∷ []) value)
           (sym (same_word name (codes "write") t.0)) (write_found a b value t.1)
@@ -188,13 +188,13 @@ read32 : (word : List ℕ) (n : ℕ) → Writes32 word n → number_below_of (2 
 read32 word n w = (number_below_of-exact (2 ^ 32) word n).1 w
 
 -- a number below a smaller bound
-read_small : (bound : ℕ) (word : List ℕ) (n : ℕ) → bound ≤ 2 ^ 32 → Writes bound word n
+read_small : (bound : ℕ) (word : List ℕ) (n : ℕ) → bound ≤ 2 ^ 32 → WritesBelow bound word n
     → number_below_of (2 ^ 32) word ≡ Some n
 read_small bound word n small w = let below : n < bound = w.1 in read32 word n (w.0, omega arith)
 
 line_only : (words : List (List ℕ)) (value : ScriptLine) → IsScriptLine words value
     → script_line_of words ≡ Some value
-unfolding script_line_of none_of one_of two_of three_of write_of
+unfolding script_line_of no_word_line one_word_line two_word_line three_word_line kernel_write_line
 line_only words (line.Do (op.Install slot envelope area)) w =
     rw w.3 (rw (read32 w.0 slot w.4, read32 w.1 envelope w.5, read32 w.2 area w.6) refl)
 line_only words (line.Do (op.Enter slot)) w = rw w.1 (rw (read32 w.0 slot w.2) refl)

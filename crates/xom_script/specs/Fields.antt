@@ -3,7 +3,7 @@ use Rattle.std.specs.Prelude.{ℕ, ◌^◌, ◌≤◌, ◌==◌, not, Bool, if�
 use Rattle.std.specs.Str.{bytes_eq, is_utf8}
 use Rattle.xom_base.specs.Options.{◌>>=◌}
 use Rattle.xom_base.specs.Hex.{WritesHex, hex_within}
-use Rattle.xom_base.specs.Numbers.{Writes}
+use Rattle.xom_base.specs.Numbers.{WritesBelow}
 
 -- the value where the test holds
 abbrev pub where_holds : {A : Type 0} → Bool → A → Option A
@@ -11,7 +11,7 @@ where_holds test x = if test then Some x else None
 
 -- a number below 2^32
 abbrev pub Writes32 : List ℕ → ℕ → Type 0
-Writes32 = Writes (2 ^ 32)
+Writes32 = WritesBelow (2 ^ 32)
 
 -- the bytes of one write: 1 to 8,192
 abbrev pub WritesBytes : List ℕ → List ℕ → Type 0
@@ -25,10 +25,10 @@ write_bytes_of word = do
   where_holds (not (length bytes == 0)) bytes
 
 -- a file name is a word in UTF-8
-unfoldable pub name_of : List ℕ → Option (List ℕ)
-name_of word = where_holds (is_utf8 word) word
+unfoldable pub name_of_word : List ℕ → Option (List ℕ)
+name_of_word word = where_holds (is_utf8 word) word
 
 -- what stands in the row of this name, of rows that each have a name
-abbrev pub row_of : {A : Type 0} → List (List ℕ × Option A) → List ℕ → Option A
-row_of [] name = None
-row_of (row ∷ rows) name = if bytes_eq name row.0 then row.1 else row_of rows name
+abbrev pub row_by_name : {A : Type 0} → List (List ℕ × Option A) → List ℕ → Option A
+row_by_name [] name = None
+row_by_name (row ∷ rows) name = if bytes_eq name row.0 then row.1 else row_by_name rows name

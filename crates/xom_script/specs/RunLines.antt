@@ -4,10 +4,10 @@ use Rattle.std.specs.List.{AllZip}
 use Rattle.std.specs.Str.{IsUtf8}
 use Rattle.xom_base.specs.Options.{◌>>=◌}
 use Rattle.xom_base.specs.Hex.{IsHex, hex_of}
-use Rattle.xom_base.specs.Numbers.{Writes, IsNumber, number_of, number_below_of}
+use Rattle.xom_base.specs.Numbers.{IsNumber, WritesBelow, number_below_of, number_of_word}
 use Rattle.xom_base.specs.declared.schedule.Interrupts.{Interrupts}
 use Rattle.xom_base.specs.declared.schedule.Interrupts.TheVariants as interrupts
-use Rattle.xom_script.specs.Fields.{Writes32, WritesBytes, name_of, row_of, where_holds, write_bytes_of}
+use Rattle.xom_script.specs.Fields.{Writes32, WritesBytes, name_of_word, row_by_name, where_holds, write_bytes_of}
 use Rattle.xom_script.specs.declared.run_file.KernelLine.{KernelLine}
 use Rattle.xom_script.specs.declared.run_file.KernelLine.TheVariants as kernel
 use Rattle.xom_script.specs.declared.run_line.RunLine.{RunLine}
@@ -19,7 +19,7 @@ abbrev pub IsKernel : List (List ℕ) → KernelLine → Type 0
 IsKernel words (kernel.Script file) = (words ≡ codes "script" ∷ file ∷ []) × IsUtf8 file
 IsKernel words (kernel.Image file) = (words ≡ codes "image" ∷ file ∷ []) × IsUtf8 file
 IsKernel words (kernel.Xomos pages) =
-    (f : List ℕ) × (words ≡ codes "xomos" ∷ f ∷ []) × Writes 257 f pages × (2 ≤ pages)
+    (f : List ℕ) × (words ≡ codes "xomos" ∷ f ∷ []) × WritesBelow 257 f pages × (2 ≤ pages)
 
 -- each number is above the one before it
 abbrev pub Ascends : ℕ → List ℕ → Type 0
@@ -42,11 +42,11 @@ abbrev pub IsRunLine : List (List ℕ) → RunLine → Type 0
 IsRunLine words (line.Machine key) =
     (k : List ℕ) × (words ≡ codes "machine" ∷ k ∷ []) × IsHex 32 k key.0
 IsRunLine words (line.Boot boot) =
-    (n : List ℕ) × (words ≡ codes "boot" ∷ n ∷ []) × Writes (2 ^ 63) n boot
+    (n : List ℕ) × (words ≡ codes "boot" ∷ n ∷ []) × WritesBelow (2 ^ 63) n boot
 IsRunLine words (line.Frames frames) =
-    (n : List ℕ) × (words ≡ codes "frames" ∷ n ∷ []) × Writes 8193 n frames × (4 ≤ frames)
+    (n : List ℕ) × (words ≡ codes "frames" ∷ n ∷ []) × WritesBelow 8193 n frames × (4 ≤ frames)
 IsRunLine words (line.Budget budget) =
-    (n : List ℕ) × (words ≡ codes "budget" ∷ n ∷ []) × Writes 1048577 n budget
+    (n : List ℕ) × (words ≡ codes "budget" ∷ n ∷ []) × WritesBelow 1048577 n budget
 IsRunLine words (line.Owner owner) =
     (k i : List ℕ) × (words ≡ codes "owner" ∷ owner.plain ∷ k ∷ i ∷ [])
     × IsUtf8 owner.plain × IsHex 32 k owner.key.0 × IsHex 16 i owner.id.0
@@ -63,89 +63,89 @@ IsRunLine words (line.Poke poke) =
 
 -- ---- the same as a function: of the words behind the first one the line, or none
 
-unfoldable pub machine_of : List (List ℕ) → Option RunLine
-machine_of (key ∷ []) = do
+unfoldable pub machine_line : List (List ℕ) → Option RunLine
+machine_line (key ∷ []) = do
   key ← hex_of 32 key
   Some (line.Machine (record { 0 = key }))
-machine_of _ = None
+machine_line _ = None
 
-unfoldable pub boot_of : List (List ℕ) → Option RunLine
-boot_of (n ∷ []) = do
+unfoldable pub boot_line : List (List ℕ) → Option RunLine
+boot_line (n ∷ []) = do
   boot ← number_below_of (2 ^ 63) n
   Some (line.Boot boot)
-boot_of _ = None
+boot_line _ = None
 
-unfoldable pub frames_of : List (List ℕ) → Option RunLine
-frames_of (n ∷ []) = do
+unfoldable pub frames_line : List (List ℕ) → Option RunLine
+frames_line (n ∷ []) = do
   frames ← number_below_of 8193 n
   where_holds (nat_le 4 frames) (line.Frames frames)
-frames_of _ = None
+frames_line _ = None
 
-unfoldable pub budget_of : List (List ℕ) → Option RunLine
-budget_of (n ∷ []) = do
+unfoldable pub budget_line : List (List ℕ) → Option RunLine
+budget_line (n ∷ []) = do
   budget ← number_below_of 1048577 n
   Some (line.Budget budget)
-budget_of _ = None
+budget_line _ = None
 
-unfoldable pub owner_of : List (List ℕ) → Option RunLine
-owner_of (plain ∷ key ∷ id ∷ []) = do
-  plain ← name_of plain
+unfoldable pub owner_line : List (List ℕ) → Option RunLine
+owner_line (plain ∷ key ∷ id ∷ []) = do
+  plain ← name_of_word plain
   key ← hex_of 32 key
   id ← hex_of 16 id
   Some (line.Owner (record { plain = plain; key = record { 0 = key }; id = record { 0 = id } }))
-owner_of _ = None
+owner_line _ = None
 
-unfoldable pub guest_with_input_of : List ℕ → List ℕ → Option RunLine
-guest_with_input_of sealed input = do
-  sealed ← name_of sealed
-  input ← name_of input
+unfoldable pub guest_and_input_line : List ℕ → List ℕ → Option RunLine
+guest_and_input_line sealed input = do
+  sealed ← name_of_word sealed
+  input ← name_of_word input
   Some (line.Guest sealed (Some input))
 
-unfoldable pub guest_of : List (List ℕ) → Option RunLine
-guest_of (sealed ∷ []) = do
-  sealed ← name_of sealed
+unfoldable pub guest_line : List (List ℕ) → Option RunLine
+guest_line (sealed ∷ []) = do
+  sealed ← name_of_word sealed
   Some (line.Guest sealed None)
-guest_of (sealed ∷ input ∷ []) = guest_with_input_of sealed input
-guest_of _ = None
+guest_line (sealed ∷ input ∷ []) = guest_and_input_line sealed input
+guest_line _ = None
 
-unfoldable pub pages_of : List ℕ → Option RunLine
-pages_of word = do
+unfoldable pub pages_line : List ℕ → Option RunLine
+pages_line word = do
   pages ← number_below_of 257 word
   where_holds (nat_le 2 pages) (line.Kernel (kernel.Xomos pages))
 
 -- the kernel's lines, by its kind
 abbrev pub kernel_rows : List ℕ → List (List ℕ × Option RunLine)
 kernel_rows word =
-    (codes "script", option_map (λ file. line.Kernel (kernel.Script file)) (name_of word))
-    ∷ (codes "image", option_map (λ file. line.Kernel (kernel.Image file)) (name_of word))
-    ∷ (codes "xomos", pages_of word)
+    (codes "script", option_map (λ file. line.Kernel (kernel.Script file)) (name_of_word word))
+    ∷ (codes "image", option_map (λ file. line.Kernel (kernel.Image file)) (name_of_word word))
+    ∷ (codes "xomos", pages_line word)
     ∷ []
 
-unfoldable pub kernel_of : List (List ℕ) → Option RunLine
-kernel_of (kind ∷ word ∷ []) = row_of (kernel_rows word) kind
-kernel_of _ = None
+unfoldable pub kernel_choice : List (List ℕ) → Option RunLine
+kernel_choice (kind ∷ word ∷ []) = row_by_name (kernel_rows word) kind
+kernel_choice _ = None
 
-unfoldable pub never_of : List (List ℕ) → Option RunLine
-never_of [] = Some (line.Interrupt interrupts.Never)
-never_of _ = None
+unfoldable pub never_line : List (List ℕ) → Option RunLine
+never_line [] = Some (line.Interrupt interrupts.Never)
+never_line _ = None
 
-unfoldable pub every_of : List (List ℕ) → Option RunLine
-every_of (n ∷ []) = do
-  n ← number_of n
+unfoldable pub every_line : List (List ℕ) → Option RunLine
+every_line (n ∷ []) = do
+  n ← number_of_word n
   where_holds (nat_le 1 n) (line.Interrupt (interrupts.Every n))
-every_of _ = None
+every_line _ = None
 
 -- the numbers of the words, each above the one before
 unfoldable pub times_of : ℕ → List (List ℕ) → Option (List ℕ)
 times_of last [] = Some []
 times_of last (word ∷ words) = do
-  n ← number_of word
+  n ← number_of_word word
   above ← where_holds (nat_lt last n) n
   more ← times_of n words
   Some (n ∷ more)
 
-unfoldable pub at_of : List (List ℕ) → Option RunLine
-at_of words =
+unfoldable pub at_line : List (List ℕ) → Option RunLine
+at_line words =
     if length words == 0 then None else (do
       times ← times_of 0 words
       Some (line.Interrupt (interrupts.At times)))
@@ -153,36 +153,36 @@ at_of words =
 -- the lines of the interrupt line, by their kind
 abbrev pub interrupt_rows : List (List ℕ) → List (List ℕ × Option RunLine)
 interrupt_rows words =
-    (codes "never", never_of words) ∷ (codes "every", every_of words) ∷ (codes "at", at_of words)
+    (codes "never", never_line words) ∷ (codes "every", every_line words) ∷ (codes "at", at_line words)
     ∷ []
 
-unfoldable pub interrupt_of : List (List ℕ) → Option RunLine
-interrupt_of (kind ∷ words) = row_of (interrupt_rows words) kind
-interrupt_of [] = None
+unfoldable pub interrupt_line : List (List ℕ) → Option RunLine
+interrupt_line (kind ∷ words) = row_by_name (interrupt_rows words) kind
+interrupt_line [] = None
 
-unfoldable pub poke_of : List (List ℕ) → Option RunLine
-poke_of (event ∷ address ∷ bytes ∷ []) = do
-  event ← number_of event
+unfoldable pub poke_line : List (List ℕ) → Option RunLine
+poke_line (event ∷ address ∷ bytes ∷ []) = do
+  event ← number_of_word event
   address ← number_below_of (2 ^ 32) address
   bytes ← write_bytes_of bytes
   Some (line.Poke (record { event = event; address = address; bytes = bytes }))
-poke_of _ = None
+poke_line _ = None
 
 -- the lines of a run file, by their kind
 abbrev pub run_rows : List (List ℕ) → List (List ℕ × Option RunLine)
 run_rows words =
-    (codes "machine", machine_of words)
-    ∷ (codes "boot", boot_of words)
-    ∷ (codes "frames", frames_of words)
-    ∷ (codes "budget", budget_of words)
-    ∷ (codes "owner", owner_of words)
-    ∷ (codes "guest", guest_of words)
-    ∷ (codes "kernel", kernel_of words)
-    ∷ (codes "interrupt", interrupt_of words)
-    ∷ (codes "poke", poke_of words)
+    (codes "machine", machine_line words)
+    ∷ (codes "boot", boot_line words)
+    ∷ (codes "frames", frames_line words)
+    ∷ (codes "budget", budget_line words)
+    ∷ (codes "owner", owner_line words)
+    ∷ (codes "guest", guest_line words)
+    ∷ (codes "kernel", kernel_choice words)
+    ∷ (codes "interrupt", interrupt_line words)
+    ∷ (codes "poke", poke_line words)
     ∷ []
 
 -- the line that words write, or none
 unfoldable pub run_line_of : List (List ℕ) → Option RunLine
 run_line_of [] = None
-run_line_of (kind ∷ words) = row_of (run_rows words) kind
+run_line_of (kind ∷ words) = row_by_name (run_rows words) kind

@@ -70,8 +70,8 @@ run_file draft kernel number interrupts = record {
 abbrev pub with_owner : Draft → OwnerFile → Draft
 with_owner draft owner = record draft { owners = draft.owners ++ (owner ∷ []) }
 
-abbrev pub with_guest : Draft → GuestFile → Draft
-with_guest draft guest = record draft { guests = draft.guests ++ (guest ∷ []) }
+abbrev pub draft_with_guest : Draft → GuestFile → Draft
+draft_with_guest draft guest = record draft { guests = draft.guests ++ (guest ∷ []) }
 
 abbrev pub with_poke : RunFile → Poke → RunFile
 with_poke file poke =
@@ -104,7 +104,7 @@ Follows before n (line.Owner owner) after =
 Follows before n (line.Guest sealed input) after =
     (draft : Draft) × (before ≡ progress.Files draft) × (length draft.guests < 16)
     × (after ≡ progress.Files
-    (with_guest draft (record { line = n; sealed = sealed; input = input })))
+    (draft_with_guest draft (record { line = n; sealed = sealed; input = input })))
 Follows before n (line.Kernel kernel) after =
     (draft : Draft) × (before ≡ progress.Files draft) × HasRoom kernel draft.frames
     (length draft.guests)
@@ -156,7 +156,7 @@ after_files draft n (line.Owner owner) =
     where_holds (takes_owner draft owner.id) (progress.Files (with_owner draft owner))
 after_files draft n (line.Guest sealed input) =
     where_holds (nat_lt (length draft.guests) 16)
-    (progress.Files (with_guest draft (record { line = n; sealed = sealed; input = input })))
+    (progress.Files (draft_with_guest draft (record { line = n; sealed = sealed; input = input })))
 after_files draft n (line.Kernel kernel) =
     where_holds (has_room kernel draft.frames (length draft.guests))
     (progress.Kernel draft kernel n)

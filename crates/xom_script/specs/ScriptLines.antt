@@ -2,10 +2,10 @@
 use Rattle.std.specs.Prelude.{◌≡◌, ℕ, ◌^◌, ◌≤◌, ◌&&◌, nat_lt, nat_le, if◌then◌else◌, List, [], ◌∷◌, codes, Option, Some, None}
 use Rattle.std.specs.Str.{bytes_eq}
 use Rattle.xom_base.specs.Options.{◌>>=◌}
-use Rattle.xom_base.specs.Numbers.{Writes, number_below_of}
+use Rattle.xom_base.specs.Numbers.{WritesBelow, number_below_of}
 use Rattle.xom_base.specs.declared.event.Op.{Op}
 use Rattle.xom_base.specs.declared.event.Op.TheVariants as op
-use Rattle.xom_script.specs.Fields.{Writes32, WritesBytes, row_of, where_holds, write_bytes_of}
+use Rattle.xom_script.specs.Fields.{Writes32, WritesBytes, row_by_name, where_holds, write_bytes_of}
 use Rattle.xom_script.specs.declared.script_line.ScriptLine.{ScriptLine}
 use Rattle.xom_script.specs.declared.script_line.ScriptLine.TheVariants as line
 
@@ -31,7 +31,7 @@ IsOp words (op.Unmap slot page) =
 IsOp words (op.SetReg reg value) =
     (r v : List ℕ) × (words ≡ codes "setreg" ∷ r ∷ v ∷ []) × Writes32 r reg × Writes32 v value
 IsOp words (op.Kill slot) = (s : List ℕ) × (words ≡ codes "kill" ∷ s ∷ []) × Writes32 s slot
-IsOp words (op.Out byte) = (b : List ℕ) × (words ≡ codes "out" ∷ b ∷ []) × Writes (2 ^ 8) b byte
+IsOp words (op.Out byte) = (b : List ℕ) × (words ≡ codes "out" ∷ b ∷ []) × WritesBelow (2 ^ 8) b byte
 IsOp words op.Halt = words ≡ codes "halt" ∷ []
 
 -- the words write the line
@@ -41,9 +41,9 @@ IsScriptLine words (line.Write address bytes) =
     (a h : List ℕ) × (words ≡ codes "write" ∷ a ∷ h ∷ []) × Writes32 a address × WritesBytes h bytes
 IsScriptLine words (line.Copy from to count) =
     (f t n : List ℕ) × (words ≡ codes "copy" ∷ f ∷ t ∷ n ∷ [])
-    × Writes32 f from × Writes32 t to × Writes 8193 n count × (1 ≤ count)
+    × Writes32 f from × Writes32 t to × WritesBelow 8193 n count × (1 ≤ count)
 IsScriptLine words (line.Flip address mask) =
-    (a m : List ℕ) × (words ≡ codes "flip" ∷ a ∷ m ∷ []) × Writes32 a address × Writes (2 ^ 8) m
+    (a m : List ℕ) × (words ≡ codes "flip" ∷ a ∷ m ∷ []) × Writes32 a address × WritesBelow (2 ^ 8) m
     mask
 IsScriptLine words line.Show = words ≡ codes "show" ∷ []
 
@@ -53,8 +53,8 @@ IsScriptLine words line.Show = words ≡ codes "show" ∷ []
 abbrev pub rows_of_none : List (List ℕ × Option ScriptLine)
 rows_of_none = (codes "halt", Some (line.Do op.Halt)) ∷ (codes "show", Some line.Show) ∷ []
 
-unfoldable pub none_of : List ℕ → Option ScriptLine
-none_of name = row_of rows_of_none name
+unfoldable pub no_word_line : List ℕ → Option ScriptLine
+no_word_line name = row_by_name rows_of_none name
 
 -- the lines of one number
 abbrev pub rows_of_one : ℕ → List (List ℕ × Option ScriptLine)
@@ -64,10 +64,10 @@ rows_of_one a =
     ∷ (codes "out", where_holds (nat_lt a 256) (line.Do (op.Out a)))
     ∷ []
 
-unfoldable pub one_of : List ℕ → List ℕ → Option ScriptLine
-one_of name a = do
+unfoldable pub one_word_line : List ℕ → List ℕ → Option ScriptLine
+one_word_line name a = do
   a ← number_below_of (2 ^ 32) a
-  row_of (rows_of_one a) name
+  row_by_name (rows_of_one a) name
 
 -- the lines of two numbers
 abbrev pub rows_of_two : ℕ → ℕ → List (List ℕ × Option ScriptLine)
@@ -78,11 +78,11 @@ rows_of_two a b =
     ∷ (codes "flip", where_holds (nat_lt b 256) (line.Flip a b))
     ∷ []
 
-unfoldable pub two_of : List ℕ → List ℕ → List ℕ → Option ScriptLine
-two_of name a b = do
+unfoldable pub two_word_line : List ℕ → List ℕ → List ℕ → Option ScriptLine
+two_word_line name a b = do
   a ← number_below_of (2 ^ 32) a
   b ← number_below_of (2 ^ 32) b
-  row_of (rows_of_two a b) name
+  row_by_name (rows_of_two a b) name
 
 -- the lines of three numbers
 abbrev pub rows_of_three : ℕ → ℕ → ℕ → List (List ℕ × Option ScriptLine)
@@ -94,24 +94,24 @@ rows_of_three a b c =
     ∷ (codes "copy", where_holds (nat_le 1 c && nat_le c 8192) (line.Copy a b c))
     ∷ []
 
-unfoldable pub three_of : List ℕ → List ℕ → List ℕ → List ℕ → Option ScriptLine
-three_of name a b c = do
+unfoldable pub three_word_line : List ℕ → List ℕ → List ℕ → List ℕ → Option ScriptLine
+three_word_line name a b c = do
   a ← number_below_of (2 ^ 32) a
   b ← number_below_of (2 ^ 32) b
   c ← number_below_of (2 ^ 32) c
-  row_of (rows_of_three a b c) name
+  row_by_name (rows_of_three a b c) name
 
-unfoldable pub write_of : List ℕ → List ℕ → Option ScriptLine
-write_of address bytes = do
+unfoldable pub kernel_write_line : List ℕ → List ℕ → Option ScriptLine
+kernel_write_line address bytes = do
   address ← number_below_of (2 ^ 32) address
   bytes ← write_bytes_of bytes
   Some (line.Write address bytes)
 
 -- the line that words write, or none
 unfoldable pub script_line_of : List (List ℕ) → Option ScriptLine
-script_line_of (name ∷ []) = none_of name
-script_line_of (name ∷ a ∷ []) = one_of name a
+script_line_of (name ∷ []) = no_word_line name
+script_line_of (name ∷ a ∷ []) = one_word_line name a
 script_line_of (name ∷ a ∷ b ∷ []) =
-    if bytes_eq name (codes "write") then write_of a b else two_of name a b
-script_line_of (name ∷ a ∷ b ∷ c ∷ []) = three_of name a b c
+    if bytes_eq name (codes "write") then kernel_write_line a b else two_word_line name a b
+script_line_of (name ∷ a ∷ b ∷ c ∷ []) = three_word_line name a b c
 script_line_of _ = None

@@ -1,6 +1,6 @@
 ghost use Rattle.std.specs.Prelude.{◌≡◌, ℕ, IfOk, length, nat_lt};
 ghost use Rattle.xom_script.specs.Fields.{where_holds};
-ghost use Rattle.xom_script.specs.RunOrder.{after_files, after_line, fits_ram, has_id, has_room, is_whole, last_event, run_file, takes_owner, takes_poke, with_guest, with_owner, with_poke};
+ghost use Rattle.xom_script.specs.RunOrder.{after_files, after_line, draft_with_guest, fits_ram, has_id, has_room, is_whole, last_event, run_file, takes_owner, takes_poke, with_owner, with_poke};
 ghost use Rattle.xom_script.specs.declared.progress.Progress.TheVariants as progress;
 
 use crate::run_file::{GuestFile, GuestFileList, KernelLine, OwnerFile, OwnerFileList, RunFile};
@@ -180,7 +180,7 @@ fn after_owner(draft: Draft, owner: OwnerFile) -> Result<Option<Progress>, NoMem
 }
 
 fn after_guest(draft: Draft, guest: GuestFile) -> Result<Option<Progress>, NoMemory>
-    ensures { IfOk result (λ after. after ≡ where_holds (nat_lt (length draft.guests) 16) (progress.Files (with_guest draft guest))) }
+    ensures { IfOk result (λ after. after ≡ where_holds (nat_lt (length draft.guests) 16) (progress.Files (draft_with_guest draft guest))) }
 {
     let mut draft = draft;
     if draft.guests.len() >= 16 {

@@ -1,5 +1,5 @@
 ghost use Rattle.std.specs.Prelude.{◌≡◌, IfOk, map, option_map};
-ghost use Rattle.xom_script.specs.RunLines.{at_of, boot_of, budget_of, every_of, frames_of, guest_of, guest_with_input_of, interrupt_of, kernel_of, machine_of, never_of, owner_of, pages_of, poke_of, run_line_of, times_of};
+ghost use Rattle.xom_script.specs.RunLines.{at_line, boot_line, budget_line, every_line, frames_line, guest_and_input_line, guest_line, interrupt_line, kernel_choice, machine_line, never_line, owner_line, pages_line, poke_line, run_line_of, times_of};
 
 use crate::run_file::{KernelLine, OwnerFile};
 use crate::words::{name, write_bytes};
@@ -64,9 +64,9 @@ pub fn run_line(alloc: Global, words: &[&[u8]]) -> Result<Option<RunLine>, NoMem
     }
 }
 
-#[tactic(auto, unfolding(crate::specs::RunLines::machine_of))]
+#[tactic(auto, unfolding(crate::specs::RunLines::machine_line))]
 fn machine(words: &[&[u8]]) -> Option<RunLine>
-    ensures { result ≡ machine_of (map (λ word. word.now) words.now) }
+    ensures { result ≡ machine_line (map (λ word. word.now) words.now) }
 {
     match words {
         [key] => Some(RunLine::Machine(Key256(hex32(key)?))),
@@ -74,9 +74,9 @@ fn machine(words: &[&[u8]]) -> Option<RunLine>
     }
 }
 
-#[tactic(auto, unfolding(crate::specs::RunLines::boot_of))]
+#[tactic(auto, unfolding(crate::specs::RunLines::boot_line))]
 fn boot(words: &[&[u8]]) -> Option<RunLine>
-    ensures { result ≡ boot_of (map (λ word. word.now) words.now) }
+    ensures { result ≡ boot_line (map (λ word. word.now) words.now) }
 {
     match words {
         [n] => Some(RunLine::Boot(number_below(n, 1 << 63)?)),
@@ -84,9 +84,9 @@ fn boot(words: &[&[u8]]) -> Option<RunLine>
     }
 }
 
-#[tactic(auto, unfolding(crate::specs::RunLines::frames_of))]
+#[tactic(auto, unfolding(crate::specs::RunLines::frames_line))]
 fn frames(words: &[&[u8]]) -> Option<RunLine>
-    ensures { result ≡ frames_of (map (λ word. word.now) words.now) }
+    ensures { result ≡ frames_line (map (λ word. word.now) words.now) }
 {
     match words {
         [n] => {
@@ -97,9 +97,9 @@ fn frames(words: &[&[u8]]) -> Option<RunLine>
     }
 }
 
-#[tactic(auto, unfolding(crate::specs::RunLines::budget_of))]
+#[tactic(auto, unfolding(crate::specs::RunLines::budget_line))]
 fn budget(words: &[&[u8]]) -> Option<RunLine>
-    ensures { result ≡ budget_of (map (λ word. word.now) words.now) }
+    ensures { result ≡ budget_line (map (λ word. word.now) words.now) }
 {
     match words {
         [n] => Some(RunLine::Budget(number_below(n, 1_048_577)?)),
@@ -107,9 +107,9 @@ fn budget(words: &[&[u8]]) -> Option<RunLine>
     }
 }
 
-#[tactic(auto, unfolding(crate::specs::RunLines::owner_of))]
+#[tactic(auto, unfolding(crate::specs::RunLines::owner_line))]
 fn owner(alloc: Global, words: &[&[u8]]) -> Result<Option<RunLine>, NoMemory>
-    ensures { IfOk result (λ found. found ≡ owner_of (map (λ word. word.now) words.now)) }
+    ensures { IfOk result (λ found. found ≡ owner_line (map (λ word. word.now) words.now)) }
 {
     let [plain, key, id] = words else {
         return Ok(None);
@@ -130,9 +130,9 @@ fn owner(alloc: Global, words: &[&[u8]]) -> Result<Option<RunLine>, NoMemory>
     })))
 }
 
-#[tactic(auto, unfolding(crate::specs::RunLines::guest_of))]
+#[tactic(auto, unfolding(crate::specs::RunLines::guest_line))]
 fn guest(alloc: Global, words: &[&[u8]]) -> Result<Option<RunLine>, NoMemory>
-    ensures { IfOk result (λ found. found ≡ guest_of (map (λ word. word.now) words.now)) }
+    ensures { IfOk result (λ found. found ≡ guest_line (map (λ word. word.now) words.now)) }
 {
     match words {
         [sealed] => match name(alloc, sealed)? {
@@ -147,9 +147,9 @@ fn guest(alloc: Global, words: &[&[u8]]) -> Result<Option<RunLine>, NoMemory>
     }
 }
 
-#[tactic(auto, unfolding(crate::specs::RunLines::guest_with_input_of))]
+#[tactic(auto, unfolding(crate::specs::RunLines::guest_and_input_line))]
 fn guest_with_input(alloc: Global, sealed: &[u8], input: &[u8]) -> Result<Option<RunLine>, NoMemory>
-    ensures { IfOk result (λ found. found ≡ guest_with_input_of sealed.now input.now) }
+    ensures { IfOk result (λ found. found ≡ guest_and_input_line sealed.now input.now) }
 {
     let Some(sealed) = name(alloc, sealed)? else {
         return Ok(None);
@@ -163,9 +163,9 @@ fn guest_with_input(alloc: Global, sealed: &[u8], input: &[u8]) -> Result<Option
     }
 }
 
-#[tactic(auto, unfolding(crate::specs::RunLines::kernel_of))]
+#[tactic(auto, unfolding(crate::specs::RunLines::kernel_choice))]
 fn kernel(alloc: Global, words: &[&[u8]]) -> Result<Option<RunLine>, NoMemory>
-    ensures { IfOk result (λ found. found ≡ kernel_of (map (λ word. word.now) words.now)) }
+    ensures { IfOk result (λ found. found ≡ kernel_choice (map (λ word. word.now) words.now)) }
 {
     let [kind, word] = words else {
         return Ok(None);
@@ -181,17 +181,17 @@ fn kernel(alloc: Global, words: &[&[u8]]) -> Result<Option<RunLine>, NoMemory>
     }
 }
 
-#[tactic(auto, unfolding(crate::specs::RunLines::pages_of))]
+#[tactic(auto, unfolding(crate::specs::RunLines::pages_line))]
 fn pages(word: &[u8]) -> Option<RunLine>
-    ensures { result ≡ pages_of word.now }
+    ensures { result ≡ pages_line word.now }
 {
     let pages = number_below(word, 257)?;
     (pages >= 2).then_some(RunLine::Kernel(KernelLine::Xomos(pages as u32)))
 }
 
-#[tactic(auto, unfolding(crate::specs::RunLines::interrupt_of))]
+#[tactic(auto, unfolding(crate::specs::RunLines::interrupt_line))]
 fn interrupt(alloc: Global, words: &[&[u8]]) -> Result<Option<RunLine>, NoMemory>
-    ensures { IfOk result (λ found. found ≡ interrupt_of (map (λ word. word.now) words.now)) }
+    ensures { IfOk result (λ found. found ≡ interrupt_line (map (λ word. word.now) words.now)) }
 {
     let [kind, words @ ..] = words else {
         return Ok(None);
@@ -207,9 +207,9 @@ fn interrupt(alloc: Global, words: &[&[u8]]) -> Result<Option<RunLine>, NoMemory
     }
 }
 
-#[tactic(auto, unfolding(crate::specs::RunLines::never_of))]
+#[tactic(auto, unfolding(crate::specs::RunLines::never_line))]
 fn never(words: &[&[u8]]) -> Option<RunLine>
-    ensures { result ≡ never_of (map (λ word. word.now) words.now) }
+    ensures { result ≡ never_line (map (λ word. word.now) words.now) }
 {
     match words {
         [] => Some(RunLine::Interrupt(Interrupts::Never)),
@@ -217,9 +217,9 @@ fn never(words: &[&[u8]]) -> Option<RunLine>
     }
 }
 
-#[tactic(auto, unfolding(crate::specs::RunLines::every_of))]
+#[tactic(auto, unfolding(crate::specs::RunLines::every_line))]
 fn every(words: &[&[u8]]) -> Option<RunLine>
-    ensures { result ≡ every_of (map (λ word. word.now) words.now) }
+    ensures { result ≡ every_line (map (λ word. word.now) words.now) }
 {
     match words {
         [n] => {
@@ -230,9 +230,9 @@ fn every(words: &[&[u8]]) -> Option<RunLine>
     }
 }
 
-#[tactic(auto, unfolding(crate::specs::RunLines::at_of))]
+#[tactic(auto, unfolding(crate::specs::RunLines::at_line))]
 fn at(alloc: Global, words: &[&[u8]]) -> Result<Option<RunLine>, NoMemory>
-    ensures { IfOk result (λ found. found ≡ at_of (map (λ word. word.now) words.now)) }
+    ensures { IfOk result (λ found. found ≡ at_line (map (λ word. word.now) words.now)) }
 {
     if words.is_empty() {
         return Ok(None);
@@ -262,9 +262,9 @@ fn times(alloc: Global, words: &[&[u8]]) -> Result<Option<NumberList>, NoMemory>
     Ok(Some(times))
 }
 
-#[tactic(auto, unfolding(crate::specs::RunLines::poke_of))]
+#[tactic(auto, unfolding(crate::specs::RunLines::poke_line))]
 fn poke(alloc: Global, words: &[&[u8]]) -> Result<Option<RunLine>, NoMemory>
-    ensures { IfOk result (λ found. found ≡ poke_of (map (λ word. word.now) words.now)) }
+    ensures { IfOk result (λ found. found ≡ poke_line (map (λ word. word.now) words.now)) }
 {
     let [event, address, bytes] = words else {
         return Ok(None);

@@ -1,5 +1,5 @@
 ghost use Rattle.std.specs.Prelude.{◌≡◌, IfOk, map};
-ghost use Rattle.xom_script.specs.ScriptLines.{none_of, one_of, script_line_of, three_of, two_of, write_of};
+ghost use Rattle.xom_script.specs.ScriptLines.{kernel_write_line, no_word_line, one_word_line, script_line_of, three_word_line, two_word_line};
 
 use crate::words::write_bytes;
 use std::alloc::Global;
@@ -38,9 +38,9 @@ pub fn script_line(alloc: Global, words: &[&[u8]]) -> Result<Option<ScriptLine>,
     }
 }
 
-#[tactic(auto, unfolding(crate::specs::ScriptLines::write_of))]
+#[tactic(auto, unfolding(crate::specs::ScriptLines::kernel_write_line))]
 fn write(alloc: Global, address: &[u8], bytes: &[u8]) -> Result<Option<ScriptLine>, NoMemory>
-    ensures { IfOk result (λ found. found ≡ write_of address.now bytes.now) }
+    ensures { IfOk result (λ found. found ≡ kernel_write_line address.now bytes.now) }
 {
     let Some(address) = number32(address) else {
         return Ok(None);
@@ -51,9 +51,9 @@ fn write(alloc: Global, address: &[u8], bytes: &[u8]) -> Result<Option<ScriptLin
     }
 }
 
-#[tactic(auto, unfolding(crate::specs::ScriptLines::none_of))]
+#[tactic(auto, unfolding(crate::specs::ScriptLines::no_word_line))]
 fn line_of_none(name: &[u8]) -> Option<ScriptLine>
-    ensures { result ≡ none_of name.now }
+    ensures { result ≡ no_word_line name.now }
 {
     if name == b"halt".as_slice() {
         Some(ScriptLine::Do(Op::Halt))
@@ -64,9 +64,9 @@ fn line_of_none(name: &[u8]) -> Option<ScriptLine>
     }
 }
 
-#[tactic(auto, unfolding(crate::specs::ScriptLines::one_of))]
+#[tactic(auto, unfolding(crate::specs::ScriptLines::one_word_line))]
 fn line_of_one(name: &[u8], a: &[u8]) -> Option<ScriptLine>
-    ensures { result ≡ one_of name.now a.now }
+    ensures { result ≡ one_word_line name.now a.now }
 {
     let a = number32(a)?;
     if name == b"enter".as_slice() {
@@ -80,9 +80,9 @@ fn line_of_one(name: &[u8], a: &[u8]) -> Option<ScriptLine>
     }
 }
 
-#[tactic(auto, unfolding(crate::specs::ScriptLines::two_of))]
+#[tactic(auto, unfolding(crate::specs::ScriptLines::two_word_line))]
 fn line_of_two(name: &[u8], a: &[u8], b: &[u8]) -> Option<ScriptLine>
-    ensures { result ≡ two_of name.now a.now b.now }
+    ensures { result ≡ two_word_line name.now a.now b.now }
 {
     let a = number32(a)?;
     let b = number32(b)?;
@@ -102,9 +102,9 @@ fn line_of_two(name: &[u8], a: &[u8], b: &[u8]) -> Option<ScriptLine>
     }
 }
 
-#[tactic(auto, unfolding(crate::specs::ScriptLines::three_of))]
+#[tactic(auto, unfolding(crate::specs::ScriptLines::three_word_line))]
 fn line_of_three(name: &[u8], a: &[u8], b: &[u8], c: &[u8]) -> Option<ScriptLine>
-    ensures { result ≡ three_of name.now a.now b.now c.now }
+    ensures { result ≡ three_word_line name.now a.now b.now c.now }
 {
     let a = number32(a)?;
     let b = number32(b)?;

@@ -1,5 +1,5 @@
 ghost use Rattle.std.specs.Prelude.{◌≡◌, IfOk};
-ghost use Rattle.xom_script.specs.Fields.{name_of, write_bytes_of};
+ghost use Rattle.xom_script.specs.Fields.{name_of_word, write_bytes_of};
 
 use std::alloc::Global;
 use xom_base::{ByteList, NoMemory, hex_list};
@@ -20,9 +20,9 @@ pub fn write_bytes(alloc: Global, word: &[u8]) -> Result<Option<ByteList>, NoMem
 }
 
 /// A file name: a word in UTF-8.
-#[tactic(auto, unfolding(crate::specs::Fields::name_of))]
+#[tactic(auto, unfolding(crate::specs::Fields::name_of_word))]
 pub fn name(alloc: Global, word: &[u8]) -> Result<Option<Name>, NoMemory>
-    ensures { IfOk result (λ found. found ≡ name_of word.now) }
+    ensures { IfOk result (λ found. found ≡ name_of_word word.now) }
 {
     let Ok(text) = str::from_utf8(word) else {
         return Ok(None);

@@ -10,7 +10,7 @@ use Rattle.keyed_mac.specs.Hmac.{hmac_sha256}
 use Rattle.keyed_mac.proofs.Lengths.{tags_have_their_length}
 use Rattle.xom_base.specs.declared.key.Key256.{Key256}
 use Rattle.xom_seal.specs.declared.envelope.Unwrapped.{Unwrapped}
-use Rattle.xom_seal.specs.Envelopes.{contents_of, entry_in, envelope_fields, envelope_pad, envelope_tag, fields_of, id_in, key_masked, lines_in, tag_in, unwrapped, wrapped, wrapped_in}
+use Rattle.xom_seal.specs.Envelopes.{contents_of, entry_of_envelope, envelope_contents, envelope_fields, envelope_pad, envelope_tag, fields_of, id_in, key_masked, lines_in, tag_in, wrapped_in, wrapped_key_of}
 use Rattle.xom_seal.specs.Laws.{EnvelopesOpen, EnvelopesShow, IsUnwrapped, Shows}
 use Rattle.xom_seal.specs.Messages.{envelope_message}
 use Rattle.xom_seal.proofs.Masks.{length-xored, xored_twice}
@@ -45,7 +45,7 @@ id_in-fields id entry lines key tag sized =
     ∙ take-append_seam id (behind_id entry lines key tag)
 
 entry_in-fields : (id : List ℕ) (entry lines : ℕ) (key tag : List ℕ) → length id ≡ 16
-    → entry < 2 ^ 32 → entry_in (envelope_fields id entry lines key ++ tag) ≡ entry
+    → entry < 2 ^ 32 → entry_of_envelope (envelope_fields id entry lines key ++ tag) ≡ entry
 entry_in-fields id entry lines key tag sized below =
     ap (λ text. from_be_bytes w32 (take 4 text)) (from_place 0 id entry lines key tag sized)
     ∙ from_be_bytes-to_be_bytes_4 entry below
@@ -110,9 +110,9 @@ envelope_tag-append machine fields tag sized =
 
 -- a wrapped image key is what stands before a tag, and the tag
 pub wrapped-parts : (machine : Key256) (plain : Unwrapped)
-    → wrapped machine plain ≡ fields_of machine plain ++ envelope_tag machine
+    → wrapped_key_of machine plain ≡ fields_of machine plain ++ envelope_tag machine
     (fields_of machine plain)
-unfolding wrapped
+unfolding wrapped_key_of
 wrapped-parts machine plain = refl
 
 -- what an envelope says, from its fields
@@ -133,7 +133,7 @@ contents_of-parts machine plain tag ranges =
     let key : List ℕ = key_masked machine id plain.key.0 in
     let whole : List ℕ = fields_of machine plain ++ tag in
     let keyed : length key ≡ 32 = length-key_masked machine id plain.key.0 ranges.key in
-    ap (λ bytes. made_of bytes (entry_in whole) (lines_in whole)
+    ap (λ bytes. made_of bytes (entry_of_envelope whole) (lines_in whole)
     (key_masked machine bytes (wrapped_in whole))) (id_in-fields id plain.entry plain.lines key
     tag ranges.id)
     ∙ ap (λ n. made_of id n (lines_in whole) (key_masked machine id (wrapped_in whole)))
@@ -147,7 +147,7 @@ contents_of-parts machine plain tag ranges =
 
 -- fields and their tag open
 parts_open : (machine : Key256) (plain : Unwrapped) → IsUnwrapped plain
-    → unwrapped machine (fields_of machine plain ++ envelope_tag machine (fields_of machine plain))
+    → envelope_contents machine (fields_of machine plain ++ envelope_tag machine (fields_of machine plain))
     ≡ Some plain
 parts_open machine plain ranges =
     let id : List ℕ = plain.id.0 in
@@ -168,7 +168,7 @@ parts_open machine plain ranges =
 
 pub envelopes_open : EnvelopesOpen
 envelopes_open machine plain ranges =
-    ap (unwrapped machine) (wrapped-parts machine plain) ∙ parts_open machine plain ranges
+    ap (envelope_contents machine) (wrapped-parts machine plain) ∙ parts_open machine plain ranges
 
 -- ---- What an envelope shows
 

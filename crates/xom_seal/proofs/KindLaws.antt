@@ -5,7 +5,7 @@ use Rattle.std.proofs.lemmas.List.{get_or-take}
 use Rattle.xom_seal.specs.Counters.{counter_block}
 use Rattle.xom_seal.specs.Messages.{envelope_message, line_message, register_message}
 use Rattle.xom_seal.specs.NameLaws.{CounterKindsAreTold, HeadsKeepTheirKind, MessageKindsAreTold}
-use Rattle.xom_seal.specs.Readers.{head_of, head_size, kind_of}
+use Rattle.xom_seal.specs.Readers.{head_of, head_size, kind_of_text}
 
 pub message_kinds_are_told : MessageKindsAreTold
 unfolding line_message register_message envelope_message
@@ -32,4 +32,4 @@ head_size-positive kind = grind (arith, nat_tests)
 pub heads_keep_their_kind : HeadsKeepTheirKind
 unfolding head_of
 heads_keep_their_kind message =
-    get_or-take (head_size (kind_of message)) message 0 0 (head_size-positive (kind_of message))
+    get_or-take (head_size (kind_of_text message)) message 0 0 (head_size-positive (kind_of_text message))

@@ -11,8 +11,8 @@ use Rattle.xom_seal.specs.declared.names.LineName.TheVariants.{Image, Run}
 use Rattle.xom_seal.specs.declared.names.RegName.{RegName}
 use Rattle.xom_seal.specs.Laws.{RunLinesAreTold}
 use Rattle.xom_seal.specs.NameLaws.{RegistersAreTold, RunFieldsAreTold}
-use Rattle.xom_seal.specs.Readers.{epoch_in, install_in, kind_of, line_in, names_register, register_in, register_kind, run_line_kind}
-use Rattle.xom_seal.specs.Messages.{IsRegName, envelope_message, line_message, names_run_line, register_message, version_in}
+use Rattle.xom_seal.specs.Readers.{epoch_in, install_in, kind_of_text, line_of_message, names_register, register_kind, register_of_message, run_line_kind}
+use Rattle.xom_seal.specs.Messages.{IsRegName, envelope_message, line_message, names_run_line, register_message, version_of_message}
 use Rattle.xom_seal.proofs.Fields.{same_numbers_4, same_numbers_8}
 
 -- a test of two fields is a test of their numbers
@@ -45,7 +45,7 @@ run_told n at boot install line version ct n_below at_below install_below line_b
     ∙ ap (λ same. (install == n) && same) (same_test_4 line at line_below at_below)
 
 version_told : (boot install line version : ℕ) (ct : List ℕ) → version < 2 ^ 64
-    → version_in (line_message (Run boot install line version) ct) ≡ version
+    → version_of_message (line_message (Run boot install line version) ct) ≡ version
 unfolding line_message
 version_told boot install line version ct below = from_be_bytes-to_be_bytes_8 version below
 
@@ -82,7 +82,7 @@ unfolding line_message
 run_install boot install line version ct below = from_be_bytes-to_be_bytes_8 install below
 
 run_line : (boot install line version : ℕ) (ct : List ℕ) → line < 2 ^ 32
-    → line_in (line_message (Run boot install line version) ct) ≡ line
+    → line_of_message (line_message (Run boot install line version) ct) ≡ line
 unfolding line_message
 run_line boot install line version ct below = from_be_bytes-to_be_bytes_4 line below
 
@@ -95,7 +95,7 @@ other_first x y apart =
       | inr differs ↦ differs
     ]
 
-run_others : (n at : ℕ) (message : List ℕ) → kind_of message ≢ run_line_kind
+run_others : (n at : ℕ) (message : List ℕ) → kind_of_text message ≢ run_line_kind
     → names_run_line n at message ≡ false
 unfolding names_run_line
 run_others n at [] other = refl
@@ -119,7 +119,7 @@ register_epoch : (name : RegName) (ct : List ℕ) → IsRegName name
 unfolding register_message
 register_epoch name ct named = from_be_bytes-to_be_bytes_8 name.epoch named.epoch
 
-register_number : (name : RegName) (ct : List ℕ) → register_in (register_message name ct) ≡ name.reg
+register_number : (name : RegName) (ct : List ℕ) → register_of_message (register_message name ct) ≡ name.reg
 unfolding register_message
 register_number name ct = refl
 
@@ -143,13 +143,13 @@ other_kind_is_told x y apart =
       | inr differs ↦ differs
     ]
 
-register_others : (n e r : ℕ) (message : List ℕ) → kind_of message ≢ register_kind
+register_others : (n e r : ℕ) (message : List ℕ) → kind_of_text message ≢ register_kind
     → names_register n e r message ≡ false
 unfolding names_register
 register_others n e r message other =
     ap (λ same. same && are_asked n e r (install_in message) (epoch_in message)
-    (register_in message))
-    (other_kind_is_told (kind_of message) register_kind other)
+    (register_of_message message))
+    (other_kind_is_told (kind_of_text message) register_kind other)
 
 pub registers_are_told : RegistersAreTold
 registers_are_told = record {

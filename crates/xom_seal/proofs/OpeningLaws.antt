@@ -13,10 +13,10 @@ use Rattle.xom_seal.specs.declared.envelope.Unwrapped.{Unwrapped}
 use Rattle.xom_seal.specs.declared.keys.RegisterKeys.{RegisterKeys}
 use Rattle.xom_seal.specs.declared.names.RegName.{RegName}
 use Rattle.xom_seal.specs.Counters.{register_counter}
-use Rattle.xom_seal.specs.Envelopes.{contents_of, entry_in, envelope_fields, envelope_tag, fields_of, id_in, key_masked, lines_in, tag_in, wrapped, wrapped_in}
+use Rattle.xom_seal.specs.Envelopes.{contents_of, entry_of_envelope, envelope_fields, envelope_tag, fields_of, id_in, key_masked, lines_in, tag_in, wrapped_in, wrapped_key_of}
 use Rattle.xom_seal.specs.Messages.{envelope_message}
 use Rattle.xom_seal.specs.OpeningLaws.{EnvelopeMessagesTellContents, EnvelopesAreWrappings, RegistersAreSealings}
-use Rattle.xom_seal.specs.Sealing.{register_masked, register_pad, register_tag, xored}
+use Rattle.xom_seal.specs.Sealing.{register_masked, register_pad, register_tag, xor_of_bytes}
 use Rattle.xom_seal.proofs.EnvelopeLaws.{key_masked-twice, wrapped-parts}
 use Rattle.xom_seal.proofs.MessageLaws.{envelope_messages_tell}
 use Rattle.xom_seal.proofs.SealLaws.{length-register_masked, let_through, register_masked-twice}
@@ -34,7 +34,7 @@ drop-bytes zero xs bytes i = bytes i
 drop-bytes (suc n) [] bytes i = lit< tt
 drop-bytes (suc n) (x ∷ xs) bytes i = drop-bytes n xs (λ j. bytes (suc j)) i
 
-xored-bytes : (xs ys : List ℕ) → AreBytes xs → AreBytes ys → AreBytes (xored xs ys)
+xored-bytes : (xs ys : List ℕ) → AreBytes xs → AreBytes ys → AreBytes (xor_of_bytes xs ys)
 xored-bytes [] ys bytes other i = lit< tt
 xored-bytes (x ∷ xs) [] bytes other i = lit< tt
 xored-bytes (x ∷ xs) (y ∷ ys) bytes other zero = xor_of_8 x y (bytes zero) (other zero)
@@ -77,7 +77,7 @@ registers_are_sealings name keys sealed value keyed sized bytes opened =
 
 -- the fields of an envelope, one behind the other, are all before its tag
 fields_joined : (envelope : List ℕ) → AreBytes envelope → length envelope ≡ 88
-    → envelope_fields (id_in envelope) (entry_in envelope) (lines_in envelope)
+    → envelope_fields (id_in envelope) (entry_of_envelope envelope) (lines_in envelope)
     (wrapped_in envelope) ≡ take 56 envelope
 unfolding envelope_fields
 fields_joined envelope bytes sized =
@@ -106,14 +106,14 @@ fields_of-contents : (machine : Key256) (envelope : List ℕ) → AreBytes envel
     → fields_of machine (contents_of machine envelope) ≡ take 56 envelope
 unfolding contents_of
 fields_of-contents machine envelope bytes sized =
-    ap (envelope_fields (id_in envelope) (entry_in envelope) (lines_in envelope))
+    ap (envelope_fields (id_in envelope) (entry_of_envelope envelope) (lines_in envelope))
     (key_masked-twice machine (id_in envelope) (wrapped_in envelope)
     (length-take-le 32 (drop 24 envelope) (omega (arith, length-drop 24 envelope))))
     ∙ fields_joined envelope bytes sized
 
 wrapped-contents : (machine : Key256) (envelope : List ℕ) → AreBytes envelope → length envelope ≡ 88
     → tag_in envelope ≡ envelope_tag machine envelope
-    → wrapped machine (contents_of machine envelope) ≡ envelope
+    → wrapped_key_of machine (contents_of machine envelope) ≡ envelope
 wrapped-contents machine envelope bytes sized tagged =
     wrapped-parts machine (contents_of machine envelope)
     ∙ ap (λ fields. fields ++ envelope_tag machine fields) (fields_of-contents machine envelope
@@ -126,7 +126,7 @@ pub envelopes_are_wrappings : EnvelopesAreWrappings
 envelopes_are_wrappings machine envelope plain sized bytes opened =
     let found = let_through (tag_in envelope) (envelope_tag machine envelope)
     (contents_of machine envelope) plain opened in
-    sym (wrapped-contents machine envelope bytes sized found.0) ∙ ap (wrapped machine) found.1
+    sym (wrapped-contents machine envelope bytes sized found.0) ∙ ap (wrapped_key_of machine) found.1
 
 -- ---- What a message of an envelope says
 

@@ -10,21 +10,21 @@ use Rattle.xom_seal.specs.declared.envelope.Unwrapped.{Unwrapped}
 use Rattle.xom_seal.specs.Counters.{envelope_counter}
 use Rattle.xom_seal.specs.Keys.{envelope_aes_key}
 use Rattle.xom_seal.specs.Messages.{envelope_message}
-use Rattle.xom_seal.specs.Sealing.{xored}
+use Rattle.xom_seal.specs.Sealing.{xor_of_bytes}
 
 -- ---- The fields of an envelope
 
 -- all the fields before the tag: id, entry, lines, wrapped key
 unfoldable pub envelope_fields : List ℕ → ℕ → ℕ → List ℕ → List ℕ
-envelope_fields id entry lines wrapped =
-    id ++ (to_be_bytes w32 entry ++ (to_be_bytes w32 lines ++ wrapped))
+envelope_fields id entry lines wrapped_key_of =
+    id ++ (to_be_bytes w32 entry ++ (to_be_bytes w32 lines ++ wrapped_key_of))
 
 -- the same, read from an envelope
 abbrev pub id_in : List ℕ → List ℕ
 id_in envelope = take 16 envelope
 
-abbrev pub entry_in : List ℕ → ℕ
-entry_in envelope = from_be_bytes w32 (take 4 (drop 16 envelope))
+abbrev pub entry_of_envelope : List ℕ → ℕ
+entry_of_envelope envelope = from_be_bytes w32 (take 4 (drop 16 envelope))
 
 abbrev pub lines_in : List ℕ → ℕ
 lines_in envelope = from_be_bytes w32 (take 4 (drop 20 envelope))
@@ -45,7 +45,7 @@ envelope_pad machine id =
 
 -- an image key masked, which takes the key to the wrapped key and back
 unfoldable pub key_masked : Key256 → List ℕ → List ℕ → List ℕ
-key_masked machine id key = xored key (envelope_pad machine id)
+key_masked machine id key = xor_of_bytes key (envelope_pad machine id)
 
 -- the tag of an envelope, which is taken of its first 56 bytes, all that stands before it
 unfoldable pub envelope_tag : Key256 → List ℕ → List ℕ
@@ -57,20 +57,20 @@ fields_of machine plain =
     envelope_fields plain.id.0 plain.entry plain.lines (key_masked machine plain.id.0 plain.key.0)
 
 -- the envelope for an image
-unfoldable pub wrapped : Key256 → Unwrapped → List ℕ
-wrapped machine plain = fields_of machine plain ++ envelope_tag machine (fields_of machine plain)
+unfoldable pub wrapped_key_of : Key256 → Unwrapped → List ℕ
+wrapped_key_of machine plain = fields_of machine plain ++ envelope_tag machine (fields_of machine plain)
 
 -- what an envelope says of its image
 unfoldable pub contents_of : Key256 → List ℕ → Unwrapped
 contents_of machine envelope = record {
   id = record { 0 = id_in envelope };
-  entry = entry_in envelope;
+  entry = entry_of_envelope envelope;
   lines = lines_in envelope;
   key = record { 0 = key_masked machine (id_in envelope) (wrapped_in envelope) };
 }
 
 -- the same of an envelope whose tag is right
-abbrev pub unwrapped : Key256 → List ℕ → Option Unwrapped
-unwrapped machine envelope =
+abbrev pub envelope_contents : Key256 → List ℕ → Option Unwrapped
+envelope_contents machine envelope =
     if bytes_eq (tag_in envelope) (envelope_tag machine envelope)
     then Some (contents_of machine envelope) else None

@@ -12,8 +12,8 @@ use Rattle.xom_seal.specs.declared.names.LineName.{LineName}
 use Rattle.xom_seal.specs.declared.names.LineName.TheVariants.{Image, Run}
 use Rattle.xom_seal.specs.declared.names.RegName.{RegName}
 use Rattle.xom_seal.specs.Counters.{counter_block, envelope_counter, line_counter, register_counter}
-use Rattle.xom_seal.specs.Envelopes.{entry_in, envelope_fields, id_in, lines_in, unwrapped, wrapped}
-use Rattle.xom_seal.specs.Messages.{IsLineName, IsRegName, envelope_message, line_message, names_run_line, register_message, version_in}
+use Rattle.xom_seal.specs.Envelopes.{entry_of_envelope, envelope_contents, envelope_fields, id_in, lines_in, wrapped_key_of}
+use Rattle.xom_seal.specs.Messages.{IsLineName, IsRegName, envelope_message, line_message, names_run_line, register_message, version_of_message}
 use Rattle.xom_seal.specs.Sealing.{sealed_line, sealed_register, unsealed_line, unsealed_register}
 
 -- ---- Messages
@@ -74,7 +74,7 @@ pub record RunLinesAreTold : Type 0 where
       → names_run_line n at (line_message (Run boot install line version) ct) ≡ ((install == n)
       && (line == at))
   pub version : (boot install line version : ℕ) (ct : List ℕ) → version < 2 ^ 64
-      → version_in (line_message (Run boot install line version) ct) ≡ version
+      → version_of_message (line_message (Run boot install line version) ct) ≡ version
   pub image : (n at : ℕ) (id : ImageId) (line : ℕ) (ct : List ℕ)
       → names_run_line n at (line_message (Image id line) ct) ≡ false
   pub register : (n at : ℕ) (name : RegName) (ct : List ℕ)
@@ -154,19 +154,19 @@ pub record IsUnwrapped (plain : Unwrapped) : Type 0 where
 -- an envelope opens to what was wrapped
 abbrev pub EnvelopesOpen : Type 0
 EnvelopesOpen =
-    (machine : Key256) (plain : Unwrapped) → IsUnwrapped plain → unwrapped machine
-    (wrapped machine plain) ≡ Some plain
+    (machine : Key256) (plain : Unwrapped) → IsUnwrapped plain → envelope_contents machine
+    (wrapped_key_of machine plain) ≡ Some plain
 
 -- what the envelope for an image shows to everybody, and its size
 pub record Shows (envelope : List ℕ) (plain : Unwrapped) : Type 0 where
   pub size : length envelope ≡ 88
   pub id : id_in envelope ≡ plain.id.0
-  pub entry : entry_in envelope ≡ plain.entry
+  pub entry : entry_of_envelope envelope ≡ plain.entry
   pub lines : lines_in envelope ≡ plain.lines
 
 abbrev pub EnvelopesShow : Type 0
 EnvelopesShow =
-    (machine : Key256) (plain : Unwrapped) → IsUnwrapped plain → Shows (wrapped machine plain) plain
+    (machine : Key256) (plain : Unwrapped) → IsUnwrapped plain → Shows (wrapped_key_of machine plain) plain
 
 -- a sealed line has 32 bytes of ciphertext and 32 of tag
 abbrev pub SealedLinesHaveTheirLength : Type 0

@@ -50,5 +50,5 @@ names_run_line install line message =
     && bytes_eq (take 4 (drop 17 message)) (to_be_bytes w32 line))
 
 -- the version that it names
-abbrev pub version_in : List ℕ → ℕ
-version_in message = from_be_bytes w64 (take 8 (drop 21 message))
+abbrev pub version_of_message : List ℕ → ℕ
+version_of_message message = from_be_bytes w64 (take 8 (drop 21 message))

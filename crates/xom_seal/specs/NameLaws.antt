@@ -10,31 +10,31 @@ use Rattle.xom_seal.specs.declared.names.RegName.{RegName}
 use Rattle.xom_seal.specs.Counters.{envelope_counter, line_counter, register_counter}
 use Rattle.xom_seal.specs.Keys.{image_keys, register_keys, run_keys}
 use Rattle.xom_seal.specs.Messages.{IsLineName, IsRegName, envelope_message, line_message, names_run_line, register_message}
-use Rattle.xom_seal.specs.Readers.{envelope_kind, epoch_in, head_of, image_line_kind, install_in, kind_of, line_in, names_register, register_in, register_kind, run_line_kind}
+use Rattle.xom_seal.specs.Readers.{envelope_kind, epoch_in, head_of, image_line_kind, install_in, kind_of_text, line_of_message, names_register, register_kind, register_of_message, run_line_kind}
 
 -- ---- Kinds
 
 -- Each message tells its kind.
 pub record MessageKindsAreTold : Type 0 where
   pub image_line : (id : ImageId) (line : ℕ) (ct : List ℕ)
-      → kind_of (line_message (Image id line) ct) ≡ image_line_kind
+      → kind_of_text (line_message (Image id line) ct) ≡ image_line_kind
   pub run_line : (boot install line version : ℕ) (ct : List ℕ)
-      → kind_of (line_message (Run boot install line version) ct) ≡ run_line_kind
-  pub register : (name : RegName) (ct : List ℕ) → kind_of (register_message name ct) ≡ register_kind
-  pub envelope : (envelope : List ℕ) → kind_of (envelope_message envelope) ≡ envelope_kind
+      → kind_of_text (line_message (Run boot install line version) ct) ≡ run_line_kind
+  pub register : (name : RegName) (ct : List ℕ) → kind_of_text (register_message name ct) ≡ register_kind
+  pub envelope : (envelope : List ℕ) → kind_of_text (envelope_message envelope) ≡ envelope_kind
 
 -- So does each counter block.
 pub record CounterKindsAreTold : Type 0 where
   pub image_line : (id : ImageId) (line i : ℕ)
-      → kind_of (line_counter (Image id line) i) ≡ image_line_kind
+      → kind_of_text (line_counter (Image id line) i) ≡ image_line_kind
   pub run_line : (boot install line version i : ℕ)
-      → kind_of (line_counter (Run boot install line version) i) ≡ run_line_kind
-  pub register : (name : RegName) → kind_of (register_counter name) ≡ register_kind
-  pub envelope : (i : ℕ) → kind_of (envelope_counter i) ≡ envelope_kind
+      → kind_of_text (line_counter (Run boot install line version) i) ≡ run_line_kind
+  pub register : (name : RegName) → kind_of_text (register_counter name) ≡ register_kind
+  pub envelope : (i : ℕ) → kind_of_text (envelope_counter i) ≡ envelope_kind
 
 -- and so does all that stands before the ciphertext
 abbrev pub HeadsKeepTheirKind : Type 0
-HeadsKeepTheirKind = (message : List ℕ) → kind_of (head_of message) ≡ kind_of message
+HeadsKeepTheirKind = (message : List ℕ) → kind_of_text (head_of message) ≡ kind_of_text message
 
 -- ---- Fields
 
@@ -43,8 +43,8 @@ pub record RunFieldsAreTold : Type 0 where
   pub install : (boot install line version : ℕ) (ct : List ℕ) → install < 2 ^ 64
       → install_in (line_message (Run boot install line version) ct) ≡ install
   pub line : (boot install line version : ℕ) (ct : List ℕ) → line < 2 ^ 32
-      → line_in (line_message (Run boot install line version) ct) ≡ line
-  pub others : (n at : ℕ) (message : List ℕ) → kind_of message ≢ run_line_kind
+      → line_of_message (line_message (Run boot install line version) ct) ≡ line
+  pub others : (n at : ℕ) (message : List ℕ) → kind_of_text message ≢ run_line_kind
       → names_run_line n at message ≡ false
 
 -- Whether a message is of a register of this install, epoch and number is read from its fields, and
@@ -55,11 +55,11 @@ pub record RegistersAreTold : Type 0 where
       → install_in (register_message name ct) ≡ name.install
   pub epoch : (name : RegName) (ct : List ℕ) → IsRegName name
       → epoch_in (register_message name ct) ≡ name.epoch
-  pub reg : (name : RegName) (ct : List ℕ) → register_in (register_message name ct) ≡ name.reg
+  pub reg : (name : RegName) (ct : List ℕ) → register_of_message (register_message name ct) ≡ name.reg
   pub named : (n e r : ℕ) (name : RegName) (ct : List ℕ) → IsRegName name
       → names_register n e r (register_message name ct) ≡ ((name.install == n)
       && ((name.epoch == e) && (name.reg == r)))
-  pub others : (n e r : ℕ) (message : List ℕ) → kind_of message ≢ register_kind
+  pub others : (n e r : ℕ) (message : List ℕ) → kind_of_text message ≢ register_kind
       → names_register n e r message ≡ false
 
 -- ---- Heads

@@ -6,7 +6,7 @@ use Rattle.xom_seal.specs.declared.envelope.Unwrapped.{Unwrapped}
 use Rattle.xom_seal.specs.declared.keys.RegisterKeys.{RegisterKeys}
 use Rattle.xom_seal.specs.declared.names.RegName.{RegName}
 use Rattle.xom_seal.specs.declared.register.SealedReg.{SealedReg}
-use Rattle.xom_seal.specs.Envelopes.{contents_of, unwrapped, wrapped}
+use Rattle.xom_seal.specs.Envelopes.{contents_of, envelope_contents, wrapped_key_of}
 use Rattle.xom_seal.specs.Messages.{envelope_message}
 use Rattle.xom_seal.specs.Sealing.{sealed_register, unsealed_register}
 
@@ -22,7 +22,7 @@ abbrev pub EnvelopesAreWrappings : Type 0
 EnvelopesAreWrappings =
     (machine : Key256) (envelope : List ℕ) (plain : Unwrapped) → length envelope ≡ 88
     → AreBytes envelope
-    → unwrapped machine envelope ≡ Some plain → envelope ≡ wrapped machine plain
+    → envelope_contents machine envelope ≡ Some plain → envelope ≡ wrapped_key_of machine plain
 
 -- equal messages of envelopes have equal contents, whatever their tags
 abbrev pub EnvelopeMessagesTellContents : Type 0

@@ -6,8 +6,8 @@ use Rattle.std.specs.Int.{w64, w32, from_be_bytes}
 -- ---- Kinds
 
 -- the kind of a message, and of a counter block: its first byte
-abbrev pub kind_of : List ℕ → ℕ
-kind_of text = slice_index text 0
+abbrev pub kind_of_text : List ℕ → ℕ
+kind_of_text text = slice_index text 0
 
 abbrev pub image_line_kind : ℕ
 image_line_kind = 1
@@ -28,24 +28,24 @@ abbrev pub install_in : List ℕ → ℕ
 install_in message = from_be_bytes w64 (take 8 (drop 9 message))
 
 -- the line, of run lines. `version_in` of `Messages` reads the version.
-abbrev pub line_in : List ℕ → ℕ
-line_in message = from_be_bytes w32 (take 4 (drop 17 message))
+abbrev pub line_of_message : List ℕ → ℕ
+line_of_message message = from_be_bytes w32 (take 4 (drop 17 message))
 
 -- the epoch, of registers
 abbrev pub epoch_in : List ℕ → ℕ
 epoch_in message = from_be_bytes w64 (take 8 (drop 17 message))
 
 -- the register, of registers
-abbrev pub register_in : List ℕ → ℕ
-register_in message = slice_index message 25
+abbrev pub register_of_message : List ℕ → ℕ
+register_of_message message = slice_index message 25
 
 -- the message is of this register of this install under this epoch, whatever its boot and
 -- ciphertext
 unfoldable pub names_register : ℕ → ℕ → ℕ → List ℕ → Bool
 names_register install epoch reg message =
-    (kind_of message == register_kind)
+    (kind_of_text message == register_kind)
     && ((install_in message == install)
-    && ((epoch_in message == epoch) && (register_in message == reg)))
+    && ((epoch_in message == epoch) && (register_of_message message == reg)))
 
 -- ---- Heads
 
@@ -57,4 +57,4 @@ head_size kind =
 
 -- all that a message has before its ciphertext
 unfoldable pub head_of : List ℕ → List ℕ
-head_of message = take (head_size (kind_of message)) message
+head_of message = take (head_size (kind_of_text message)) message

@@ -17,9 +17,9 @@ use Rattle.xom_seal.specs.Counters.{line_counter, register_counter}
 use Rattle.xom_seal.specs.Messages.{line_message, register_message}
 
 -- byte for byte, as far as both texts go
-abbrev pub xored : List ℕ → List ℕ → List ℕ
-xored (x ∷ xs) (y ∷ ys) = bit_xor x y ∷ xored xs ys
-xored xs ys = []
+abbrev pub xor_of_bytes : List ℕ → List ℕ → List ℕ
+xor_of_bytes (x ∷ xs) (y ∷ ys) = bit_xor x y ∷ xor_of_bytes xs ys
+xor_of_bytes xs ys = []
 
 -- ---- Lines
 
@@ -31,7 +31,7 @@ line_pad name keys =
 -- a line's bytes masked, which takes plain bytes to the ciphertext and the ciphertext to plain
 -- bytes
 unfoldable pub line_masked : LineName → LineKeys → List ℕ → List ℕ
-line_masked name keys bytes = xored bytes (line_pad name keys)
+line_masked name keys bytes = xor_of_bytes bytes (line_pad name keys)
 
 -- the tag of a line with this ciphertext
 unfoldable pub line_tag : LineName → LineKeys → List ℕ → List ℕ
@@ -66,7 +66,7 @@ register_pad name keys = take 4 (aes128 keys.aes.0 (register_counter name))
 
 -- a register's bytes masked, both ways
 unfoldable pub register_masked : RegName → RegisterKeys → List ℕ → List ℕ
-register_masked name keys bytes = xored bytes (register_pad name keys)
+register_masked name keys bytes = xor_of_bytes bytes (register_pad name keys)
 
 -- the tag of a register with this ciphertext
 unfoldable pub register_tag : RegName → RegisterKeys → List ℕ → List ℕ

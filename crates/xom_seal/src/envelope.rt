@@ -1,5 +1,5 @@
 ghost use Rattle.std.specs.Prelude.{◌≡◌, SomeIff};
-ghost use Rattle.xom_seal.specs.Envelopes.{contents_of, envelope_fields, envelope_tag, key_masked, tag_in, unwrapped, wrapped};
+ghost use Rattle.xom_seal.specs.Envelopes.{contents_of, envelope_contents, envelope_fields, envelope_tag, key_masked, tag_in, wrapped_key_of};
 
 use crate::counter::envelope_counter;
 use crate::keys::envelope_key;
@@ -25,9 +25,9 @@ pub struct Unwrapped {
 
 /// The envelope for an image, which this machine alone can open: id (16 bytes), entry (4),
 /// lines (4), wrapped key (32), tag (32).
-#[tactic(auto, unfolding(crate::specs::Envelopes::wrapped))]
+#[tactic(auto, unfolding(crate::specs::Envelopes::wrapped_key_of))]
 pub fn wrap(machine: &Key256, plain: &Unwrapped) -> [u8; 88]
-    ensures { result ≡ wrapped machine.now plain.now }
+    ensures { result ≡ wrapped_key_of machine.now plain.now }
 {
     let key = masked_key(machine, &plain.id, &plain.key.0);
     let fields = fields(plain, &key);
@@ -38,7 +38,7 @@ pub fn wrap(machine: &Key256, plain: &Unwrapped) -> [u8; 88]
 /// All that stands before the tag in the envelope for an image, whose key is wrapped as this.
 #[tactic(auto, unfolding(crate::specs::Envelopes::envelope_fields))]
 fn fields(plain: &Unwrapped, wrapped: &[u8; 32]) -> [u8; 56]
-    ensures { result ≡ envelope_fields plain.now.id.0 plain.now.entry plain.now.lines wrapped.now }
+    ensures { result ≡ envelope_fields plain.now.id.0 plain.now.entry plain.now.lines wrapped_key_of.now }
 {
     Text::new()
         .and(&plain.id.0)
@@ -52,7 +52,7 @@ fn fields(plain: &Unwrapped, wrapped: &[u8; 32]) -> [u8; 56]
 /// the machine key, and then nothing is deciphered.
 pub fn unwrap(machine: &Key256, envelope: &[u8; 88]) -> Option<Unwrapped>
     ensures exact { SomeIff result (tag_in envelope.now ≡ envelope_tag machine.now envelope.now) (contents_of machine.now envelope.now) }
-    ensures value { result ≡ unwrapped machine.now envelope.now }
+    ensures value { result ≡ envelope_contents machine.now envelope.now }
 {
     if matches(&part(envelope, 56), &tag_of_envelope(machine, envelope)) {
         Some(contents(machine, envelope))

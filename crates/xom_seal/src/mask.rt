@@ -1,5 +1,5 @@
 ghost use Rattle.std.specs.Prelude.{◌≡◌, ◌++◌};
-ghost use Rattle.xom_seal.specs.Sealing.{xored};
+ghost use Rattle.xom_seal.specs.Sealing.{xor_of_bytes};
 ghost use Rattle.aes_block.specs.Cipher.{aes128};
 
 use crate::text::Text;
@@ -7,7 +7,7 @@ use aes_block::Schedule;
 
 /// These bytes, each xor one of the pad.
 pub fn masked<const N: usize>(bytes: &[u8; N], pad: &[u8; N]) -> [u8; N]
-    ensures { result ≡ xored bytes.now pad.now }
+    ensures { result ≡ xor_of_bytes bytes.now pad.now }
 {
     let mut masked = *bytes;
     for i in 0..N {

@@ -18,7 +18,7 @@ use Rattle.line_cache.specs.Ways.{way_at}
 use Rattle.session_table.specs.declared.session.Session.{Session}
 use Rattle.session_table.specs.declared.session.SlotState.TheVariants as state
 use Rattle.session_table.specs.declared.session.SlotView.{SlotView}
-use Rattle.session_table.specs.Sessions.{free, is_live, left, paused}
+use Rattle.session_table.specs.Sessions.{free, is_live, session_after_leaving, session_after_pause}
 use Rattle.xom_versions.specs.Versions.{Raised, RaisesInTheOpen, Versions}
 use Rattle.xom_model.specs.declared.outcome.Outcome.{Outcome}
 use Rattle.xom_model.specs.declared.outcome.Outcome.TheVariants as outcome
@@ -30,7 +30,7 @@ use Rattle.xom_model.specs.Guest.{address_in, after_effect, after_exit, after_re
 use Rattle.xom_model.specs.Holds.{IsLive}
 use Rattle.xom_model.specs.Seen.{shown_cell, shown_slot}
 use Rattle.xom_seen.specs.Emission.{GiveAll, Signal, is_ready}
-use Rattle.xom_seen.specs.SeenNext.{Sight, left_seen, slot_at, with_slot}
+use Rattle.xom_seen.specs.SeenNext.{Sight, left_seen, sight_slot, with_slot}
 use Rattle.xom_seen.proofs.Sights.{after_signals-append, areas-session, areas_of, live_within, sight_of, slot_at-is}
 use Rattle.xom_seen.proofs.Shows.{Knows, Reaches, Shows, Tells, dropped-is, give-append, give-one, reaches_access, shown_by, shows_same, tells_stepped}
 
@@ -121,8 +121,8 @@ module _ (v : Versions) (raised : Raised) (law : RaisesInTheOpen v raised) (befo
   -- a trap: a cause that leaves the slot paused
   paused-is : (core : CoreState) (why : Cause) → IsLive core slot
       → sight_of (after_trap core slot why).0 ≡ with_slot (sight_of core) slot
-      (record (slot_at (sight_of core) slot) {
-        epoch = (slot_at (sight_of core) slot).epoch + 1;
+      (record (sight_slot (sight_of core) slot) {
+        epoch = (sight_slot (sight_of core) slot).epoch + 1;
         state = state.Paused;
       })
   unfolding sight_of
@@ -139,20 +139,20 @@ module _ (v : Versions) (raised : Raised) (law : RaisesInTheOpen v raised) (befo
         installs = core.installs;
       } in
       let slots = slice_set (map shown_slot core.sessions) slot
-      (record (slot_at (sight_of core) slot) {
-        epoch = (slot_at (sight_of core) slot).epoch + 1;
+      (record (sight_slot (sight_of core) slot) {
+        epoch = (sight_slot (sight_of core) slot).epoch + 1;
         state = state.Paused;
       }) in
       ap (λ ss. sight ss (areas_of new)) (map-set shown_slot core.sessions slot
-      (paused (session_of core slot))
+      (session_after_pause (session_of core slot))
       ∙ ap (λ (s : SlotView). slice_set (map shown_slot core.sessions) slot
       (record s { epoch = s.epoch + 1; state = state.Paused })) (sym (slot_at-is core slot)))
-      ∙ ap (λ areas. sight slots areas) (areas-session core new slot (paused (session_of core slot))
+      ∙ ap (λ areas. sight slots areas) (areas-session core new slot (session_after_pause (session_of core slot))
       refl refl (live_within core slot live) (sym live))
 
   closes_trapped : (core : CoreState) (why : Cause) → IsLive core slot
       → ((s : Sight) → left_seen s slot (outcome.Left why) ≡ with_slot s slot
-      (record (slot_at s slot) { epoch = (slot_at s slot).epoch + 1; state = state.Paused }))
+      (record (sight_slot s slot) { epoch = (sight_slot s slot).epoch + 1; state = state.Paused }))
       → Closes core (after_trap core slot why).0 (Some why)
   closes_trapped core why live is = record {
     added = entry.Trap (session_of core slot).install why ∷ [];
@@ -199,15 +199,15 @@ module _ (v : Versions) (raised : Raised) (law : RaisesInTheOpen v raised) (befo
         (session_of core slot)
     unfolding without_guest
     ready_after core (ended.Call code) within =
-        ap is_ready (get_or-set_same core.sessions slot (paused (session_of core slot)) free within)
+        ap is_ready (get_or-set_same core.sessions slot (session_after_pause (session_of core slot)) free within)
     ready_after core ended.Exit within =
         ap is_ready
-        (get_or-set_same core.sessions slot (left (session_of core slot) state.Ended) free within)
+        (get_or-set_same core.sessions slot (session_after_leaving (session_of core slot) state.Ended) free within)
     ready_after core ended.Goes within =
         cond_both interrupt (after_trap core slot cause.Interrupt) (core, None)
         (λ (r : CoreState × Option Cause). is_ready (session_of r.0 slot) ≡ is_ready
         (session_of core slot))
-        (λ _. ap is_ready (get_or-set_same core.sessions slot (paused (session_of core slot)) free
+        (λ _. ap is_ready (get_or-set_same core.sessions slot (session_after_pause (session_of core slot)) free
         within)) (λ _. refl)
 
     -- the event that came out so leaves the slot so ready

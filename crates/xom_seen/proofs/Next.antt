@@ -25,7 +25,7 @@ use Rattle.xom_model.specs.Seen.{Seen, seen_of, shown_slot, view_of}
 use Rattle.xom_model.specs.Touched.{named_in, slot_of_op as slot_named, slot_or_none}
 use Rattle.xom_model.proofs.Turns.{ran_on-core, running-runs}
 use Rattle.xom_seen.specs.Emission.{Emission, Emits, GiveAll, Signal, is_ready}
-use Rattle.xom_seen.specs.SeenNext.{Sight, address_of, after_signals, counted_seen, guest_seen, left_seen, null_seen, operated_seen, running_seen, seen_next, sight_in, with_sight}
+use Rattle.xom_seen.specs.SeenNext.{Sight, after_signals, counted_seen, guest_seen, left_seen, null_seen, operated_seen, running_seen, seal_address, seen_next, sight_in, with_sight}
 use Rattle.xom_seen.specs.NoWayOut.{IsSettled, NoWayOut, SameSight}
 use Rattle.xom_seen.proofs.Sights.{live_within, sight_of}
 use Rattle.xom_seen.proofs.Shows.{Knows}
@@ -139,7 +139,7 @@ module _ (v : Versions) (raised : Raised) (law : RaisesInTheOpen v raised) where
       let after = after_operation r op (operation v r.core op) in
       let does = operated_looks v raised law r.core settled op in
       let knows = knows-settled v raised law r.core settled
-      (is_ready (session_of after.0.core (slot_named op))) (slot_named op) (address_of op) in
+      (is_ready (session_of after.0.core (slot_named op))) (slot_named op) (seal_address op) in
       record {
         emission = emission_of after does.signals;
         emits = record {
@@ -229,7 +229,7 @@ module _ (v : Versions) (raised : Raised) (law : RaisesInTheOpen v raised) where
       } in
       let does = operated_looks v raised law mid.core there op in
       let knows = knows-settled v raised law mid.core there
-      (is_ready (session_of after.0.core (slot_named op))) (slot_named op) (address_of op) in
+      (is_ready (session_of after.0.core (slot_named op))) (slot_named op) (seal_address op) in
       record {
         emission = emission_of after does.signals;
         emits = record {

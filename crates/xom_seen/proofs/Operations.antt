@@ -12,7 +12,7 @@ use Rattle.xom_base.specs.declared.event.Rule.{Rule}
 use Rattle.xom_base.specs.declared.event.Rule.TheVariants as rule
 use Rattle.xom_base.specs.declared.step.Step.{Step}
 use Rattle.xom_seal.specs.declared.envelope.Unwrapped.{Unwrapped}
-use Rattle.xom_seal.specs.Envelopes.{contents_of, envelope_tag, lines_in, tag_in, unwrapped}
+use Rattle.xom_seal.specs.Envelopes.{contents_of, envelope_contents, envelope_tag, lines_in, tag_in}
 use Rattle.xom_seal.specs.Sealing.{register_tag}
 use Rattle.xom_seal.specs.declared.register.SealedReg.{SealedReg}
 use Rattle.page_map.specs.Pages.{with_page}
@@ -22,21 +22,21 @@ use Rattle.session_table.specs.declared.session.Session.{Session}
 use Rattle.session_table.specs.declared.session.SlotState.{SlotState}
 use Rattle.session_table.specs.declared.session.SlotState.TheVariants as state
 use Rattle.session_table.specs.declared.session.SlotView.{SlotView}
-use Rattle.session_table.specs.Sessions.{entered, free, is_live, resumed}
+use Rattle.session_table.specs.Sessions.{free, is_live, session_after_enter, session_after_resume}
 use Rattle.xom_versions.specs.Store.{Store, hash_entry}
 use Rattle.xom_versions.specs.Versions.{Raised, RaisesInTheOpen, Versions}
-use Rattle.xom_model.specs.State.{CoreState, no_store, session_of, store_of, with_cells, with_session}
+use Rattle.xom_model.specs.State.{CoreState, core_with_session, no_store, session_of, store_of, with_cells}
 use Rattle.xom_model.specs.Lines.{who_of}
 use Rattle.xom_model.specs.Saves.{reg_accept_entry, reg_name, reg_seal_entry, saved_at, sealed_reg}
 use Rattle.xom_model.specs.Access.{after_flush, without_guest}
 use Rattle.xom_model.specs.Guest.{after_delivery, mask_after, session_after_signal, signal_of as step_of_signal}
 use Rattle.xom_model.specs.Holds.{IsLive}
-use Rattle.xom_model.specs.Operation.{after_install, after_kill, after_reopening, after_restore, after_save, after_unmap, enter, envelope_at, epoch_of, first_refusal_or, go_on, image_tests, install, install_tests, is_cell, is_slot, kill, kill_tests, map_page, map_tests, missing_cell, operation, refusal_of, reopening, restore_register, restore_tests, resume, resume_paused, save_register, save_tests, session_for, set_register, slot_takes_signal, success, unmap_page, unmap_tests, unwrap, with_signal}
+use Rattle.xom_model.specs.Operation.{after_install, after_kill, after_reopening, after_restore, after_save, after_unmap, enter, envelope_in_ram, epoch_of, first_refusal_or, image_tests, install, install_tests, is_cell, is_slot, kill, kill_tests, map_page, map_tests, missing_cell, operation, refusal_of, reopening, restore_register, restore_tests, resume, resume_or_stop, resume_paused, save_register, save_tests, session_for, set_register, slot_takes_signal, success, unmap_page, unmap_tests, unwrap, with_signal}
 use Rattle.xom_model.specs.Seen.{shown_cell, shown_slot}
 use Rattle.xom_model.specs.Touched.{slot_of_op as slot_named}
 use Rattle.xom_model.proofs.WalkEvents.{good_slot, paused_live, slot_from}
 use Rattle.xom_seen.specs.Emission.{GiveAll, Made, RegisterSealed, Signal, is_ready, names_of}
-use Rattle.xom_seen.specs.SeenNext.{Sight, address_of, after_signal, after_signals, done_seen, installed_slot, slot_at, with_slot}
+use Rattle.xom_seen.specs.SeenNext.{Sight, after_signal, after_signals, done_seen, installed_slot, seal_address, sight_slot, with_slot}
 use Rattle.xom_seen.proofs.Sights.{area_if, areas-session, areas-set, areas_of, live_within, shown_hidden, sight_of, slot_at-is}
 use Rattle.xom_seen.proofs.Shows.{Knows, Shows, give-hashes, give-one, removed-is, shows_flushed, shows_stop, stepped-is}
 
@@ -72,13 +72,13 @@ module _ (v : Versions) (raised : Raised) (law : RaisesInTheOpen v raised) (befo
   -- what is seen after these signals
   abbrev by_signals : CoreState → List Signal → Sight
   by_signals base signals =
-      after_signals v raised (slot_named op) (address_of op) (sight_of base) signals
+      after_signals v raised (slot_named op) (seal_address op) (sight_of base) signals
 
   abbrev Knew : CoreState → Type 0
-  Knew core = Knows v raised law before ready (slot_named op) (address_of op) core
+  Knew core = Knows v raised law before ready (slot_named op) (seal_address op) core
 
   abbrev Shown : CoreState → CoreState → Type 0
-  Shown base new = Shows v raised law before ready (slot_named op) (address_of op) base new
+  Shown base new = Shows v raised law before ready (slot_named op) (seal_address op) base new
 
   abbrev after_done : Sight → Sight
   after_done s = done_seen v raised s op
@@ -161,10 +161,10 @@ module _ (v : Versions) (raised : Raised) (law : RaisesInTheOpen v raised) (befo
 set-is : (core : CoreState) (slot : ℕ) (session : Session) (new : SlotView)
     → slot < length core.sessions → is_live session.state ≡ is_live (session_of core slot).state
     → shown_slot session ≡ new
-    → sight_of (with_session core slot session) ≡ with_slot (sight_of core) slot new
+    → sight_of (core_with_session core slot session) ≡ with_slot (sight_of core) slot new
 unfolding sight_of
 set-is core slot session new within same is =
-    let after = with_session core slot session in
+    let after = core_with_session core slot session in
     let sight : List SlotView → List (Option ℕ) → Sight =
     λ ss areas. record {
       cells = map shown_cell core.cells;
@@ -193,8 +193,8 @@ module _ (v : Versions) (raised : Raised) (law : RaisesInTheOpen v raised) (befo
   running-is : (slot : ℕ) (session : Session) → IsLive core slot
       → shown_slot session ≡ record (shown_slot (session_of core slot)) { state = state.Running }
       → is_live session.state ≡ true
-      → sight_of (with_session core slot session) ≡ with_slot (sight_of core) slot
-      (record (slot_at (sight_of core) slot) { state = state.Running })
+      → sight_of (core_with_session core slot session) ≡ with_slot (sight_of core) slot
+      (record (sight_slot (sight_of core) slot) { state = state.Running })
   running-is slot session live shown alive =
       set-is core slot session _ (live_within core slot live) (alive ∙ sym live)
       (shown ∙ ap (λ (s : SlotView). record s { state = state.Running })
@@ -207,7 +207,7 @@ module _ (v : Versions) (raised : Raised) (law : RaisesInTheOpen v raised) (befo
   does_enter slot state.Free is = refuse (Enter slot) 1 refl
   does_enter slot state.Fresh is = λ _.
       does_quiet v raised law before ready (Enter slot) core _ [] (sym (append-nil core.entries))
-      refl (running-is slot (entered (session_of core slot)) (ap is_live is) refl refl)
+      refl (running-is slot (session_after_enter (session_of core slot)) (ap is_live is) refl refl)
   does_enter slot state.Running is = refuse (Enter slot) 2 refl
   does_enter slot state.Paused is = refuse (Enter slot) 2 refl
   does_enter slot state.Ended is = refuse (Enter slot) 2 refl
@@ -224,14 +224,14 @@ module _ (v : Versions) (raised : Raised) (law : RaisesInTheOpen v raised) (befo
     alive = ap is_live is
 
     abbrev now : CoreState
-    now = with_session core slot (resumed (session_of core slot))
+    now = core_with_session core slot (session_after_resume (session_of core slot))
 
-    here : session_of now slot ≡ resumed (session_of core slot)
+    here : session_of now slot ≡ session_after_resume (session_of core slot)
     here = get_or-set_same core.sessions slot _ free (live_within core slot alive)
 
     now-is : sight_of now ≡ with_slot (sight_of core) slot
-        (record (slot_at (sight_of core) slot) { state = state.Running })
-    now-is = running-is slot (resumed (session_of core slot)) alive refl refl
+        (record (sight_slot (sight_of core) slot) { state = state.Running })
+    now-is = running-is slot (session_after_resume (session_of core slot)) alive refl refl
 
     -- a signal is a step
     abbrev step : Step
@@ -244,7 +244,7 @@ module _ (v : Versions) (raised : Raised) (law : RaisesInTheOpen v raised) (befo
     shown_step = Made (names_of step.writes) step.released step.end ready
 
     swapped : after_signal v raised slot 0
-        (with_slot (sight_of core) slot (record (slot_at (sight_of core) slot) {
+        (with_slot (sight_of core) slot (record (sight_slot (sight_of core) slot) {
           state =
               state.Running;
         })) shown_step ≡ done_seen v raised
@@ -268,7 +268,7 @@ module _ (v : Versions) (raised : Raised) (law : RaisesInTheOpen v raised) (befo
       sight = λ _.
           let within : slot < length now.sessions =
           subst (λ n. slot < n)
-          (sym (length-set core.sessions slot (resumed (session_of core slot))))
+          (sym (length-set core.sessions slot (session_after_resume (session_of core slot))))
           (live_within core slot alive) in
           let is_ready_now : ready ≡ is_ready new_session =
           so ∙ ap is_ready (get_or-set_same now.sessions slot new_session free within) in
@@ -290,7 +290,7 @@ module _ (v : Versions) (raised : Raised) (law : RaisesInTheOpen v raised) (befo
         refl now-is)
         (λ _. does_delivered)
 
-    does_go_on : (lost : Option ℕ) → Done op (go_on core slot signal lost)
+    does_go_on : (lost : Option ℕ) → Done op (resume_or_stop core slot signal lost)
     does_go_on None = does_signal
     does_go_on (Some reg) =
         λ _. does_stop v raised law before ready op core _ (shows_stop v raised law before ready
@@ -299,10 +299,10 @@ module _ (v : Versions) (raised : Raised) (law : RaisesInTheOpen v raised) (befo
     does_paused : Done op (resume_paused core slot signal)
     does_paused =
         cond_both (nat_le signal 63) (cond (slot_takes_signal (session_of core slot) signal)
-        (go_on core slot signal (missing_cell slot (session_of core slot).mask core.cells))
+        (resume_or_stop core slot signal (missing_cell slot (session_of core slot).mask core.cells))
         (refusal_of core 2)) (refusal_of core 7) (λ after. Done op after)
         (λ _. cond_both (slot_takes_signal (session_of core slot) signal)
-        (go_on core slot signal (missing_cell slot (session_of core slot).mask core.cells))
+        (resume_or_stop core slot signal (missing_cell slot (session_of core slot).mask core.cells))
         (refusal_of core 2) (λ after. Done op after)
         (λ _. does_go_on (missing_cell slot (session_of core slot).mask core.cells))
         (λ _. refuse op 2 refl))
@@ -394,7 +394,7 @@ module _ (v : Versions) (raised : Raised) (law : RaisesInTheOpen v raised) (befo
 
   -- ---- Install
 
-  contents-is : (text : List ℕ) (plain : Unwrapped) → unwrapped core.machine text ≡ Some plain
+  contents-is : (text : List ℕ) (plain : Unwrapped) → envelope_contents core.machine text ≡ Some plain
       → contents_of core.machine text ≡ plain
   contents-is text plain =
       cond_both (bytes_eq (tag_in text) (envelope_tag core.machine text))
@@ -404,7 +404,7 @@ module _ (v : Versions) (raised : Raised) (law : RaisesInTheOpen v raised) (befo
 
   module _ (slot place area : ℕ) (low : slot < 17) where
     abbrev text : List ℕ
-    text = envelope_at core place
+    text = envelope_in_ram core place
 
     abbrev plain : Unwrapped
     plain = contents_of core.machine text
@@ -457,24 +457,24 @@ module _ (v : Versions) (raised : Raised) (law : RaisesInTheOpen v raised) (befo
         installed-is
 
   does_unwrap : (slot place area : ℕ) → slot < 17 → (opens : Option Unwrapped)
-      → unwrapped core.machine (envelope_at core place) ≡ opens
+      → envelope_contents core.machine (envelope_in_ram core place) ≡ opens
       → Done (Install slot place area) (unwrap v core slot place area opens)
   does_unwrap slot place area low None is = refuse (Install slot place area) 3 refl
   does_unwrap slot place area low (Some plain) is =
       does_tested v raised law before ready (Install slot place area) core (image_tests core plain)
       (success (after_install v core slot place area plain)) (refl, tt)
       (λ _. subst (λ p. Done (Install slot place area)
-      (success (after_install v core slot place area p))) (contents-is (envelope_at core place)
+      (success (after_install v core slot place area p))) (contents-is (envelope_in_ram core place)
       plain is) (does_installed slot place area low))
 
   does_install : (slot place area : ℕ)
       → Done (Install slot place area) (install v core slot place area)
   does_install slot place area = does_tested v raised law before ready (Install slot place area)
       core (install_tests core slot place area)
-      (unwrap v core slot place area (unwrapped core.machine (envelope_at core place)))
+      (unwrap v core slot place area (envelope_contents core.machine (envelope_in_ram core place)))
       (refl, (refl, (refl, tt)))
       (λ passed. let slots = slot_from slot passed.0 in does_unwrap slot place area (let most =
-      slots.1 in omega arith) (unwrapped core.machine (envelope_at core place)) refl)
+      slots.1 in omega arith) (envelope_contents core.machine (envelope_in_ram core place)) refl)
 
   -- ---- Map, Unmap and Kill
 

@@ -11,13 +11,13 @@ use Rattle.mips_effect.specs.declared.seen.Mode.TheVariants.{Null}
 use Rattle.mips_effect.specs.declared.seen.Seen.TheVariants.{Value}
 use Rattle.mips_effect.specs.declared.wish.Wish.{Wish}
 use Rattle.mips_effect.specs.declared.wish.Wish.TheVariants as wish
-use Rattle.mips_effect.specs.Effects.{sources_of, effect_of, set}
+use Rattle.mips_effect.specs.Effects.{effect_of, sources_of, write_of_register}
 use Rattle.mips_plain.specs.Memory.{low_bytes}
 use Rattle.tag_regs.specs.declared.cell.Cell.{Cell}
-use Rattle.tag_regs.specs.TaggedCells.{cell_at, empty}
+use Rattle.tag_regs.specs.TaggedCells.{cell_at, empty_cell}
 use Rattle.xom_model.specs.declared.outcome.NullFault.TheVariants as null
-use Rattle.xom_model.specs.State.{holds}
-use Rattle.xom_model.specs.Null.{Answer, Open, Told, answer_of, done_answer, fetched_open, loaded_open, null_step, open_after, open_cell, ran_open, seen_open, stopped_by, stored_open, tried_open, wish_answer, with_null_writes}
+use Rattle.xom_model.specs.State.{ram_holds_range}
+use Rattle.xom_model.specs.Null.{Answer, Open, Told, done_answer, fetched_open, loaded_open, null_answer, null_step, open_after, open_cell, ran_open, seen_open, stopped_by, stored_open, tried_open, wish_answer, with_null_writes}
 use Rattle.xom_model.specs.Seen.{shown_cell}
 use Rattle.xom_seen.proofs.Sights.{at_map}
 
@@ -40,7 +40,7 @@ sees_same : (cells : List Cell) (reg : ℕ)
     → seen_open (map shown_cell cells) reg ≡ seen_open cells reg
 sees_same cells reg =
     ap (λ c. if reg == 0 then Value 0 else c)
-    (ap open_cell (at_map shown_cell cells reg empty) ∙ cell_same (cell_at cells reg))
+    (ap open_cell (at_map shown_cell cells reg empty_cell) ∙ cell_same (cell_at cells reg))
 
 tried_same : (cells : List Cell) (found : Result Ins OwnFault) (pc npc : ℕ)
     → tried_open (seen_open (map shown_cell cells)) found pc npc ≡ tried_open (seen_open cells)
@@ -80,19 +80,19 @@ granted_same : (told : Told) (s : Open) (effect : Effect) (wished : Wish)
     (wish_answer told s effect wished)
 granted_same told s effect wish.Nothing = ap done_answer (passed_same s effect effect.writes)
 granted_same told s effect (wish.Load reg address how old) =
-    let written = set reg (loaded_open s.ram how old address) in
-    cond_both (holds s.ram (address - address % 4) 4) (done_answer (open_after s effect written))
+    let written = write_of_register reg (loaded_open s.ram how old address) in
+    cond_both (ram_holds_range s.ram (address - address % 4) 4) (done_answer (open_after s effect written))
     (stopped_by s null.Address)
-    (λ a. cond (holds s.ram (address - address % 4) 4)
+    (λ a. cond (ram_holds_range s.ram (address - address % 4) 4)
     (done_answer (open_after (shown_open s) effect written))
     (stopped_by (shown_open s) null.Address) ≡ shown_answer a)
     (λ is. rw is (ap done_answer (passed_same s effect written)))
     (λ is. rw is refl)
 granted_same told s effect (wish.Store address count value) =
-    cond_both (holds s.ram address count)
+    cond_both (ram_holds_range s.ram address count)
     (done_answer (stored_open (open_after s effect effect.writes) address
     (low_bytes count value))) (stopped_by s null.Address)
-    (λ a. cond (holds s.ram address count)
+    (λ a. cond (ram_holds_range s.ram address count)
     (done_answer (stored_open (open_after (shown_open s) effect effect.writes) address
     (low_bytes count value))) (stopped_by (shown_open s) null.Address) ≡ shown_answer a)
     (λ is. rw is (ap (λ o. done_answer (stored_open o address (low_bytes count value)))
@@ -102,7 +102,7 @@ granted_same told s effect (wish.Call code) = refl
 granted_same told s effect (wish.Do operation) =
     ap (λ o. let a : Answer = (o, Ok (Some operation)) in a) (passed_same s effect effect.writes)
 granted_same told s effect (wish.Ask reg what) =
-    ap done_answer (passed_same s effect (set reg (answer_of told what)))
+    ap done_answer (passed_same s effect (write_of_register reg (null_answer told what)))
 granted_same told s effect (wish.Release reg value) = refl
 granted_same told s effect (wish.Receive reg from) = refl
 granted_same told s effect (wish.NullLoad reg address) = refl

@@ -14,29 +14,29 @@ use Rattle.xom_seal.specs.Sealing.{line_tag, unsealed_line}
 use Rattle.xom_seal.specs.declared.line.SealedLine.{SealedLine}
 use Rattle.page_map.specs.Pages.{frame_of, without_pages}
 use Rattle.line_cache.specs.declared.way.Way.{Way}
-use Rattle.line_cache.specs.Ways.{found, free_if, free_way, new_way, place_for, pointers_after, way_at}
+use Rattle.line_cache.specs.Ways.{free_if, free_way, new_way, place_for, place_of_line, pointers_after, way_at}
 use Rattle.tag_regs.specs.declared.cell.Cell.{Cell}
-use Rattle.tag_regs.specs.TaggedCells.{scrubbed}
+use Rattle.tag_regs.specs.TaggedCells.{cells_after_scrub}
 use Rattle.session_table.specs.declared.session.Session.{Session}
 use Rattle.session_table.specs.declared.session.SlotState.{SlotState}
 use Rattle.session_table.specs.declared.session.SlotState.TheVariants as state
 use Rattle.session_table.specs.declared.session.SlotView.{SlotView}
-use Rattle.session_table.specs.Sessions.{free, is_live, left}
+use Rattle.session_table.specs.Sessions.{free, is_live, session_after_leaving}
 use Rattle.xom_versions.specs.declared.store.Torn.{Torn}
 use Rattle.xom_model.specs.declared.reach.Reach.{Reach}
 use Rattle.xom_model.specs.declared.reach.Reach.TheVariants as reach
 use Rattle.xom_versions.specs.Store.{hash_entry}
 use Rattle.xom_versions.specs.Versions.{Raised, RaisesInTheOpen, Versions}
-use Rattle.xom_model.specs.State.{CoreState, core_with_hashes, page_of, session_of, store_of, with_entry, with_session, with_way}
-use Rattle.xom_model.specs.Lines.{Who, accept_entry, ct_place, is_image_at, keys_of, name_of, run_name, seal_entry, sealed_as, sealed_at, who_of, with_sealed}
+use Rattle.xom_model.specs.State.{CoreState, core_with_hashes, core_with_session, core_with_way, page_of, session_of, store_of, with_entry}
+use Rattle.xom_model.specs.Lines.{Who, accept_entry, ct_place, is_image_at, keys_of, line_name_of, run_name, seal_entry, sealed_as, sealed_at, who_of, with_sealed}
 use Rattle.xom_model.specs.Access.{access, after_eviction, after_flush, after_leaving, after_opening, after_raise, after_seal, after_stop, after_victim, and_then, brought, cleared_at, or_stopped, reach_after_placing, reach_after_victim, reach_by_cache, reach_in_frame, read_from, sealed_by_raise, taken_out, with_pointers, without_guest}
-use Rattle.xom_model.specs.Guest.{cells_after, core_after_step, given_out, mask_after, mask_released, with_release, with_writes}
+use Rattle.xom_model.specs.Guest.{cells_after_step, core_after_step, given_out, mask_after, mask_released, with_release, with_writes}
 use Rattle.xom_model.specs.Holds.{IsLive}
 use Rattle.xom_model.specs.Seen.{shown_cell, shown_slot}
 use Rattle.xom_model.proofs.Gone.{less, way-without}
 use Rattle.xom_model.proofs.Walk.{raised_for, torn_off, written_back}
 use Rattle.xom_seen.specs.Emission.{Broke, GiveAll, Gives, IsLineOf, LineSealed, Made, Signal, names_of}
-use Rattle.xom_seen.specs.SeenNext.{Sight, after_signal, after_signals, dropped_seen, mask_named, named, slot_at}
+use Rattle.xom_seen.specs.SeenNext.{Sight, after_signal, after_signals, cells_named_for_slot, dropped_seen, mask_named, sight_slot}
 use Rattle.xom_seen.proofs.Sights.{after_signals-append, area-stored, area_at-is, areas-gone, areas-same, areas-session, areas_of, live_within, mask_named-is, shown_scrubbed, shown_tagged, shown_untagged, sight_of, slot_at-is}
 
 -- ---- What entries give away
@@ -233,11 +233,11 @@ module _ (v : Versions) (raised : Raised) (law : RaisesInTheOpen v raised) (befo
   -- how that looks
   pub removed-is : (core : CoreState) (k : ℕ) (session : Session) → k < length core.sessions
       → k < 17 → is_live session.state ≡ false
-      → sight_of (with_session (without_guest core k) k session) ≡ dropped_seen (sight_of core) k
+      → sight_of (core_with_session (without_guest core k) k session) ≡ dropped_seen (sight_of core) k
       (shown_slot session)
   unfolding sight_of without_guest
   removed-is core k session within low dead =
-      let new = with_session (without_guest core k) k session in
+      let new = core_with_session (without_guest core k) k session in
       let sight : List Cell → List SlotView → List (Option ℕ) → Sight =
       λ cs ss areas. record {
         cells = cs;
@@ -250,24 +250,24 @@ module _ (v : Versions) (raised : Raised) (law : RaisesInTheOpen v raised) (befo
       } in
       ap (λ cs. sight cs (map shown_slot (slice_set core.sessions k session)) (areas_of new))
       (shown_scrubbed k core.cells)
-      ∙ ap (λ ss. sight (scrubbed k (map shown_cell core.cells)) ss (areas_of new))
+      ∙ ap (λ ss. sight (cells_after_scrub k (map shown_cell core.cells)) ss (areas_of new))
       (map-set shown_slot core.sessions k session)
-      ∙ ap (λ areas. sight (scrubbed k (map shown_cell core.cells))
+      ∙ ap (λ areas. sight (cells_after_scrub k (map shown_cell core.cells))
       (slice_set (map shown_slot core.sessions) k (shown_slot session)) areas)
       (areas-gone core new k session refl refl within low dead)
 
   pub dropped-is : (core : CoreState) (k : ℕ) (final : SlotState) → k < length core.sessions
       → k < 17 → is_live final ≡ false
       → sight_of (after_leaving core k final) ≡ dropped_seen (sight_of core) k
-      (record (slot_at (sight_of core) k) { state = final })
+      (record (sight_slot (sight_of core) k) { state = final })
   dropped-is core k final within low dead =
-      removed-is core k (left (session_of core k) final) within low dead
+      removed-is core k (session_after_leaving (session_of core k) final) within low dead
       ∙ ap (λ (s : SlotView). dropped_seen (sight_of core) k (record s { state = final }))
       (sym (slot_at-is core k))
 
   stopped-is : (core : CoreState) (k : ℕ) (why : Rule) → k < length core.sessions → k < 17
       → sight_of (after_stop core k why) ≡ dropped_seen (sight_of core) k
-      (record (slot_at (sight_of core) k) { state = state.Stopped why })
+      (record (sight_slot (sight_of core) k) { state = state.Stopped why })
   unfolding sight_of without_guest
   stopped-is core k why within low = dropped-is core k (state.Stopped why) within low refl
 
@@ -297,7 +297,7 @@ module _ (v : Versions) (raised : Raised) (law : RaisesInTheOpen v raised) (befo
   }
     where
       session : Session
-      session = left (session_of core k) (state.Stopped why)
+      session = session_after_leaving (session_of core k) (state.Stopped why)
 
       new : CoreState
       new = after_stop core k why
@@ -379,7 +379,7 @@ module _ (v : Versions) (raised : Raised) (law : RaisesInTheOpen v raised) (befo
 
   -- the name under which a line is sealed is one of the line
   named-line : (who : Who) (s : Session) (line version : ℕ) → who.install ≡ s.install
-      → who.id ≡ s.id → IsLineOf s line (name_of who line version)
+      → who.id ≡ s.id → IsLineOf s line (line_name_of who line version)
   named-line who s line version install id =
       cond_both (is_image_at who line version) (Image who.id line) (run_name who line version)
       (λ name. IsLineOf s line name) (λ _. (id, refl)) (λ _. (install, refl))
@@ -431,7 +431,7 @@ module _ (v : Versions) (raised : Raised) (law : RaisesInTheOpen v raised) (befo
       slot = k;
       line = line;
       ct = sealed.ct;
-      name = name_of (who_of core k) line version;
+      name = line_name_of (who_of core k) line version;
       live = was.0;
       named = named-line (who_of core k) (session_of before k) line version was.1 was.2;
       text = refl;
@@ -502,7 +502,7 @@ module _ (v : Versions) (raised : Raised) (law : RaisesInTheOpen v raised) (befo
     fresh_way = new_way slot line bytes
 
     filled : (mid : CoreState) → IsLive mid slot → Shows pointed mid
-        → Reaches core (with_way mid place fresh_way, reach.Ready place)
+        → Reaches core (core_with_way mid place fresh_way, reach.Ready place)
     filled mid alive shows = record {
       shows = shows_then core pointed
           _ (shows_pointed core (pointers_after core.ways core.pointers line))
@@ -532,7 +532,7 @@ module _ (v : Versions) (raised : Raised) (law : RaisesInTheOpen v raised) (befo
           })
           | inr other ↦
               let same : session_of off slot ≡ session_of core slot = get_or-set_other core.sessions
-              victim.slot slot (left (session_of core victim.slot)
+              victim.slot slot (session_after_leaving (session_of core victim.slot)
               (state.Stopped (rule.TreeNode torn.level))) free (λ is_own. other.1 (sym is_own)) in
               rw other.0 (filled off (ap (λ (s : Session). is_live s.state) same ∙ live) shows)
         ]
@@ -570,7 +570,7 @@ module _ (v : Versions) (raised : Raised) (law : RaisesInTheOpen v raised) (befo
       (λ _. reaches_placed core line (replicate 32 0) live)
       (λ _. reaches_opened core line version (ct_place frame line)
       (sealed_at core.ram frame line).ct
-      (unsealed_line (name_of (who_of core slot) line version)
+      (unsealed_line (line_name_of (who_of core slot) line version)
       (keys_of (who_of core slot) line version) (sealed_at core.ram frame line)) live)
 
   reaches_looked : (core : CoreState) (line frame : ℕ) (at : Option ℕ) → IsLive core slot
@@ -587,7 +587,7 @@ module _ (v : Versions) (raised : Raised) (law : RaisesInTheOpen v raised) (befo
       → Reaches core (reach_in_frame v core slot line frame)
   reaches_mapped core line None live = record { shows = shows_same core; live = live }
   reaches_mapped core line (Some frame) live =
-      reaches_looked core line frame (found core.ways slot line) live
+      reaches_looked core line frame (place_of_line core.ways slot line) live
 
   pub reaches_access : (core : CoreState) (line : ℕ) → IsLive core slot
       → Reaches core (access v core slot line)
@@ -638,8 +638,8 @@ module _ (v : Versions) (raised : Raised) (law : RaisesInTheOpen v raised) (befo
   unfolding after_flush
   shows_flushed zero line core = shows_same core
   shows_flushed (suc count) line core =
-      then_shows core (taken_out v core (found core.ways slot line))
-      (after_flush v slot count (line + 1)) (shows_taken core (found core.ways slot line))
+      then_shows core (taken_out v core (place_of_line core.ways slot line))
+      (after_flush v slot count (line + 1)) (shows_taken core (place_of_line core.ways slot line))
       (λ mid. shows_flushed count (line + 1) mid)
 
   -- ---- A step
@@ -656,16 +656,16 @@ module _ (v : Versions) (raised : Raised) (law : RaisesInTheOpen v raised) (befo
     abbrev signal : Signal
     signal = Made (names_of step.writes) step.released step.end ready
 
-    stepped_cells : map shown_cell (cells_after slot core.cells step) ≡ with_release
-        (named slot (map shown_cell core.cells) (names_of step.writes)) step.released
+    stepped_cells : map shown_cell (cells_after_step slot core.cells step) ≡ with_release
+        (cells_named_for_slot slot (map shown_cell core.cells) (names_of step.writes)) step.released
     stepped_cells =
         shown_untagged (with_writes slot core.cells step.writes) step.released
         ∙ ap (λ cs. with_release cs step.released) (shown_tagged slot core.cells step.writes some)
 
     abbrev stepped_view : SlotView
-    stepped_view = record (slot_at (sight_of core) slot) {
+    stepped_view = record (sight_slot (sight_of core) slot) {
       mask =
-          mask_released (mask_named (slot_at (sight_of core) slot).mask (names_of step.writes))
+          mask_released (mask_named (sight_slot (sight_of core) slot).mask (names_of step.writes))
           step.released;
       signal_ready = ready;
     }
@@ -701,7 +701,7 @@ module _ (v : Versions) (raised : Raised) (law : RaisesInTheOpen v raised) (befo
               given_out core.ram step.released;
           installs = core.installs;
         } in
-        let cells = with_release (named slot (map shown_cell core.cells) (names_of step.writes))
+        let cells = with_release (cells_named_for_slot slot (map shown_cell core.cells) (names_of step.writes))
         step.released in
         ap (λ cs. sight cs (map shown_slot (slice_set core.sessions slot session)) (areas_of new))
         stepped_cells

@@ -9,7 +9,7 @@ use Rattle.xom_base.specs.declared.step.Writes.TheVariants as writes
 use Rattle.xom_base.specs.declared.step.Released.{Released}
 use Rattle.xom_base.specs.declared.step.Released.TheVariants as released
 use Rattle.tag_regs.specs.declared.cell.Cell.{Cell}
-use Rattle.tag_regs.specs.TaggedCells.{empty, scrubbed, scrubbed_cell}
+use Rattle.tag_regs.specs.TaggedCells.{cells_after_scrub, empty_cell, scrubbed_cell}
 use Rattle.session_table.specs.declared.session.Session.{Session}
 use Rattle.session_table.specs.Sessions.{free, is_live}
 use Rattle.xom_versions.specs.Store.{Store}
@@ -20,7 +20,7 @@ use Rattle.xom_model.specs.Holds.{IsLive}
 use Rattle.xom_model.specs.Seen.{area_of, shown_cell, shown_slot}
 use Rattle.xom_model.proofs.Gone.{less}
 use Rattle.xom_seen.specs.Emission.{Signal, names_of}
-use Rattle.xom_seen.specs.SeenNext.{Sight, after_signal, after_signals, hidden, mask_named, named, slot_at}
+use Rattle.xom_seen.specs.SeenNext.{Sight, after_signal, after_signals, cells_named_for_slot, hidden_cell, mask_named, sight_slot}
 
 -- the areas of the slots
 abbrev pub areas_of : CoreState → List (Option ℕ)
@@ -49,7 +49,7 @@ at_map f (x ∷ xs) (suc i) d = at_map f xs i d
 
 -- a slot as it is seen
 pub slot_at-is : (core : CoreState) (slot : ℕ)
-    → slot_at (sight_of core) slot ≡ shown_slot (session_of core slot)
+    → sight_slot (sight_of core) slot ≡ shown_slot (session_of core slot)
 unfolding sight_of
 slot_at-is core slot = at_map shown_slot core.sessions slot free
 
@@ -73,11 +73,11 @@ shown_tag cell = elim (cell.tag == 0) as
 
 -- a slot's cell is hidden
 pub shown_hidden : (slot value : ℕ) → (slot == 0) ≡ false
-    → shown_cell (record { value = value; tag = slot }) ≡ hidden slot
+    → shown_cell (record { value = value; tag = slot }) ≡ hidden_cell slot
 shown_hidden slot value some = rw some refl
 
 pub shown_scrubbed : (slot : ℕ) (cells : List Cell)
-    → map shown_cell (scrubbed slot cells) ≡ scrubbed slot (map shown_cell cells)
+    → map shown_cell (cells_after_scrub slot cells) ≡ cells_after_scrub slot (map shown_cell cells)
 shown_scrubbed slot [] = refl
 shown_scrubbed slot (cell ∷ cells) =
     let here : shown_cell (scrubbed_cell slot cell) ≡ scrubbed_cell slot (shown_cell cell) =
@@ -85,7 +85,7 @@ shown_scrubbed slot (cell ∷ cells) =
     let rest = shown_scrubbed slot cells in cc
   where
     chosen : (slot : ℕ) (cell : Cell) (b : Bool)
-        → shown_cell (cond b empty cell) ≡ cond b empty (shown_cell cell)
+        → shown_cell (cond b empty_cell cell) ≡ cond b empty_cell (shown_cell cell)
     chosen slot cell true = refl
     chosen slot cell false = refl
 
@@ -93,11 +93,11 @@ shown_scrubbed slot (cell ∷ cells) =
         → shown_cell (scrubbed_cell slot cell) ≡ scrubbed_cell slot (shown_cell cell)
     scrubbed_here slot cell =
         chosen slot cell (cell.tag == slot)
-        ∙ ap (λ t. cond (t == slot) empty (shown_cell cell)) (sym (shown_tag cell))
+        ∙ ap (λ t. cond (t == slot) empty_cell (shown_cell cell)) (sym (shown_tag cell))
 
 -- what a step wrote is hidden
 pub shown_tagged : (slot : ℕ) (cells : List Cell) (written : Writes) → (slot == 0) ≡ false
-    → map shown_cell (with_writes slot cells written) ≡ named slot (map shown_cell cells)
+    → map shown_cell (with_writes slot cells written) ≡ cells_named_for_slot slot (map shown_cell cells)
     (names_of written)
 shown_tagged slot cells writes.Nothing some = refl
 shown_tagged slot cells (writes.One reg value) some =
@@ -107,7 +107,7 @@ shown_tagged slot cells (writes.Pair hi lo) some =
     map-set shown_cell (slice_set cells 32 (record { value = hi; tag = slot })) 33 _
     ∙ ap (λ c. slice_set (map shown_cell (slice_set cells 32 (record { value = hi; tag = slot })))
     33 c) (shown_hidden slot lo some)
-    ∙ ap (λ (cs : List Cell). slice_set cs 33 (hidden slot)) (map-set shown_cell cells 32 _
+    ∙ ap (λ (cs : List Cell). slice_set cs 33 (hidden_cell slot)) (map-set shown_cell cells 32 _
     ∙ ap (λ c. slice_set (map shown_cell cells) 32 c) (shown_hidden slot hi some))
 
 -- what it released is open

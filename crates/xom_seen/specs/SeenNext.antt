@@ -6,14 +6,14 @@ use Rattle.xom_base.specs.declared.event.Event.{Event}
 use Rattle.xom_base.specs.declared.event.Event.TheVariants as event
 use Rattle.xom_base.specs.declared.event.Op.{Op}
 use Rattle.xom_base.specs.declared.event.Op.TheVariants.{Install, Enter, Resume, Save, Restore, Map, Unmap, SetReg, Kill, Out, Halt}
-use Rattle.xom_seal.specs.Envelopes.{entry_in, id_in, lines_in}
+use Rattle.xom_seal.specs.Envelopes.{entry_of_envelope, id_in, lines_in}
 use Rattle.line_ram.specs.Bytes.{bytes_at}
 use Rattle.page_map.specs.Pages.{Pages, frame_of, with_page, without_pages}
 use Rattle.tag_regs.specs.declared.cell.Cell.{Cell}
-use Rattle.tag_regs.specs.TaggedCells.{scrubbed, with_cell}
+use Rattle.tag_regs.specs.TaggedCells.{cells_after_scrub, with_cell}
 use Rattle.session_table.specs.declared.session.SlotState.TheVariants as state
 use Rattle.session_table.specs.declared.session.SlotView.{SlotView}
-use Rattle.session_table.specs.Masks.{with_cell as mask_with}
+use Rattle.session_table.specs.Masks.{mask_with_cell as mask_with}
 use Rattle.session_table.specs.Sessions.{free, is_running}
 use Rattle.xom_versions.specs.Versions.{Raised, Versions}
 use Rattle.xom_model.specs.declared.outcome.NullFault.{NullFault}
@@ -62,21 +62,21 @@ with_sight s new = record s {
   areas = new.areas;
 }
 
-abbrev pub slot_at : Sight → ℕ → SlotView
-slot_at s slot = slice_index_or s.slots slot (shown_slot free)
+abbrev pub sight_slot : Sight → ℕ → SlotView
+sight_slot s slot = slice_index_or s.slots slot (shown_slot free)
 
 abbrev pub with_slot : Sight → ℕ → SlotView → Sight
 with_slot s slot new = record s { slots = slice_set s.slots slot new }
 
 -- a cell of a slot, whose value isn't seen
-abbrev pub hidden : ℕ → Cell
-hidden slot = record { value = 0; tag = slot }
+abbrev pub hidden_cell : ℕ → Cell
+hidden_cell slot = record { value = 0; tag = slot }
 
 -- the named cells belong to the slot now
-abbrev pub named : ℕ → List Cell → Names → List Cell
-named slot cells NoCell = cells
-named slot cells (OneCell reg) = slice_set cells reg (hidden slot)
-named slot cells Halves = slice_set (slice_set cells 32 (hidden slot)) 33 (hidden slot)
+abbrev pub cells_named_for_slot : ℕ → List Cell → Names → List Cell
+cells_named_for_slot slot cells NoCell = cells
+cells_named_for_slot slot cells (OneCell reg) = slice_set cells reg (hidden_cell slot)
+cells_named_for_slot slot cells Halves = slice_set (slice_set cells 32 (hidden_cell slot)) 33 (hidden_cell slot)
 
 abbrev pub mask_named : ℕ → Names → ℕ
 mask_named mask NoCell = mask
@@ -87,7 +87,7 @@ mask_named mask Halves = mask_with (mask_with mask 32) 33
 abbrev pub dropped_seen : Sight → ℕ → SlotView → Sight
 dropped_seen s slot new =
     record s {
-      cells = scrubbed slot s.cells;
+      cells = cells_after_scrub slot s.cells;
       slots = slice_set s.slots slot new;
       pages =
           without_pages s.pages slot;
@@ -100,27 +100,27 @@ dropped_seen s slot new =
 -- its signal
 abbrev pub left_seen : Sight → ℕ → Outcome → Sight
 left_seen s slot (outcome.Left cause.Exit) =
-    dropped_seen s slot (record (slot_at s slot) { state = state.Ended })
+    dropped_seen s slot (record (sight_slot s slot) { state = state.Ended })
 left_seen s slot (outcome.Left (cause.Stopped why)) = s
 left_seen s slot (outcome.Left other) =
     with_slot s slot
-    (record (slot_at s slot) { epoch = (slot_at s slot).epoch + 1; state = state.Paused })
+    (record (sight_slot s slot) { epoch = (sight_slot s slot).epoch + 1; state = state.Paused })
 left_seen s slot other = s
 
 -- the slot whose guest runs
 abbrev pub running_seen : Seen → ℕ
 running_seen s = slot_or_none (position (λ (k : SlotView). is_running k.state) s.view.slots)
 
-abbrev pub told_by : Seen → ℕ → Outcome → Seen
-told_by s slot (outcome.Left why) = record s { view = record s.view { cause = why; who = slot } }
-told_by s slot other = s
+abbrev pub seen_after_leaving : Seen → ℕ → Outcome → Seen
+seen_after_leaving s slot (outcome.Left why) = record s { view = record s.view { cause = why; who = slot } }
+seen_after_leaving s slot other = s
 
 -- ---- Operations
 
 -- where a register is sealed
-abbrev pub address_of : Op → ℕ
-address_of (Save slot reg address) = address
-address_of other = 0
+abbrev pub seal_address : Op → ℕ
+seal_address (Save slot reg address) = address
+seal_address other = 0
 
 -- the guest of an envelope, under the next install number
 abbrev pub installed_slot : ℕ → List ℕ → SlotView
@@ -128,7 +128,7 @@ installed_slot install text = record {
   state = state.Fresh;
   install = install;
   id = record { 0 = id_in text };
-  entry = entry_in text;
+  entry = entry_of_envelope text;
   lines = lines_in text;
   mask = 0;
   epoch = 0;
@@ -176,10 +176,10 @@ module _ (v : Versions) (raised : Raised) where
   abbrev pub after_signal : ℕ → ℕ → Sight → Signal → Sight
   after_signal slot address s (Made names given end ready) =
       record s {
-        cells = with_release (named slot s.cells names) given;
+        cells = with_release (cells_named_for_slot slot s.cells names) given;
         slots = slice_set s.slots slot
-            (record (slot_at s slot) {
-              mask = mask_released (mask_named (slot_at s slot).mask names)
+            (record (sight_slot s slot) {
+              mask = mask_released (mask_named (sight_slot s slot).mask names)
                   given;
               signal_ready = ready;
             });
@@ -190,7 +190,7 @@ module _ (v : Versions) (raised : Raised) where
   after_signal slot address s (RegisterSealed k reg ct tag) =
       record s { ram = with_saved s.ram address (record { ct = ct; tag = tag }) }
   after_signal slot address s (Broke k why) =
-      dropped_seen s k (record (slot_at s k) { state = state.Stopped why })
+      dropped_seen s k (record (sight_slot s k) { state = state.Stopped why })
 
   abbrev pub after_signals : ℕ → ℕ → Sight → List Signal → Sight
   after_signals slot address s [] = s
@@ -201,7 +201,7 @@ module _ (v : Versions) (raised : Raised) where
 
   abbrev pub guest_seen : Seen → ℕ → Emission → Seen
   guest_seen s slot m =
-      told_by
+      seen_after_leaving
       (with_sight s (left_seen (after_signals slot 0 (sight_in s) m.signals) slot m.outcome)) slot
       m.outcome
 
@@ -217,11 +217,11 @@ module _ (v : Versions) (raised : Raised) where
         ram = v.ram_after_build area (lines_in text) s.ram;
         installs = s.installs + 1;
       }
-  done_seen s (Enter slot) = with_slot s slot (record (slot_at s slot) { state = state.Running })
+  done_seen s (Enter slot) = with_slot s slot (record (sight_slot s slot) { state = state.Running })
   done_seen s (Resume slot signal) =
-      with_slot s slot (record (slot_at s slot) { state = state.Running })
+      with_slot s slot (record (sight_slot s slot) { state = state.Running })
   done_seen s (Save slot reg address) = s
-  done_seen s (Restore slot reg address) = record s { cells = slice_set s.cells reg (hidden slot) }
+  done_seen s (Restore slot reg address) = record s { cells = slice_set s.cells reg (hidden_cell slot) }
   done_seen s (Map slot page frame) = record s { pages = with_page s.pages slot page (Some frame) }
   done_seen s (Unmap slot page) = record s { pages = with_page s.pages slot page None }
   done_seen s (SetReg reg value) = record s { cells = with_cell s.cells reg value 0 }
@@ -232,7 +232,7 @@ module _ (v : Versions) (raised : Raised) where
   -- an operation: what it signals, and with status 0 what it does
   abbrev pub operated_seen : Sight → Op → Emission → Sight
   operated_seen s op m =
-      let after = after_signals (slot_named op) (address_of op) s m.signals in
+      let after = after_signals (slot_named op) (seal_address op) s m.signals in
       if m.status == 0 then done_seen after op else after
 
   -- ---- Every event

@@ -15,11 +15,11 @@ start_numbers lines = start_table line_limit lines
 abbrev pub on_chip : List ℕ → Store
 on_chip numbers = record { numbers = numbers; area = None; root = [] }
 
-abbrev pub number_at : Store → ℕ → ℕ
-number_at store line = slice_index_or store.numbers line 0
+abbrev pub stored_number : Store → ℕ → ℕ
+stored_number store line = slice_index_or store.numbers line 0
 
 abbrev pub next_at : Store → ℕ → ℕ
-next_at store line = next_version (number_at store line)
+next_at store line = next_version (stored_number store line)
 
 abbrev pub chip : Versions
 chip = record {
@@ -27,7 +27,7 @@ chip = record {
   store_after_build = λ area lines ram. on_chip (start_numbers lines);
   ram_after_build = λ area lines ram. ram;
   texts_of_build = λ area lines ram. [];
-  answer_of_version = λ store line ram. Ok (number_at store line);
+  answer_of_version = λ store line ram. Ok (stored_number store line);
   texts_of_version = λ store line ram. [];
   answer_of_raise = λ store line ram. Ok (next_at store line);
   store_after_raise = λ store line ram. record store {
@@ -45,4 +45,4 @@ chip_raised area line ram = ram
 -- a store on chip stands for the numbers that it holds, in every journal
 pub record ChipStands (store : Store) (entries : List Entry) (numbers : ℕ → ℕ) : Type 0 where
   pub places : length store.numbers ≡ line_limit
-  pub each : (line : ℕ) → line < line_limit → number_at store line ≡ numbers line
+  pub each : (line : ℕ) → line < line_limit → stored_number store line ≡ numbers line

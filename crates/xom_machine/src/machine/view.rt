@@ -2,7 +2,7 @@ ghost use Rattle.std.specs.Prelude.{◌≡◌, ◌≤◌, ◌<◌, map, slice_ge
 ghost use Rattle.mips_plain.specs.Instruction.{is_signal_ready as is_ready_of};
 ghost use Rattle.tag_regs.specs.TaggedCells.{cell_at};
 ghost use Rattle.xom_model.specs.Seen.{open_cell, ram_byte as ram_byte_of, shown_cell, shown_slot};
-ghost use Rattle.xom_machine.specs.Shown.{slot_at};
+ghost use Rattle.xom_machine.specs.Shown.{shown_slot_at};
 
 use line_ram::LineRam;
 use session_table::{Session, SlotView, Table};
@@ -79,7 +79,7 @@ impl<'a> View<'a> {
     pub fn slot(&self, slot: u8) -> SlotView
         requires some { 1 ≤ slot }
         requires known { slot ≤ 16 }
-        ensures { result ≡ slot_at self.now.slots slot }
+        ensures { result ≡ shown_slot_at self.now.slots slot }
     {
         show(self.table.session(slot))
     }

@@ -4,7 +4,7 @@ use Rattle.cli_debug.proofs.debug.image_text.Goals as goal
 use Rattle.cli_runs.specs.declared.kernel_file.KernelFile.TheVariants as kernel_file
 use Rattle.cli_trace.specs.Trace.{first_of}
 use Rattle.kernels.specs.Turns.{image_told}
-use Rattle.power_on.specs.Shipped.{shipped}
+use Rattle.power_on.specs.Shipped.{shipped_versions}
 use Rattle.xom_debug.specs.Moments.{moments_from}
 use Rattle.xom_model.specs.Seen.{view_of}
 use Rattle.xom_model.specs.State.{Record}
@@ -13,7 +13,7 @@ pub returns : goal.returns
 returns c =
     let file = c.args.file.now in
     let first : Record = first_of file c.args.guests.now (kernel_file.Image c.args.image.now) in
-    text-whole c.args.commands.now (view_of first) (moments_from shipped image_told file.schedule
+    text-whole c.args.commands.now (view_of first) (moments_from shipped_versions image_told file.schedule
     file.budget 0 first tt) c.in_ok-text.text
-    (image_moments-some shipped file.schedule file.budget 0 first tt)
+    (image_moments-some shipped_versions file.schedule file.budget 0 first tt)
     (rw (c.in_ok-machine.ensures.start) at c.in_ok-text.ensures)

@@ -3,7 +3,7 @@ use Rattle.std.proofs.Common.{◌≡◌, ◌+◌, ◌≤◌, List, ◌∷◌, dr
 use Rattle.std.specs.Prelude.{string_bytes}
 use Rattle.std.proofs.lemmas.List.{drop_more}
 use Rattle.xom_script.specs.declared.run_file.GuestFile.{GuestFile}
-use Rattle.cli_runs.specs.Places.{first_frame, frames_of}
+use Rattle.cli_runs.specs.Places.{first_frame, frames_of_guest}
 use Rattle.cli_runs.proofs.Each.{Carries, carries_next}
 use Rattle.cli_runs.proofs.Rows.{fits-snoc, frame_behind-snoc}
 use Rattle.cli_runs.proofs.Unheld.{all_guests, guests-each, one_guest}
@@ -36,14 +36,14 @@ loop-line-preserved g c =
       writes = c.in_ok-image.ensures.writes ∙ c.loop-line.invariant.writes;
       reads = c.in_ok-image.ensures.gives.0 ∙ c.loop-line.invariant.reads;
       fit = rw c.in_ok-push.ensures.ok (fits-snoc frames first_frame now image
-          c.loop-line.invariant.fit (subst (λ n. n + frames_of image ≤ frames)
+          c.loop-line.invariant.fit (subst (λ n. n + frames_of_guest image ≤ frames)
           c.loop-line.invariant.behind c.in_ok-image.ensures.fits));
       behind = rw (c.in_ok-push.ensures.ok, c.frames_of.ensures.value)
-          (ap (λ n. n + frames_of image) c.loop-line.invariant.behind
+          (ap (λ n. n + frames_of_guest image) c.loop-line.invariant.behind
           ∙ sym (frame_behind-snoc first_frame now image));
       carries =
           rw (c.in_ok-push.ensures.ok, c.frames_of.ensures.value)
-          (carries_next all (one_guest run frames) (λ frame image. frame + frames_of image)
+          (carries_next all (one_guest run frames) (λ frame image. frame + frames_of_guest image)
           (guests-each run frames) told first_frame lines frame line (drop (i + 1) lines) now left
           _ _ image
           (rw c.loop-line.invariant.names at c.in_ok-image.ensures.gives));

@@ -3,7 +3,7 @@ use Rattle.std.proofs.Common.{◌≡◌, ◌+◌, ◌++◌, List, [], ◌∷◌,
 use Rattle.std.proofs.lemmas.List.{drop_more, take_more}
 use Rattle.xom_script.specs.declared.run_file.OwnerFile.{OwnerFile}
 use Rattle.cli_base.specs.Inputs.{image_of}
-use Rattle.cli_runs.specs.OwnerImages.{owner_with}
+use Rattle.cli_runs.specs.OwnerImages.{owner_with_image}
 use Rattle.cli_runs.proofs.Each.{Carries, carries_next}
 use Rattle.cli_runs.proofs.Rows.{owners-snoc}
 use Rattle.cli_runs.proofs.Steps.{made-ok}
@@ -18,7 +18,7 @@ loop-line-preserved g c =
     let now = c.loop-line.owners in
     let told = g.F.Files.held c.args.files.now in
     let line = c.line-item.result in
-    let owner = owner_with line c.in_ok-plain.plain in
+    let owner = owner_with_image line c.in_ok-plain.plain in
     let same : xs ≡ lines = c.as_slice-line-items.ensures in
     let more : drop i xs ≡ line ∷ drop (i + 1) xs = drop_more xs i line c.loop-line-test.true
     ∙ ap (λ x. x ∷ drop (i + 1) xs) (sym c.line-item.is) in
@@ -42,7 +42,7 @@ loop-line-preserved g c =
           rw c.in_ok-push.ensures.ok
           (carries_next all_owners one_owner same_state owners-each told tt lines tt line
           (drop (i + 1) lines) now left _ _ owner
-          (made-ok told (λ held. image_of held line.plain) (owner_with line) _ _ c.in_ok-plain.plain
+          (made-ok told (λ held. image_of held line.plain) (owner_with_image line) _ _ c.in_ok-plain.plain
           (rw (c.loop-line.invariant.names, c.as_string.ensures) at
           c.in_ok-plain.ensures.gives)));
     }

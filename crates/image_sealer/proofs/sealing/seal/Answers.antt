@@ -1,6 +1,6 @@
 -- What was sealed keeps the rules of a sealed image.
 use Rattle.std.proofs.Common.{◌≡◌, ◌∙◌, ap, length, sym}
-use Rattle.xom_seal.specs.Envelopes.{entry_in, lines_in}
+use Rattle.xom_seal.specs.Envelopes.{entry_of_envelope, lines_in}
 use Rattle.xom_seal.specs.Laws.{Shows}
 use Rattle.xom_seal.proofs.EnvelopeLaws.{envelopes_show}
 use Rattle.image_sealer.specs.Sealing.{line_count, sealed_lines_of}
@@ -13,7 +13,7 @@ invariant_of-result c =
     let shown : Shows c.wrap.result c.contents.result =
     rw c.wrap.ensures (envelopes_show c.args.machine.now c.contents.result
     c.contents.ensures.ranges) in
-    let entry : entry_in c.wrap.result ≡ owner.plain.entry = shown.entry ∙ ap (λ said. said.entry)
+    let entry : entry_of_envelope c.wrap.result ≡ owner.plain.entry = shown.entry ∙ ap (λ said. said.entry)
     c.contents.ensures.value in
     let told : lines_in c.wrap.result ≡ line_count owner.plain.bytes = shown.lines
     ∙ ap (λ said. said.lines) c.contents.ensures.value in

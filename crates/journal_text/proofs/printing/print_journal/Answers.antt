@@ -3,16 +3,16 @@ use Rattle.std.proofs.Common.{◌≡◌, ℕ, ◌+◌, ◌<◌, ◌≤◌, List,
 use Rattle.std.specs.Prelude.{slice_get}
 use Rattle.xom_base.specs.declared.entry.Entry.{Entry}
 use Rattle.xom_journal.proofs.PlaceLaws.{behind_some, past_end}
-use Rattle.journal_text.specs.JournalTexts.{journal_text, line_text}
+use Rattle.journal_text.specs.JournalTexts.{journal_line_text, journal_text}
 use Rattle.journal_text.proofs.printing.print_journal.Goals as goal
 use Rattle.journal_text.proofs.printing.print_journal.Goals.{in-Some+in_ok-push_line, in_default}
 
 line_more : (text new : List ℕ) (es : List Entry) (i : ℕ) (e : Entry) → slice_get es i ≡ Some e
-    → new ≡ text ++ line_text e
+    → new ≡ text ++ journal_line_text e
     → new ++ journal_text (drop (i + 1) es) ≡ text ++ journal_text (drop i es)
 line_more text new es i e some is =
     ap (λ (t : List ℕ). t ++ journal_text (drop (i + 1) es)) is
-    ∙ append_assoc text (line_text e) (journal_text (drop (i + 1) es))
+    ∙ append_assoc text (journal_line_text e) (journal_text (drop (i + 1) es))
     ∙ ap (λ (es : List Entry). text ++ journal_text es) (sym (behind_some es i e some))
 
 none_past : (es : List Entry) (i n : ℕ) → slice_get es i ≡ None → i < n → n ≡ length es → ⊥

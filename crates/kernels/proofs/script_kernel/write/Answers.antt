@@ -1,6 +1,6 @@
 -- The bytes of the list come first in the chunk.
 use Rattle.std.proofs.Common.{◌≡◌, length, min, take, ap, ◌∙◌}
-use Rattle.line_ram.specs.Bytes.{stored}
+use Rattle.line_ram.specs.Bytes.{ram_with_bytes}
 use Rattle.xom_model.specs.Event.{chunk_size}
 use Rattle.xom_model.specs.declared.outcome.Turn.TheVariants.{Write}
 use Rattle.kernels.proofs.Puts.{put_front}
@@ -10,7 +10,7 @@ pub returns : goal.returns
 returns c =
     let bytes = c.args.bytes.now in
     let count : c.min-length.result ≡ min (length bytes) chunk_size = cc in
-    let put : c.put.new.self ≡ stored c.args.chunk.now 0 (take (min (length bytes) chunk_size)
+    let put : c.put.new.self ≡ ram_with_bytes c.args.chunk.now 0 (take (min (length bytes) chunk_size)
     bytes) = cc in
     record {
       turn = ap (Write c.args.address) count;

@@ -1,16 +1,16 @@
 -- What a statement writes, by what it is.
 use Rattle.std.proofs.Common.{arith}
-use Rattle.mips_asm.specs.Layout.{size_of}
+use Rattle.mips_asm.specs.Layout.{statement_size}
 use Rattle.mips_asm.proofs.data.add_bytes.Goals as goal
 
 pub instruction_at-requires : goal.instruction_at-requires
-unfolding size_of
+unfolding statement_size
 instruction_at-requires c =
     let inside = rw c.in-Instruction.is at c.requires.inside in
     omega (arith, inside)
 
 pub overflow_cast-place : goal.overflow_cast-place
-unfolding size_of
+unfolding statement_size
 overflow_cast-place c =
     let inside = rw c.in-Instruction.is at c.requires.inside in
     omega (arith, inside)

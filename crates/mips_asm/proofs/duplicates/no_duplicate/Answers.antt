@@ -2,7 +2,7 @@
 use Rattle.std.proofs.Common.{Some, inr, refl, sym, ap, ◌∙◌, take}
 use Rattle.asm_source.specs.declared.content.Part.{Part}
 use Rattle.mips_asm.specs.LabelMaps.{place_in}
-use Rattle.mips_asm.specs.Passes.{label_in, repeats}
+use Rattle.mips_asm.specs.Passes.{label_said, repeats}
 use Rattle.mips_asm.proofs.FaultLaws.{found_at, next_at, none_at}
 use Rattle.mips_asm.proofs.LabelLaws.{known_label, known_none, repeats_label, repeats_none}
 use Rattle.mips_asm.proofs.duplicates.no_duplicate.Goals as goal
@@ -31,7 +31,7 @@ loop-part-preserved c =
     let parts = c.args.parts.now in
     let i = c.loop-part.part-index in
     let item = c.part-item.result in
-    let here = ap (λ (p : Part). label_in p.content) (sym c.part-item.is) in
+    let here = ap (λ (p : Part). label_said p.content) (sym c.part-item.is) in
     elim c.match-label_of.branch [
       | in-Some+in_ok-insert+else-branch w ↦
           let labelled = sym (rw w.in-Some.is at c.label_of.ensures) in

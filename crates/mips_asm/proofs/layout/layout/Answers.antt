@@ -6,7 +6,7 @@ use Rattle.std.proofs.lemmas.List.Elements.{All-nil, All-push}
 use Rattle.std.proofs.lemmas.Iterator.Consumers.{YieldsList-turn, YieldsList-end}
 use Rattle.std.proofs.lemmas.Iterator.Adapters.{YieldsList-from_vec}
 use Rattle.mips_asm.specs.declared.placed.Placed.{Placed}
-use Rattle.mips_asm.specs.Layout.{IsInside, IsSized, layout, size_of}
+use Rattle.mips_asm.specs.Layout.{IsInside, IsSized, layout, statement_size}
 use Rattle.mips_asm.specs.Passes.{too_long_line}
 use Rattle.mips_asm.proofs.LayoutLaws.{layout-none, layout_step, past_long, place_step, short_inside, short_size, too_long_none, too_long_step}
 use Rattle.mips_asm.proofs.layout.layout.Goals as goal
@@ -30,7 +30,7 @@ returns-then-is_past-clause-fault c =
     c.in-Some.is c.next.ensures.steps in
     let within : n < length c.args.parts = rw c.into_vec-part-items.ensures at t.0 in
     let is : part ≡ get_or c.args.parts n part = rw c.into_vec-part-items.ensures at t.1 in
-    let long = past_long c.loop-part.place (size_of c.loop-part.place part.content)
+    let long = past_long c.loop-part.place (statement_size c.loop-part.place part.content)
     c.size-size.result c.size-size.ensures (sym c.is_past.ensures ∙ c.if-is_past.true) in
     inr (
       part.line,
@@ -52,7 +52,7 @@ loop-part-preserved c =
     let within : n < length c.args.parts = rw c.into_vec-part-items.ensures at t.0 in
     let is : part ≡ get_or c.args.parts n part = rw c.into_vec-part-items.ensures at t.1 in
     let short = sym c.is_past.ensures ∙ c.if-is_past.false in
-    let size = short_size c.loop-part.place (size_of c.loop-part.place part.content)
+    let size = short_size c.loop-part.place (statement_size c.loop-part.place part.content)
     c.size-size.result c.size-size.ensures short in
     let item : Placed = record {
       place = c.loop-part.place;

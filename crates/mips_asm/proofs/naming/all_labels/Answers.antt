@@ -4,7 +4,7 @@ use Rattle.std.specs.Str.{bytes_eq}
 use Rattle.std.proofs.lemmas.List.{take_all}
 use Rattle.mips_asm.specs.declared.placed.Placed.{Placed}
 use Rattle.mips_asm.specs.LabelMaps.{place_in}
-use Rattle.mips_asm.specs.Passes.{label_in, place_of}
+use Rattle.mips_asm.specs.Passes.{label_said, place_of}
 use Rattle.mips_asm.proofs.LabelLaws.{place_label, place_none, place_of_nil}
 use Rattle.mips_asm.proofs.naming.all_labels.Goals as goal
 use Rattle.mips_asm.proofs.naming.all_labels.Goals.{in-Some+in_ok-_known, in_default}
@@ -17,7 +17,7 @@ loop-placed-preserved c =
     let placed = c.args.placed.now in
     let i = c.loop-placed.placed-index in
     let item = c.placed-item.result in
-    let here = ap (λ (p : Placed). label_in p.part.content) (sym c.placed-item.is) in
+    let here = ap (λ (p : Placed). label_said p.part.content) (sym c.placed-item.is) in
     elim c.match-label_of.branch [
       | in-Some+in_ok-_known w ↦
           let labelled = sym (rw w.in-Some.is at c.label_of.ensures) in

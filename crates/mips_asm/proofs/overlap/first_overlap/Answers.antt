@@ -2,7 +2,7 @@
 use Rattle.std.proofs.Common.{◌≡◌, ◌||◌, false, Some, sym, ap, ◌∙◌, take, get_or, arith}
 use Rattle.mips_asm.specs.declared.placed.Placed.{Placed}
 use Rattle.mips_asm.specs.Layout.{covers}
-use Rattle.mips_asm.specs.Passes.{line_of, overlaps}
+use Rattle.mips_asm.specs.Passes.{overlaps, statement_line}
 use Rattle.mips_asm.proofs.FaultLaws.{found_at, next_at, none_at}
 use Rattle.mips_asm.proofs.LayoutLaws.{fits_end}
 use Rattle.mips_asm.proofs.OverlapLaws.{marked_more, marked_same, overlaps_empty, overlaps_false, overlaps_true}
@@ -30,9 +30,9 @@ returns-then-any_written c =
     let bad = overlaps_true (take i placed) item some.0 some.1 some.2
     (sym (c.loop-placed.invariant.marked some.0) ∙ some.3) in
     sym (c.loop-placed.invariant.rest
-    ∙ (found_at line_of overlaps placed i item c.loop-placed-test.true
+    ∙ (found_at statement_line overlaps placed i item c.loop-placed-test.true
     (ap (overlaps (take i placed)) (sym c.placed-item.is) ∙ bad)
-    ∙ ap (λ (p : Placed). Some (line_of p)) (sym c.placed-item.is)))
+    ∙ ap (λ (p : Placed). Some (statement_line p)) (sym c.placed-item.is)))
 
 pub loop-placed-preserved : goal.loop-placed-preserved
 loop-placed-preserved c =
@@ -46,7 +46,7 @@ loop-placed-preserved c =
             (get_or w.mark.new.written k false) c.loop-placed-test.true
             (w.mark.ensures k ∙ ap (λ (p : Placed). covers p k || get_or c.loop-placed.written k
             false) c.placed-item.is) (c.loop-placed.invariant.marked k));
-        rest = c.loop-placed.invariant.rest ∙ next_at line_of overlaps placed i item
+        rest = c.loop-placed.invariant.rest ∙ next_at statement_line overlaps placed i item
             c.loop-placed-test.true
             (ap (overlaps (take i placed)) (sym c.placed-item.is)
             ∙ overlaps_false (take i placed) item (λ k a b. sym (c.loop-placed.invariant.marked k)
@@ -60,7 +60,7 @@ loop-placed-preserved c =
                 c.loop-placed-test.true
                 (ap (λ (p : Placed). p.size) (sym c.placed-item.is) ∙ empty)
                 (c.loop-placed.invariant.marked k));
-            rest = c.loop-placed.invariant.rest ∙ next_at line_of overlaps placed i item
+            rest = c.loop-placed.invariant.rest ∙ next_at statement_line overlaps placed i item
                 c.loop-placed-test.true
                 (ap (overlaps (take i placed)) (sym c.placed-item.is)
                 ∙ overlaps_empty (take i placed) item empty);
@@ -70,5 +70,5 @@ loop-placed-preserved c =
 pub returns : goal.returns
 returns c =
     sym
-    (c.loop-placed.invariant.rest ∙ none_at line_of overlaps c.args.placed.now
+    (c.loop-placed.invariant.rest ∙ none_at statement_line overlaps c.args.placed.now
     c.loop-placed.placed-index c.loop-placed-test.false)

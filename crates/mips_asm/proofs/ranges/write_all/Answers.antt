@@ -5,7 +5,7 @@ use Rattle.std.proofs.lemmas.List.Elements.{All-get_or, All-more}
 use Rattle.mips_asm.specs.declared.placed.Placed.{Placed}
 use Rattle.mips_asm.specs.LabelMaps.{place_in}
 use Rattle.mips_asm.specs.Layout.{IsInside, IsSized}
-use Rattle.mips_asm.specs.Passes.{line_of}
+use Rattle.mips_asm.specs.Passes.{statement_line}
 use Rattle.mips_asm.proofs.LayoutLaws.{fits_end}
 use Rattle.mips_asm.proofs.RangeLaws.{first_here, other_line, same_line}
 use Rattle.mips_asm.proofs.WrittenLaws.{stands_more, stands_none}
@@ -27,7 +27,7 @@ returns-then-eq-clause-fault c =
           c.loop-placed.placed-index c.placed-item.result c.loop-placed.invariant.stands.0
           c.loop-placed-test.true c.placed-item.is c.loop-placed.invariant.stands.1
           c.loop-placed.invariant.entry
-          (inr (same_line c.args.bad_entry (line_of c.placed-item.result) (sym c.eq.ensures
+          (inr (same_line c.args.bad_entry (statement_line c.placed-item.result) (sym c.eq.ensures
           ∙ c.if-eq.true))),
     )
 
@@ -64,13 +64,13 @@ loop-placed-preserved c =
     let item = c.placed-item.result in
     let placed = c.args.placed.now in
     let i = c.loop-placed.placed-index in
-    let P : Placed → Type 0 = λ p. ¬ (c.args.bad_entry ≡ Some (line_of p)) in
+    let P : Placed → Type 0 = λ p. ¬ (c.args.bad_entry ≡ Some (statement_line p)) in
     record {
       stands = stands_more (place_in c.args.labels.now) placed i item c.loop-placed.image
           c.write_one.new.image c.loop-placed-test.true c.placed-item.is
           c.loop-placed.invariant.stands
           (rw c.if-not-written.false at c.in_ok-written.ensures);
       entry = All-more P placed i item c.loop-placed-test.true c.loop-placed.invariant.entry
-          (subst P c.placed-item.is (other_line c.args.bad_entry (line_of item) (sym c.eq.ensures
+          (subst P c.placed-item.is (other_line c.args.bad_entry (statement_line item) (sym c.eq.ensures
           ∙ c.if-eq.false)));
     }

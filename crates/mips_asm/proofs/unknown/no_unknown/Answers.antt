@@ -4,7 +4,7 @@ use borrow.Author.Tests.{tests}
 use Rattle.std.proofs.lemmas.Iterator.Search.{find_from_yields_List}
 use Rattle.std.proofs.lemmas.Iterator.{YieldsList-from_slice}
 use Rattle.mips_asm.specs.LabelMaps.{place_in}
-use Rattle.mips_asm.specs.Passes.{is_unknown, line_of}
+use Rattle.mips_asm.specs.Passes.{is_unknown, statement_line}
 use Rattle.mips_asm.proofs.unknown.no_unknown.Goals as goal
 
 pub returns-in-Some : goal.returns-in-Some
@@ -12,11 +12,11 @@ returns-in-Some c =
     let found = find_from_yields_List (is_unknown (place_in c.args.labels.now))
     _ _ _ c.find-unknown.ensures.ran (YieldsList-from_slice c.args.placed.now cc)
     (λ x b q k. search (rules, tests)) in
-    inr (_, ap (option_map line_of) (sym found ∙ ap (option_map (λ p. p.now)) c.in-Some.is), refl)
+    inr (_, ap (option_map statement_line) (sym found ∙ ap (option_map (λ p. p.now)) c.in-Some.is), refl)
 
 pub returns-in-None : goal.returns-in-None
 returns-in-None c =
     let found = find_from_yields_List (is_unknown (place_in c.args.labels.now))
     _ _ _ c.find-unknown.ensures.ran (YieldsList-from_slice c.args.placed.now cc)
     (λ x b q k. search (rules, tests)) in
-    ap (option_map line_of) (sym found ∙ ap (option_map (λ p. p.now)) c.in-None.is)
+    ap (option_map statement_line) (sym found ∙ ap (option_map (λ p. p.now)) c.in-None.is)

@@ -1,6 +1,6 @@
 -- A step that is made adds its line, and what ends the run adds none.
 use Rattle.std.proofs.Common.{sym, ap, ◌-◌, ◌∙◌}
-use Rattle.plain_run.specs.Runs.{goes_on, run_from}
+use Rattle.plain_run.specs.Runs.{run_from, run_goes_on}
 use Rattle.plain_run.proofs.RunLaws.{ended_next, none_more, one_more, stopped, went_on}
 use Rattle.plain_run.proofs.run.push_run.Goals as goal
 
@@ -8,19 +8,19 @@ pub returns-in-Fault : goal.returns-in-Fault
 returns-in-Fault c =
     ended_next c.loop-left.text.items c.loop-left.left c.loop-left.plain c.loop-left.values.now
     c.loop-left-test.true c.next-answer.ensures
-    (λ run. ap (λ answer. goes_on answer run) c.in-Fault.is) c.loop-left.invariant
+    (λ run. ap (λ answer. run_goes_on answer run) c.in-Fault.is) c.loop-left.invariant
 
 pub returns-in-Unfit : goal.returns-in-Unfit
 returns-in-Unfit c =
     ended_next c.loop-left.text.items c.loop-left.left c.loop-left.plain c.loop-left.values.now
     c.loop-left-test.true c.next-answer.ensures
-    (λ run. ap (λ answer. goes_on answer run) c.in-Unfit.is) c.loop-left.invariant
+    (λ run. ap (λ answer. run_goes_on answer run) c.in-Unfit.is) c.loop-left.invariant
 
 pub returns-in-Over : goal.returns-in-Over
 returns-in-Over c =
     ended_next c.loop-left.text.items c.loop-left.left c.loop-left.plain c.loop-left.values.now
     c.loop-left-test.true c.next-answer.ensures
-    (λ run. ap (λ answer. goes_on answer run) c.in-Over.is) c.loop-left.invariant
+    (λ run. ap (λ answer. run_goes_on answer run) c.in-Over.is) c.loop-left.invariant
 
 pub loop-left-preserved : goal.loop-left-preserved
 loop-left-preserved c =

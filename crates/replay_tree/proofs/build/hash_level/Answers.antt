@@ -1,6 +1,6 @@
 -- One more block is hashed, and its digest written.
 use Rattle.std.proofs.Common.{◌<◌, ◌∙◌, ap, subst}
-use Rattle.line_ram.specs.Bytes.{stored}
+use Rattle.line_ram.specs.Bytes.{ram_with_bytes}
 use Rattle.replay_tree.proofs.Built.{hashed_more, hashed_none}
 use Rattle.replay_tree.proofs.build.hash_level.Goals as goal
 
@@ -17,6 +17,6 @@ loop-index-preserved c =
     c.args.journal.now.spare c.loop-index.journal.spare c.hash_block-digest.new.journal.spare
     c.requires.area c.requires.level (subst (λ wide. c.loop-index.index < wide)
     c.width-index-end.ensures c.loop-index-test.true) c.loop-index.invariant
-    (c.write.ensures.bytes ∙ ap (λ at. stored c.loop-index.ram at c.hash_block-digest.result)
+    (c.write.ensures.bytes ∙ ap (λ at. ram_with_bytes c.loop-index.ram at c.hash_block-digest.result)
     c.digest_at.ensures.value) c.write.ensures.size c.hash_block-digest.ensures.digest
     c.hash_block-digest.ensures.entries c.hash_block-digest.ensures.spare

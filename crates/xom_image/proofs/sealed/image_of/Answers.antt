@@ -2,7 +2,7 @@
 use Rattle.std.proofs.Common.{◌≡◌, ◌∙◌, Ok, ap, arith, sym}
 use Rattle.std.proofs.lemmas.Grind.{common_steps}
 use Rattle.xom_image.specs.Fields.{fields_at}
-use Rattle.xom_image.specs.SealedFiles.{envelope_at, lines_at, sealed_file, sealed_format}
+use Rattle.xom_image.specs.SealedFiles.{envelope_of_file, lines_at, sealed_file, sealed_format}
 use Rattle.xom_image.proofs.SealedReading.{told-aligned, told-counted, told-file, told-fits, told-private, told-room, told-sized, told-whole}
 use Rattle.xom_image.proofs.sealed.image_of.Goals as goal
 
@@ -20,7 +20,7 @@ returns-clause-found c =
       c.in_ok-_entry._entry,
       c.in_ok-_entry.count,
     ) = grind (arith, common_steps) in
-    let envelope : c.part.result ≡ envelope_at c.args.file.now = c.part.ensures in
+    let envelope : c.part.result ≡ envelope_of_file c.args.file.now = c.part.ensures in
     let lines : c.from_vec.result ≡ lines_at c.args.file.now c.in_ok-_entry.count =
     c.from_vec.ensures ∙ c.in_ok-lines.ensures in
     told-file c.args.file.now _ _ read
@@ -33,7 +33,7 @@ invariant_of-result c =
       c.in_ok-_entry._entry,
       c.in_ok-_entry.count,
     ) = grind (arith, common_steps) in
-    let envelope : c.part.result ≡ envelope_at c.args.file.now = c.part.ensures in
+    let envelope : c.part.result ≡ envelope_of_file c.args.file.now = c.part.ensures in
     let lines : c.from_vec.result ≡ lines_at c.args.file.now c.in_ok-_entry.count =
     c.from_vec.ensures ∙ c.in_ok-lines.ensures in
     record {

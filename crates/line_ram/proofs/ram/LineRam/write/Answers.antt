@@ -1,6 +1,6 @@
 -- The used bytes with zeros behind them are written as RAM is.
 use Rattle.std.proofs.Common.{◌≡◌, length, sym, ap, ◌∙◌, arith}
-use Rattle.line_ram.specs.Bytes.{stored}
+use Rattle.line_ram.specs.Bytes.{ram_with_bytes}
 use Rattle.line_ram.proofs.Touched.{filled-written, length-filled}
 use Rattle.line_ram.proofs.ram.LineRam.write.Goals as goal
 
@@ -14,4 +14,4 @@ returns-clause-bytes c =
     c.reach.new.bytes.items c.copy_from_slice.new.self c.args.bytes.now
     c.copy_from_slice.ensures.after c.reach.new.bytes.ok.0 c.reach.ensures.items
     (omega (arith, long, c.requires)) (omega (arith, c.reach.ensures.len))
-    ∙ ap (λ all. stored all c.args.address c.args.bytes.now) c.self.view_is
+    ∙ ap (λ all. ram_with_bytes all c.args.address c.args.bytes.now) c.self.view_is

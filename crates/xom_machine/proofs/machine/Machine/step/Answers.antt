@@ -8,7 +8,7 @@ use Rattle.xom_model.proofs.QuietEvents.{events_trap_quietly}
 use Rattle.xom_seen.specs.NoWayOut.{GivesNoMoreAway}
 use Rattle.xom_seen.proofs.Next.{no_way_out}
 use Rattle.xom_seen.proofs.Settled.{stops_settle}
-use Rattle.xom_machine.specs.Kept.{FaultsAreAlone, KeepsHolding, LeavesOthers, LeavesRefused, NoPadTwice, TrapsAreQuiet}
+use Rattle.xom_machine.specs.Kept.{AddsNoPadTwice, FaultsAreAlone, KeepsHolding, LeavesOthers, LeavesRefused, TrapsAreQuiet}
 use Rattle.xom_machine.proofs.Events.{event-Faults, event-KeepsHolding, event-LeavesRefused, on-events}
 use Rattle.xom_machine.proofs.machine.Machine.step.Goals as goal
 
@@ -30,7 +30,7 @@ pub returns-clause-pads : goal.returns-clause-pads
 returns-clause-pads g c =
     let v = g.V.VersionStore.versions in
     let Stands = g.V.VersionStore.Stands in
-    subst (NoPadTwice Stands c.args.self.now.state) (sym c.make_event-outcome.ensures.record)
+    subst (AddsNoPadTwice Stands c.args.self.now.state) (sym c.make_event-outcome.ensures.record)
     (λ owners are room honest holds. (event-KeepsHolding v Stands g.met.V.VersionStore.law
     c.args.self.now.state c.args.event c.args.chunk.now c.requires.fits owners are room honest
     holds).once)
