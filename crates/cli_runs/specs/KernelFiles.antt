@@ -1,6 +1,7 @@
 -- The kernel of a run.
 use Rattle.std.specs.Prelude.{ℕ, ◌*◌, ◌≤◌, List, Result, Ok, Err, length, if◌then◌else◌}
 use Rattle.xom_base.specs.declared.image.PlainImage.{PlainImage}
+use Rattle.xom_base.specs.Frames.{frame_size}
 use Rattle.xom_script.specs.Scripts.{script_at}
 use Rattle.xom_script.specs.declared.run_file.KernelLine.{KernelLine}
 use Rattle.xom_script.specs.declared.run_file.KernelLine.TheVariants as line
@@ -10,7 +11,7 @@ use Rattle.cli_base.specs.declared.refusal.InputFault.TheVariants.{BadLine, NotB
 use Rattle.cli_base.specs.declared.refusal.Refusal.{Refusal}
 use Rattle.cli_base.specs.declared.refusal.Refusal.TheVariants.{Bad}
 use Rattle.cli_base.specs.Inputs.{◌>>=◌, Held, image_of, in_file, in_lines, input_of}
-use Rattle.cli_runs.specs.Places.{frame_size, kernel_fits, kernel_limit}
+use Rattle.cli_runs.specs.Places.{kernel_fits, kernel_limit}
 use Rattle.cli_runs.specs.declared.kernel_file.KernelFile.{KernelFile}
 use Rattle.cli_runs.specs.declared.kernel_file.KernelFile.TheVariants as kernel
 

@@ -1,12 +1,10 @@
 -- Where the guests of a run and its kernel stand in RAM at power-on.
 use Rattle.std.specs.Prelude.{ℕ, ◌+◌, ◌*◌, ◌/◌, ◌≤◌, ◌&&◌, nat_le, Bool, List, [], ◌∷◌, length}
 use Rattle.xom_base.specs.declared.image.PlainImage.{PlainImage}
+use Rattle.xom_base.specs.Frames.{frame_size}
 use Rattle.cli_runs.specs.declared.guest_image.GuestImage.{GuestImage}
 
--- a frame has so many bytes, a page so many lines
-abbrev pub frame_size : ℕ
-frame_size = 8192
-
+-- how many lines a page has
 abbrev pub page_lines : ℕ
 page_lines = 128
 

@@ -2,7 +2,8 @@
 use Rattle.std.proofs.Common.{◌≡◌, ℕ, ◌+◌, ◌*◌, ◌≤◌, List, ◌++◌, length, take, drop, sym, ◌∙◌, ap, arith}
 use Rattle.std.proofs.lemmas.List.{append_assoc, length-append, length-drop, length-take-le, take_at}
 use Rattle.std.proofs.lemmas.Slice.{drop-append-drop}
-use Rattle.line_ram.specs.Bytes.{HoldsRange, bytes_at, frame_size, ram_with_bytes}
+use Rattle.xom_base.specs.Frames.{frame_size}
+use Rattle.line_ram.specs.Bytes.{HoldsRange, bytes_at, ram_with_bytes}
 use Rattle.line_ram.specs.Lending.{stored_through}
 use Rattle.line_ram.specs.Laws.{LinesAreLent}
 use Rattle.line_ram.proofs.Ranges.{bytes-stored_same, length-stored, stored-inside}

@@ -1,9 +1,6 @@
 -- RAM as a list of bytes, its ranges, and where a sealed line lies in a frame.
 use Rattle.std.specs.Prelude.{ℕ, ◌+◌, ◌*◌, ◌≤◌, List, ◌++◌, length, take, drop}
-
--- how many bytes a frame has
-abbrev pub frame_size : ℕ
-frame_size = 8192
+use Rattle.xom_base.specs.Frames.{frame_size}
 
 -- how many bytes a line has, and how many lines a frame
 abbrev pub line_size : ℕ

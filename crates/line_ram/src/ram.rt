@@ -1,6 +1,7 @@
 ghost use Rattle.std.specs.Prelude.{◌≡◌, ◌≤◌, ◌<◌, ◌+◌, ◌-◌, ◌*◌, ◌^◌, ◌++◌, ◌↔◌, List, ℕ, IfOk, IsTrue, drop, length, replicate, take, vec_capacity, vec_len};
 ghost use Rattle.std.specs.Borrow.{sem};
-ghost use Rattle.line_ram.specs.Bytes.{HoldsFrame, HoldsRange, bytes_at, ciphertext_place, frame_lines, frame_size, line_size, ram_with_bytes, ram_with_line, tag_place};
+ghost use Rattle.xom_base.specs.Frames.{frame_size};
+ghost use Rattle.line_ram.specs.Bytes.{HoldsFrame, HoldsRange, bytes_at, ciphertext_place, frame_lines, line_size, ram_with_bytes, ram_with_line, tag_place};
 ghost use Rattle.line_ram.specs.Lending.{LendsRange, stored_through};
 
 use std::alloc::Global;

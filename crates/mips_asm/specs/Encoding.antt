@@ -17,7 +17,7 @@ use Rattle.asm_source.specs.declared.argument.Value.TheVariants as values
 use Rattle.asm_source.specs.declared.content.Content.{Content}
 use Rattle.asm_source.specs.declared.content.Content.TheVariants.{Label, Words, Bytes, Ascii, Space, Align, Org, Entry, LoadNumber, LoadAddress, Instruction}
 use Rattle.asm_syntax.specs.Forms.{map_some}
-use Rattle.xom_base.specs.Options.{◌>>=◌}
+use Rattle.xom_base.specs.Options.{◌>>=◌, where_holds}
 use Rattle.mips_asm.specs.Layout.{in_range, padding}
 use Rattle.mips_asm.specs.Passes.{Labels}
 
@@ -31,10 +31,6 @@ unsigned_number n = record { negative = false; magnitude = n }
 abbrev pub value_number : Labels → Value → Option Integer
 value_number labels (values.Number n) = Some n
 value_number labels (values.Label name) = option_map unsigned_number (labels name)
-
--- the value where the test holds
-abbrev pub where_holds : {A : Type 0} → Bool → A → Option A
-where_holds test x = if test then Some x else None
 
 -- a number from -2^bits on as a number below 2^bits: two's complement
 abbrev pub twos_complement : (bits : ℕ) → Integer → ℕ

@@ -4,14 +4,14 @@ use Rattle.xom_base.specs.declared.image.PlainImage.{PlainImage}
 use Rattle.asm_source.specs.declared.content.Content.{Content}
 use Rattle.asm_source.specs.declared.content.Content.TheVariants.{Entry}
 use Rattle.asm_source.specs.declared.content.Part.{Part}
-use Rattle.xom_base.specs.Options.{◌>>=◌}
+use Rattle.xom_base.specs.Options.{◌>>=◌, where_holds}
 use Rattle.asm_syntax.specs.Lines.{source_of}
 use Rattle.mips_asm.specs.declared.fault.AsmFault.{AsmFault}
 use Rattle.mips_asm.specs.declared.fault.AsmFault.TheVariants.{Syntax, Duplicate, TooLong, Overlap, UnknownName, Range, NoMemory}
 use Rattle.mips_asm.specs.declared.placed.Placed.{Placed}
 use Rattle.mips_asm.specs.Layout.{layout}
 use Rattle.mips_asm.specs.Passes.{Labels, duplicate_line, overlap_line, place_of, statement_line, too_long_line, unknown_line}
-use Rattle.mips_asm.specs.Encoding.{StatementGives, unsigned_below, value_number, where_holds}
+use Rattle.mips_asm.specs.Encoding.{StatementGives, unsigned_below, value_number}
 use Rattle.mips_asm.specs.Images.{IsOver, IsWritten, PlacedBytes, byte_over}
 
 -- ---- the entry

@@ -5,14 +5,16 @@ use Rattle.std.proofs.lemmas.List.{length-replicate}
 use Rattle.std.proofs.lemmas.Option.{slice_get_within}
 use Rattle.std.specs.Prelude.{All, nat_lt, slice_get}
 use Rattle.xom_seal.specs.declared.line.SealedLine.{SealedLine}
-use Rattle.line_ram.specs.Bytes.{HoldsRange, bytes_at, ciphertext_place, frame_lines, frame_size, line_size, ram_with_bytes, ram_with_line, tag_place}
+use Rattle.line_ram.specs.Bytes.{HoldsRange, bytes_at, ciphertext_place, frame_lines, line_size, ram_with_bytes, ram_with_line, tag_place}
 use Rattle.line_ram.specs.Laws.{AreApart}
 use Rattle.line_ram.proofs.Ranges.{bytes-stored_apart, bytes-stored_same, length-stored}
 use Rattle.xom_base.specs.declared.image.PlainImage.{PlainImage}
+use Rattle.xom_base.specs.Frames.{frame_size}
+use Rattle.xom_model.specs.Operation.{envelope_size}
 use Rattle.cli_runs.specs.Places.{FitsAll, first_frame, frame_behind, frames_of_guest}
 use Rattle.cli_runs.specs.declared.guest_image.GuestImage.{GuestImage}
 use Rattle.power_on.specs.Start.{kernel_bytes, ram_with_guest, with_guests, with_lines}
-use Rattle.power_on.specs.ReadAgain.{GuestsAreRead, HasRoom, IsReadAt, IsWhole, IsWholeLine, KernelIsRead, StandsAt, envelope_size}
+use Rattle.power_on.specs.ReadAgain.{GuestsAreRead, HasRoom, IsReadAt, IsWhole, IsWholeLine, KernelIsRead, StandsAt}
 
 -- where a line of this number has its ciphertext and its tag, where line 0 is the first of a frame
 abbrev cipher : ℕ → ℕ → ℕ

@@ -1,15 +1,13 @@
 -- What stands in RAM at the start of a run is read again where the machine looks for it.
 use Rattle.std.specs.Prelude.{◌≡◌, ℕ, ◌+◌, ◌*◌, ◌/◌, ◌%◌, ◌≤◌, List, ◌∷◌, ◌++◌, All, length, slice_get, Option, Some}
 use Rattle.xom_base.specs.declared.image.PlainImage.{PlainImage}
+use Rattle.xom_base.specs.Frames.{frame_size}
+use Rattle.xom_model.specs.Operation.{envelope_size}
 use Rattle.xom_seal.specs.declared.line.SealedLine.{SealedLine}
-use Rattle.line_ram.specs.Bytes.{bytes_at, ciphertext_place, frame_lines, frame_size, line_size, tag_place}
+use Rattle.line_ram.specs.Bytes.{bytes_at, ciphertext_place, frame_lines, line_size, tag_place}
 use Rattle.cli_runs.specs.Places.{FitsAll, first_frame, frame_behind, kernel_limit}
 use Rattle.cli_runs.specs.declared.guest_image.GuestImage.{GuestImage}
 use Rattle.power_on.specs.Start.{kernel_bytes, ram_at_start}
-
--- how many bytes an envelope has
-abbrev pub envelope_size : ℕ
-envelope_size = 88
 
 -- a line has its bytes
 pub record IsWholeLine (line : SealedLine) : Type 0 where

@@ -2,8 +2,9 @@
 use Rattle.std.specs.Prelude.{ℕ, ◌+◌, ◌*◌, ◌/◌, ◌%◌, List, [], ◌∷◌, replicate, Option, Some, None}
 use Rattle.xom_base.specs.declared.image.PlainImage.{PlainImage}
 use Rattle.xom_base.specs.declared.key.Key256.{Key256}
+use Rattle.xom_base.specs.Frames.{frame_size}
 use Rattle.xom_seal.specs.declared.line.SealedLine.{SealedLine}
-use Rattle.line_ram.specs.Bytes.{frame_lines, frame_size, ram_with_bytes, ram_with_line}
+use Rattle.line_ram.specs.Bytes.{frame_lines, ram_with_bytes, ram_with_line}
 use Rattle.xom_versions.specs.Versions.{Versions}
 use Rattle.xom_model.specs.State.{Record, power_on}
 use Rattle.xom_machine.specs.Whole.{Whole}

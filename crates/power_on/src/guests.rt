@@ -1,5 +1,5 @@
 ghost use Rattle.std.specs.Prelude.{◌≡◌, ◌+◌, ◌*◌, ◌≤◌, length};
-ghost use Rattle.line_ram.specs.Bytes.{frame_size};
+ghost use Rattle.xom_base.specs.Frames.{frame_size};
 ghost use Rattle.cli_runs.specs.Places.{FitsAll, first_frame, frames_of_guest as frames_of_image};
 ghost use Rattle.power_on.specs.Start.{ram_of_whole, ram_with_guest, whole_with_ram, with_guests};
 

@@ -1,5 +1,6 @@
 ghost use Rattle.std.specs.Prelude.{◌≡◌, ◌+◌, ◌*◌, ◌/◌, ◌≤◌, ◌<◌, length};
-ghost use Rattle.line_ram.specs.Bytes.{HoldsFrame, frame_lines, frame_size, ram_with_line};
+ghost use Rattle.xom_base.specs.Frames.{frame_size};
+ghost use Rattle.line_ram.specs.Bytes.{HoldsFrame, frame_lines, ram_with_line};
 ghost use Rattle.power_on.specs.Start.{ram_of_whole, whole_with_ram, with_lines};
 
 use crate::loading::put;

@@ -1,6 +1,7 @@
 ghost use Rattle.std.specs.Prelude.{◌≡◌, ◌≤◌, ◌*◌, ◌<◌, ◌^◌, List, IfOk, length, option_map};
+ghost use Rattle.xom_base.specs.Frames.{frame_size};
 ghost use Rattle.xom_owners.specs.declared.owner.Owner.{Owner};
-ghost use Rattle.line_ram.specs.Bytes.{frame_size, ram_with_bytes};
+ghost use Rattle.line_ram.specs.Bytes.{ram_with_bytes};
 ghost use Rattle.xom_model.specs.Holds.{Holds};
 ghost use Rattle.cli_runs.specs.Places.{FitsAll, first_frame};
 ghost use Rattle.power_on.specs.Start.{first_record, kernel_bytes, null_entry as null_entry_of, ram_of_whole, whole_with_ram};

@@ -100,3 +100,7 @@ with_session table slot session = record table { list = slice_set table.list slo
 -- a guest that left for good
 abbrev pub session_after_leaving : Session → SlotState → Session
 session_after_leaving s final = record s { state = final }
+
+-- a guest of the slot is live in these sessions
+abbrev pub IsLiveIn : List Session → ℕ → Type 0
+IsLiveIn sessions slot = is_live (session_at sessions slot).state ≡ true

@@ -7,4 +7,5 @@ pub mod Padded
 pub mod Results
 pub mod Steps
 pub mod Entries
+pub mod Frames
 pub mod Words

@@ -17,7 +17,7 @@ use Rattle.line_cache.specs.Ways.{way_at}
 use Rattle.page_map.specs.Pages.{Pages}
 use Rattle.session_table.specs.declared.session.Session.{Session}
 use Rattle.session_table.specs.declared.session.SlotState.TheVariants as state
-use Rattle.session_table.specs.Sessions.{free, is_live, session_after_pause, session_at}
+use Rattle.session_table.specs.Sessions.{IsLiveIn, free, is_live, session_after_pause, session_at}
 use Rattle.slot_keys.specs.GuestKeys.{GuestKeys, OthersKeep, keys_at, with_registers}
 use Rattle.xom_seal.specs.Keys.{register_keys}
 use Rattle.xom_versions.specs.Store.{Store}
@@ -26,7 +26,7 @@ use Rattle.xom_model.specs.State.{page_of}
 use Rattle.xom_model.proofs.Gone.{less}
 use Rattle.xom_model.proofs.RamSize.{area_stays, frames_stay}
 use Rattle.xom_model.proofs.WayPuts.{each_put}
-use Rattle.xom_private.specs.Cores.{Fits, IsLiveIn, IsMapped, Serves, store_at}
+use Rattle.xom_private.specs.Cores.{Fits, IsMapped, Serves, store_at}
 use Rattle.xom_guest.specs.Places.{CanStore, IsPlaceFor, IsPlaceOf, StoresIn}
 
 -- ---- What a step stores

@@ -1,7 +1,7 @@
 ghost use Rattle.std.specs.Prelude.{◌≡◌, ◌≤◌, ◌<◌, ◌+◌, ◌*◌, ◌^◌, ℕ, List, Some, true, false, replicate, length, take, IfOk, IsOk, OnOk, OnErr, is_some};
 ghost use Rattle.xom_base.specs.declared.key.Key256.{Key256 as AnyKey};
+ghost use Rattle.xom_base.specs.Frames.{frame_size};
 ghost use Rattle.xom_owners.specs.declared.owner.Owner.{Owner};
-ghost use Rattle.line_ram.specs.Bytes.{frame_size};
 ghost use Rattle.xom_model.specs.Counts.{AreCounted};
 ghost use Rattle.xom_model.specs.Event.{after_kernel_write, after_operation, chunk_size, fits as fits_of, guest_turn, is_halt as is_halt_of, null_asked, null_turn, on, open_in, outcome_of, running_slot as running_of, told_in, with_open, with_ram};
 ghost use Rattle.xom_model.specs.Holds.{Holds};

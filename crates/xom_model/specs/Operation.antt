@@ -6,6 +6,7 @@ use Rattle.xom_base.specs.declared.event.Op.{Op}
 use Rattle.xom_base.specs.declared.event.Op.TheVariants.{Install, Enter, Resume, Save, Restore, Map, Unmap, SetReg, Kill, Out, Halt}
 use Rattle.xom_base.specs.declared.event.Rule.{Rule}
 use Rattle.xom_base.specs.declared.event.Rule.TheVariants as rule
+use Rattle.xom_base.specs.Frames.{frame_size}
 use Rattle.xom_seal.specs.declared.envelope.Unwrapped.{Unwrapped}
 use Rattle.xom_seal.specs.Envelopes.{envelope_contents}
 use Rattle.xom_seal.specs.Messages.{envelope_message}
@@ -19,7 +20,7 @@ use Rattle.session_table.specs.declared.session.SlotState.TheVariants as state
 use Rattle.session_table.specs.Sessions.{free, fresh_session, session_after_enter, session_after_resume}
 use Rattle.xom_versions.specs.Store.{area_size}
 use Rattle.xom_versions.specs.Versions.{Versions}
-use Rattle.line_ram.specs.Bytes.{bytes_at, frame_lines, frame_size}
+use Rattle.line_ram.specs.Bytes.{bytes_at, frame_lines}
 use Rattle.page_map.specs.Pages.{frame_of, with_page}
 use Rattle.xom_model.specs.State.{CoreState, core_with_hashes, core_with_session, lines_of_session, pages_of_session, ram_holds_range, session_of, window_of, with_cells, with_entry}
 use Rattle.xom_model.specs.Lines.{who_of}

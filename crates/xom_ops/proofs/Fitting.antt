@@ -10,14 +10,14 @@ use Rattle.line_ram.specs.Bytes.{HoldsFrame, HoldsRange}
 use Rattle.page_map.specs.Pages.{ChangesPage, Pages, frame_of}
 use Rattle.session_table.specs.declared.session.Session.{Session}
 use Rattle.session_table.specs.declared.session.SlotState.TheVariants as state
-use Rattle.session_table.specs.Sessions.{free, fresh_session, is_live, session_at}
+use Rattle.session_table.specs.Sessions.{IsLiveIn, free, fresh_session, is_live, session_at}
 use Rattle.slot_keys.specs.GuestKeys.{AreKeysOf, GuestKeys, OthersKeep, keys_at}
 use Rattle.xom_versions.specs.Store.{HoldsArea, Store, area_size}
 use Rattle.xom_versions.specs.Versions.{VersionLaw, Versions}
 use Rattle.xom_model.specs.State.{no_store}
 use Rattle.xom_model.proofs.Gone.{less}
 use Rattle.xom_model.proofs.RamSize.{area_stays, frames_stay}
-use Rattle.xom_private.specs.Cores.{Fits, IsLiveIn, IsMapped, Serves, store_at}
+use Rattle.xom_private.specs.Cores.{Fits, IsMapped, Serves, store_at}
 
 -- what the type asks of a session is asked of the other as well
 abbrev pub AreAlike : Session → Session → Type 0

@@ -5,10 +5,10 @@ use Rattle.line_cache.specs.Ways.{without_slot}
 use Rattle.page_map.specs.Pages.{Pages, without_pages}
 use Rattle.session_table.specs.declared.session.Session.{Session}
 use Rattle.session_table.specs.declared.session.SlotState.TheVariants as state
-use Rattle.session_table.specs.Sessions.{free, is_live, session_after_enter, session_after_resume, session_at}
+use Rattle.session_table.specs.Sessions.{IsLiveIn, free, is_live, session_after_enter, session_after_resume, session_at}
 use Rattle.slot_keys.specs.GuestKeys.{GuestKeys}
 use Rattle.xom_versions.specs.Store.{Store}
-use Rattle.xom_private.specs.Cores.{Fits, IsLiveIn}
+use Rattle.xom_private.specs.Cores.{Fits}
 use Rattle.xom_private.proofs.Leaving.{fits_gone}
 use Rattle.xom_ops.specs.Signals.{at_handler}
 use Rattle.xom_ops.proofs.Fitting.{AreAlike, fits_moved}

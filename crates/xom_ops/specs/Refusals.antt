@@ -1,7 +1,7 @@
 -- Which test of a row refuses an operation, and the rows of which the model's rows are made.
 use Rattle.std.specs.Prelude.{ℕ, ◌*◌, ◌==◌, Bool, List, [], ◌∷◌, Option, Some, None, is_some, nat_le, not, if◌then◌else◌}
 use Rattle.std.specs.Int.{bit_at}
-use Rattle.line_ram.specs.Bytes.{frame_size}
+use Rattle.xom_base.specs.Frames.{frame_size}
 use Rattle.page_map.specs.Pages.{frame_of, with_page}
 use Rattle.tag_regs.specs.TaggedCells.{cell_at}
 use Rattle.xom_model.specs.Operation.{can_come_back, is_bad_slot, is_own_cell, refusal_of}

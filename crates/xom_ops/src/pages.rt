@@ -1,5 +1,6 @@
 ghost use Rattle.std.specs.Prelude.{◌≡◌, ◌≤◌, ◌<◌, ◌*◌, IfNone, None};
-ghost use Rattle.line_ram.specs.Bytes.{HoldsFrame, frame_size};
+ghost use Rattle.xom_base.specs.Frames.{frame_size};
+ghost use Rattle.line_ram.specs.Bytes.{HoldsFrame};
 ghost use Rattle.page_map.specs.Pages.{frame_of};
 ghost use Rattle.xom_model.specs.Holds.{IsLive};
 ghost use Rattle.xom_model.specs.Operation.{first_refusal_or, map_page as map_page_of, success};

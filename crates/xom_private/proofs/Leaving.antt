@@ -6,12 +6,12 @@ use Rattle.line_cache.specs.declared.way.Way.{Way}
 use Rattle.line_cache.specs.Ways.{free_if, way_at, without_slot}
 use Rattle.page_map.specs.Pages.{Pages, frame_of, without_pages}
 use Rattle.session_table.specs.declared.session.Session.{Session}
-use Rattle.session_table.specs.Sessions.{free, is_live, session_at}
+use Rattle.session_table.specs.Sessions.{IsLiveIn, free, is_live, session_at}
 use Rattle.slot_keys.specs.GuestKeys.{GuestKeys, keys_at}
 use Rattle.xom_versions.specs.Store.{Store}
 use Rattle.xom_model.specs.State.{page_of}
 use Rattle.xom_model.proofs.Gone.{less, free_if-left, free_if-other, pages-gone, pages-other, way-without}
-use Rattle.xom_private.specs.Cores.{Fits, IsLiveIn, Serves}
+use Rattle.xom_private.specs.Cores.{Fits, Serves}
 
 module _ (sessions : List Session) (pages : Pages) (ways : List Way) (ram : List ℕ)
     (stores : List Store) (keys : List GuestKeys) (boot slot : ℕ) (s : Session)

@@ -3,6 +3,7 @@ use Rattle.std.proofs.Common.{◌≡◌, inl, inr, ℕ, ◌<◌, List, IfSome, l
 use Rattle.std.proofs.lemmas.List.{get_or-set_same, get_or-set_other, set_past}
 use Rattle.std.proofs.lemmas.Bool.Decides.{eqb_tells}
 use Rattle.xom_base.specs.declared.entry.Entry.{Entry}
+use Rattle.session_table.specs.Sessions.{IsLiveIn}
 use Rattle.line_cache.specs.declared.way.Way.{Way}
 use Rattle.line_ram.specs.Bytes.{HoldsRange}
 use Rattle.page_map.specs.Pages.{Pages}
@@ -13,7 +14,7 @@ use Rattle.xom_versions.specs.Versions.{VersionLaw, Versions}
 use Rattle.xom_model.specs.State.{no_store}
 use Rattle.xom_model.proofs.Gone.{less}
 use Rattle.xom_model.proofs.RamSize.{area_stays, frames_stay}
-use Rattle.xom_private.specs.Cores.{Fits, IsLiveIn, store_at}
+use Rattle.xom_private.specs.Cores.{Fits, store_at}
 
 -- a store that is put in the place of one with its area leaves all areas
 same_area : (stores : List Store) (slot k : ℕ) (new : Store)

@@ -5,7 +5,7 @@ use Rattle.line_cache.specs.declared.way.Way.{Way}
 use Rattle.line_cache.specs.Ways.{way_at}
 use Rattle.page_map.specs.Pages.{Pages, frame_of}
 use Rattle.session_table.specs.declared.session.Session.{Session}
-use Rattle.session_table.specs.Sessions.{is_live, session_at}
+use Rattle.session_table.specs.Sessions.{IsLiveIn, is_live, session_at}
 use Rattle.slot_keys.specs.GuestKeys.{GuestKeys, keys_at}
 use Rattle.xom_seal.specs.Keys.{image_keys, register_keys, run_keys}
 use Rattle.xom_versions.specs.Store.{HoldsArea, Store}
@@ -31,9 +31,6 @@ rule_in (Ok done) = None
 rule_in (Err why) = Some why
 
 -- ---- What the type keeps
-
-abbrev pub IsLiveIn : List Session → ℕ → Type 0
-IsLiveIn sessions slot = is_live (session_at sessions slot).state ≡ true
 
 -- the page has a frame
 abbrev pub IsMapped : Pages → ℕ → ℕ → Type 0

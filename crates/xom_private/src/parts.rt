@@ -1,5 +1,5 @@
 ghost use Rattle.std.specs.Prelude.{◌≡◌, ◌≤◌, ◌+◌, ◌*◌, IfOk, false, replicate};
-ghost use Rattle.line_ram.specs.Bytes.{frame_size};
+ghost use Rattle.xom_base.specs.Frames.{frame_size};
 ghost use Rattle.session_table.specs.Sessions.{is_live};
 ghost use Rattle.xom_model.specs.Access.{after_leaving, after_stop};
 ghost use Rattle.xom_model.specs.State.{core_at_start};

@@ -1,13 +1,9 @@
 -- The words that stand in lines of run files and scripts.
 use Rattle.std.specs.Prelude.{ℕ, ◌^◌, ◌≤◌, ◌==◌, not, Bool, if◌then◌else◌, List, [], ◌∷◌, length, Option, Some, None}
 use Rattle.std.specs.Str.{bytes_eq, is_utf8}
-use Rattle.xom_base.specs.Options.{◌>>=◌}
+use Rattle.xom_base.specs.Options.{◌>>=◌, where_holds}
 use Rattle.xom_base.specs.Hex.{WritesHex, hex_within}
 use Rattle.xom_base.specs.Numbers.{WritesBelow}
-
--- the value where the test holds
-abbrev pub where_holds : {A : Type 0} → Bool → A → Option A
-where_holds test x = if test then Some x else None
 
 -- a number below 2^32
 abbrev pub Writes32 : List ℕ → ℕ → Type 0

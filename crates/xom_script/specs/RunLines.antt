@@ -2,12 +2,12 @@
 use Rattle.std.specs.Prelude.{◌≡◌, ℕ, ◌^◌, ◌<◌, ◌≤◌, ◌==◌, nat_lt, nat_le, if◌then◌else◌, List, [], ◌∷◌, length, codes, Option, Some, None, option_map}
 use Rattle.std.specs.List.{AllZip}
 use Rattle.std.specs.Str.{IsUtf8}
-use Rattle.xom_base.specs.Options.{◌>>=◌}
+use Rattle.xom_base.specs.Options.{◌>>=◌, where_holds}
 use Rattle.xom_base.specs.Hex.{IsHex, hex_of}
 use Rattle.xom_base.specs.Numbers.{IsNumber, WritesBelow, number_below_of, number_of_word}
 use Rattle.xom_base.specs.declared.schedule.Interrupts.{Interrupts}
 use Rattle.xom_base.specs.declared.schedule.Interrupts.TheVariants as interrupts
-use Rattle.xom_script.specs.Fields.{Writes32, WritesBytes, name_of_word, row_by_name, where_holds, write_bytes_of}
+use Rattle.xom_script.specs.Fields.{Writes32, WritesBytes, name_of_word, row_by_name, write_bytes_of}
 use Rattle.xom_script.specs.declared.run_file.KernelLine.{KernelLine}
 use Rattle.xom_script.specs.declared.run_file.KernelLine.TheVariants as kernel
 use Rattle.xom_script.specs.declared.run_line.RunLine.{RunLine}

@@ -7,7 +7,7 @@ use Rattle.xom_base.specs.declared.key.ImageId.{ImageId}
 use Rattle.xom_base.specs.declared.key.Key256.{Key256}
 use Rattle.xom_base.specs.declared.schedule.Interrupts.{Interrupts}
 use Rattle.xom_base.specs.declared.schedule.Poke.{Poke}
-use Rattle.xom_script.specs.Fields.{where_holds}
+use Rattle.xom_base.specs.Options.{where_holds}
 use Rattle.xom_script.specs.declared.run_file.OwnerFile.{OwnerFile}
 use Rattle.xom_script.specs.declared.run_file.GuestFile.{GuestFile}
 use Rattle.xom_script.specs.declared.run_file.KernelLine.{KernelLine}

@@ -1,5 +1,5 @@
 ghost use Rattle.std.specs.Prelude.{◌≡◌, ℕ, IfOk, length, nat_lt};
-ghost use Rattle.xom_script.specs.Fields.{where_holds};
+ghost use Rattle.xom_base.specs.Options.{where_holds};
 ghost use Rattle.xom_script.specs.RunOrder.{after_files, after_line, draft_with_guest, fits_ram, has_id, has_room, is_whole, last_event, run_file, takes_owner, takes_poke, with_owner, with_poke};
 ghost use Rattle.xom_script.specs.declared.progress.Progress.TheVariants as progress;
 

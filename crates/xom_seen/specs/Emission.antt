@@ -15,7 +15,7 @@ use Rattle.xom_seal.specs.declared.names.RegName.{RegName}
 use Rattle.xom_seal.specs.Messages.{line_message, register_message}
 use Rattle.mips_plain.specs.Instruction.{is_signal_ready}
 use Rattle.session_table.specs.declared.session.Session.{Session}
-use Rattle.session_table.specs.Sessions.{is_live, session_at}
+use Rattle.session_table.specs.Sessions.{IsLiveIn, is_live, session_at}
 use Rattle.xom_model.specs.declared.outcome.Outcome.{Outcome}
 use Rattle.xom_model.specs.State.{CoreState, Record, session_of}
 
@@ -48,9 +48,6 @@ pub record Emission : Type 0 where
   pub signals : List Signal
 
 -- ---- Read off the entries that an event added. Slots are those of the sessions before it.
-
-abbrev pub IsLiveIn : List Session → ℕ → Type 0
-IsLiveIn sessions slot = is_live (session_at sessions slot).state ≡ true
 
 -- the name is of this line of the session's guest: under its install number, or as a line of its
 -- image

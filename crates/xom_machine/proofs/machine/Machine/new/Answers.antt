@@ -1,6 +1,6 @@
 -- At power-on.
 use Rattle.std.proofs.Common.{◌*◌, refl, replicate, subst, sym, arith}
-use Rattle.line_ram.specs.Bytes.{frame_size}
+use Rattle.xom_base.specs.Frames.{frame_size}
 use Rattle.xom_model.specs.Holds.{Holds}
 use Rattle.xom_model.specs.State.{power_on}
 use Rattle.xom_model.proofs.StartKept.{start_holds}
