@@ -38,7 +38,7 @@ pub fn wrap(machine: &Key256, plain: &Unwrapped) -> [u8; 88]
 /// All that stands before the tag in the envelope for an image, whose key is wrapped as this.
 #[tactic(auto, unfolding(crate::specs::Envelopes::envelope_fields))]
 fn fields(plain: &Unwrapped, wrapped: &[u8; 32]) -> [u8; 56]
-    ensures { result ≡ envelope_fields plain.now.id.0 plain.now.entry plain.now.lines wrapped_key_of.now }
+    ensures { result ≡ envelope_fields plain.now.id.0 plain.now.entry plain.now.lines wrapped.now }
 {
     Text::new()
         .and(&plain.id.0)
