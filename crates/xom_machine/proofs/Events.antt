@@ -245,8 +245,8 @@ start-InTime v machine boot ram pc = record {
 pub event-KeepsHolding : (v : Versions) (Stands : StandsFor) → VersionLaw v Stands
     → (r : Record) (e : Event) (chunk : List ℕ) → fits r e ≡ true
     → KeepsHolding v Stands r (on v r e chunk).0
-event-KeepsHolding v Stands law r e chunk fit owners are room honest ram_holds_range =
-    let after = events_keep v Stands law owners are r e chunk fit room honest ram_holds_range in
+event-KeepsHolding v Stands law r e chunk fit owners are room honest holds =
+    let after = events_keep v Stands law owners are r e chunk fit room honest holds in
     record { holds = after; once = after.slots.seals.once }
 
 -- what a refused operation leaves
@@ -287,10 +287,10 @@ module _ (v : Versions) (Stands : StandsFor) (law : VersionLaw v Stands) where
       → IsHonest (sealed_by r.core.machine owners) (ran_on r slot result).0.core.entries
       → (ran_on r slot result).1 ≡ outcome.Left (cause.Fault fault)
       → FaultsAlone owners r.core (ran_on r slot result).0.who fault
-  ran_on-Faults r interrupt slot runs owners are ram_holds_range fault (core, None) is room honest left =
+  ran_on-Faults r interrupt slot runs owners are holds fault (core, None) is room honest left =
       absurd (cc)
-  ran_on-Faults r interrupt slot runs owners are ram_holds_range fault (core, Some why) is room honest left =
-      let known = running-slot r.core slot runs ram_holds_range.slots.session_places ram_holds_range.slots.shape.null in
+  ran_on-Faults r interrupt slot runs owners are holds fault (core, Some why) is room honest left =
+      let known = running-slot r.core slot runs holds.slots.session_places holds.slots.shape.null in
       let core_is : core ≡ (guest v r.core slot interrupt).0 = ap (λ x. x.0) (sym is) in
       let why_is : (guest v r.core slot interrupt).1 ≡ Some (cause.Fault fault) = ap (λ x. x.1) is
       ∙ ap Some (named left) in
@@ -298,16 +298,16 @@ module _ (v : Versions) (Stands : StandsFor) (law : VersionLaw v Stands) where
       (running-runs r.core slot runs)
       (subst (λ (c : CoreState). IsBounded c.entries) core_is room)
       (subst (λ (c : CoreState). IsHonest (sealed_by r.core.machine owners) c.entries) core_is
-      honest) ram_holds_range why_is
+      honest) holds why_is
     where
       named : {a b : Cause} → outcome.Left a ≡ outcome.Left b → a ≡ b
       named same = cc
 
   turn-Faults : (r : Record) (interrupt : Bool) (at : Option ℕ) → running_slot r ≡ at
       → FaultsAreAlone Stands r (guest_turn v r interrupt at).0 (guest_turn v r interrupt at).1
-  turn-Faults r interrupt None runs owners are room honest ram_holds_range fault left = absurd (cc)
-  turn-Faults r interrupt (Some slot) runs owners are room honest ram_holds_range fault left =
-      ran_on-Faults r interrupt slot runs owners are ram_holds_range fault (guest v r.core slot interrupt)
+  turn-Faults r interrupt None runs owners are room honest holds fault left = absurd (cc)
+  turn-Faults r interrupt (Some slot) runs owners are room honest holds fault left =
+      ran_on-Faults r interrupt slot runs owners are holds fault (guest v r.core slot interrupt)
       refl room honest left
 
   pub event-Faults : (r : Record) (e : Event) (chunk : List ℕ)
@@ -338,6 +338,6 @@ pub loaded-Holds : (v : Versions) (Stands : StandsFor) → VersionLaw v Stands
     → (owners : List Owner) (core : CoreState) (address : ℕ) (bytes : List ℕ)
     → Holds Stands owners core
     → Holds Stands owners (record core { ram = ram_after_write core.ram address bytes })
-loaded-Holds v Stands law owners core address bytes ram_holds_range =
+loaded-Holds v Stands law owners core address bytes holds =
     kept_holds Stands owners core _ (kept_ram Stands owners v law core
-    _ (length-poked core.ram address bytes)) ram_holds_range
+    _ (length-poked core.ram address bytes)) holds

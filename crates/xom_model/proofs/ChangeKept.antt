@@ -171,7 +171,7 @@ module _ (Stands : StandsFor) (owners : List Owner) (v : Versions) (law : Versio
         few = let more =
             length-append core.entries (trap ∷ []) in omega arith;
       })
-      (λ session_after_pause install low reg from to key ct is.
+      (λ paused install low reg from to key ct is.
       let name = reg_name (who_of core slot) (s.epoch + 1) reg in
       let named : IsRegName name = record {
         boot = holds.slots.shape.boot;
@@ -220,7 +220,7 @@ module _ (Stands : StandsFor) (owners : List Owner) (v : Versions) (law : Versio
         places = old.places;
       })
       (record { live = live; install = refl; up = omega arith; few = omega arith })
-      (λ session_after_pause. absurd (cc))
+      (λ paused. absurd (cc))
       (λ other differs. none other)
       (λ reg running from to bit. absurd (let own = old.mask reg from to in let none_own =
       ap own_bit (lent reg to) in cc))
@@ -253,6 +253,6 @@ module _ (Stands : StandsFor) (owners : List Owner) (v : Versions) (law : Versio
         places = old.places;
       })
       (record { live = live; install = refl; up = omega arith; few = omega arith })
-      (λ session_after_pause. absurd (cc))
+      (λ paused. absurd (cc))
       (λ other differs. none other)
       (λ reg running from to bit. whole reg from to bit)

@@ -295,8 +295,8 @@ onward_restored : (core : CoreState) (slot reg address value : ℕ)
 unfolding after_restore
 onward_restored core slot reg address value = record { more = (_, refl); machine = refl }
 
-onward_reopened : (core : CoreState) (slot reg address : ℕ) (place_of_line : Option ℕ)
-    → Onward core (after_reopening core slot reg address place_of_line).0
+onward_reopened : (core : CoreState) (slot reg address : ℕ) (found : Option ℕ)
+    → Onward core (after_reopening core slot reg address found).0
 onward_reopened core slot reg address None = onward_stopped core slot (rule.RegisterTag reg)
 onward_reopened core slot reg address (Some value) = onward_restored core slot reg address value
 
@@ -307,8 +307,8 @@ module _ (v : Versions) where
   onward_installed core slot place area plain =
       record { more = (_, append_assoc core.entries _ _); machine = refl }
 
-  onward_unwrap : (core : CoreState) (slot place area : ℕ) (place_of_line : Option Unwrapped)
-      → Onward core (unwrap v core slot place area place_of_line).0
+  onward_unwrap : (core : CoreState) (slot place area : ℕ) (found : Option Unwrapped)
+      → Onward core (unwrap v core slot place area found).0
   onward_unwrap core slot place area None = onward_none core
   onward_unwrap core slot place area (Some plain) =
       onward_tested core (image_tests core plain) _ (onward_installed core slot place area plain)

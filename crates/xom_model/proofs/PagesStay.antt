@@ -444,8 +444,8 @@ stay_saved : (core : CoreState) (slot reg address : ℕ)
 unfolding after_save
 stay_saved core slot reg address = stay_none core
 
-stay_reopened : (core : CoreState) (slot reg address : ℕ) (place_of_line : Option ℕ)
-    → PagesStay core (after_reopening core slot reg address place_of_line).0
+stay_reopened : (core : CoreState) (slot reg address : ℕ) (found : Option ℕ)
+    → PagesStay core (after_reopening core slot reg address found).0
 unfolding after_restore
 stay_reopened core slot reg address None = stay_stopped core slot (rule.RegisterTag reg)
 stay_reopened core slot reg address (Some value) = stay_none core

@@ -298,8 +298,8 @@ module _ (v : Versions) (slot : ℕ) (R T : CoreState → CoreState → Type 0) 
       (deeds.sets_ram sealed _)))
 
   -- it comes back, or stops its slot
-  walk_reopened : (core : CoreState) (reg address : ℕ) → IsLive core slot → (place_of_line : Option ℕ)
-      → T core (after_reopening core slot reg address place_of_line).0
+  walk_reopened : (core : CoreState) (reg address : ℕ) → IsLive core slot → (found : Option ℕ)
+      → T core (after_reopening core slot reg address found).0
   unfolding after_restore
   walk_reopened core reg address alive None =
       by_parts core _ (parts.stop core (rule.RegisterTag reg) alive)

@@ -16,8 +16,8 @@ use Rattle.xom_seal.specs.Sealing.{xor_of_bytes}
 
 -- all the fields before the tag: id, entry, lines, wrapped key
 unfoldable pub envelope_fields : List ℕ → ℕ → ℕ → List ℕ → List ℕ
-envelope_fields id entry lines wrapped_key_of =
-    id ++ (to_be_bytes w32 entry ++ (to_be_bytes w32 lines ++ wrapped_key_of))
+envelope_fields id entry lines wrapped =
+    id ++ (to_be_bytes w32 entry ++ (to_be_bytes w32 lines ++ wrapped))
 
 -- the same, read from an envelope
 abbrev pub id_in : List ℕ → List ℕ
