@@ -206,7 +206,7 @@ module _ {K : Type 0} (told : K → View → Option (Turn × (List ℕ × K))) (
       goes = gone.goes;
       within = gone.within;
       still = gone.still;
-      place_after_command = λ past rest ends.
+      moved = λ past rest ends.
           subst (λ n. place_after_command (command.Step n)
           (place past (view_of m.state) (moments v m.state gone.events ++ rest)) ≡ place
           (past ++ events_in gone.events) (view_of m'.state) rest) gone.all
@@ -223,7 +223,7 @@ module _ {K : Type 0} (told : K → View → Option (Turn × (List ℕ × K))) (
       goes = gone.goes;
       within = gone.within;
       still = gone.still;
-      place_after_command = λ past rest ends. steps_ended schedule v s.guests m.state gone.events m'.state
+      moved = λ past rest ends. steps_ended schedule v s.guests m.state gone.events m'.state
           gone.goes.made n (n - count) (omega (arith, gone.all)) past rest (ends over);
     }
 
@@ -256,7 +256,7 @@ module _ {K : Type 0} (told : K → View → Option (Turn × (List ℕ × K))) (
       goes = stayed.gone.goes;
       within = stayed.gone.within;
       still = stayed.gone.still;
-      place_after_command = λ past rest ends. trap_ended schedule v s.guests m.state stayed.gone.events m'.state
+      moved = λ past rest ends. trap_ended schedule v s.guests m.state stayed.gone.events m'.state
           stayed.gone.goes.made stayed.stays past rest (ends over);
     }
 
@@ -303,7 +303,7 @@ module _ {K : Type 0} (told : K → View → Option (Turn × (List ℕ × K))) (
           goes = gone.goes;
           within = gone.within;
           still = gone.still;
-          place_after_command = λ past rest ends. trap-moved s m k count s1 m1 k1 e s' m' k' stayed makes left
+          moved = λ past rest ends. trap-moved s m k count s1 m1 k1 e s' m' k' stayed makes left
               past rest;
         }
 
@@ -318,6 +318,6 @@ module _ {K : Type 0} (told : K → View → Option (Turn × (List ℕ × K))) (
       goes = goes-none s m k;
       within = λ within. within;
       still = λ over. refl;
-      place_after_command = λ past rest ends. same past (view_of m.state) rest
+      moved = λ past rest ends. same past (view_of m.state) rest
           ∙ ap (λ p. place p (view_of m.state) rest) (sym (append-nil past));
     }

@@ -189,7 +189,7 @@ module _ (v : Versions) (slot : ℕ) (some : slot ≢ 0) where
         entries = more_is (seal_entry (who_of core victim.slot) victim.line version victim.bytes);
         precede = more_precede (seal_entry (who_of core victim.slot) victim.line version
             victim.bytes) (place, (dirty, (version, refl)));
-        session_after_leaving = put_left (more_with (seal_entry (who_of core victim.slot) victim.line version
+        left = put_left (more_with (seal_entry (who_of core victim.slot) victim.line version
             victim.bytes)) core.ways place (λ at is. refl)
             (λ _. inr (more_has (SealsWay core victim) (seal_entry (who_of core victim.slot)
             victim.line version victim.bytes) (version, refl)));
@@ -221,7 +221,7 @@ module _ (v : Versions) (slot : ℕ) (some : slot ≢ 0) where
             (rule.TreeNode torn.level));
         precede = more_precede (entry.Stop (session_of core victim.slot).install
             (rule.TreeNode torn.level)) (victim.slot, (differs, refl));
-        session_after_leaving = put_left (more_with (entry.Stop (session_of core victim.slot).install
+        left = put_left (more_with (entry.Stop (session_of core victim.slot).install
             (rule.TreeNode torn.level))) (without_slot victim.slot core.ways) place
             (λ at is. way-without victim.slot core.ways at ∙ free_if-other victim.slot
             (way_at core.ways at) (λ own. differs (sym own ∙ is))) (λ is. absurd (differs is));
