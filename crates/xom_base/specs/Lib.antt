@@ -8,4 +8,5 @@ pub mod Results
 pub mod Steps
 pub mod Entries
 pub mod Frames
+pub mod Sizes
 pub mod Words
