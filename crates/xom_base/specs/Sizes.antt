@@ -22,6 +22,6 @@ window_size = 2 ^ 20
 abbrev pub page_count : ℕ
 page_count = 256
 
--- how many bytes the id of an image has
+-- how many bytes an owner's id has
 abbrev pub id_size : ℕ
 id_size = 16
