@@ -52,6 +52,7 @@ numbered_content labels (Instruction name operands) =
     Instruction name (map (numbered_operand labels) operands)
 numbered_content labels content = content
 
+-- a label or a statement with its line, its labels replaced by numbers
 abbrev pub numbered_part : Labels → Part → Part
 numbered_part labels part = record {
   line = part.line;

@@ -38,6 +38,7 @@ pub record State : Type 0 where
   pub pc : ℕ
   pub npc : ℕ
 
+-- the state that has these cells and these two addresses
 abbrev pub state : Cells → (pc npc : ℕ) → State
 state cells pc npc = record { cells = cells; pc = pc; npc = npc }
 

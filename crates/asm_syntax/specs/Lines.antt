@@ -22,6 +22,7 @@ use Rattle.asm_syntax.specs.Lexing.{lexemes_of}
 
 -- ---- what an operand must be
 
+-- the register that an operand is, or none
 abbrev pub register_of_argument : Argument → Option ℕ
 register_of_argument (Register r) = Some r
 register_of_argument _ = None
@@ -31,14 +32,17 @@ abbrev pub value_of_argument : Argument → Option ValueType
 value_of_argument (Value v) = Some v
 value_of_argument _ = None
 
+-- the number that an operand is, or none; a label is no number here
 abbrev pub number_of_argument : Argument → Option Integer
 number_of_argument (Value (values.Number n)) = Some n
 number_of_argument _ = None
 
+-- the name of the label that an operand is, or none
 abbrev pub label_of_argument : Argument → Option (List ℕ)
 label_of_argument (Value (values.Label name)) = Some name
 label_of_argument _ = None
 
+-- the bytes of the quoted text that an operand is, or none
 abbrev pub text_in : Argument → Option (List ℕ)
 text_in (Text bytes) = Some bytes
 text_in _ = None
@@ -47,6 +51,7 @@ text_in _ = None
 abbrev pub unsigned_of : Integer → Option ℕ
 unsigned_of n = if n.negative then None else Some n.magnitude
 
+-- the number that an operand is, where it has no `-`
 abbrev pub size_in : Argument → Option ℕ
 size_in argument = number_of_argument argument >>= unsigned_of
 
@@ -192,6 +197,7 @@ coded_statement name (first ∷ rest) = instruction_statement name (first ∷ re
 
 -- ---- statements
 
+-- a statement that isn't a directive: a short form by its own rule, every other one by its form
 unfoldable pub mnemonic_statement : List ℕ → List Argument → Option Content
 mnemonic_statement name arguments =
     if bytes_eq name (codes "li") then li_statement arguments
@@ -218,6 +224,7 @@ statement_of name arguments =
 
 -- ---- lines and sources
 
+-- a label or a statement with the number of its line
 abbrev pub part_of_line : ℕ → Content → Part
 part_of_line number content = record { line = number; content = content }
 

@@ -16,6 +16,7 @@ whole integer = if integer.negative then pos 0 -ℤ pos integer.magnitude else p
 
 -- ---- the same as a function
 
+-- the number of this magnitude, with a `-` in front or not
 abbrev pub signed_integer : Bool → ℕ → Integer
 signed_integer negative magnitude = record { negative = negative; magnitude = magnitude }
 

@@ -13,6 +13,7 @@ begins_name byte = is_ascii_alphabetic byte || (byte == 95) || (byte == 46)
 abbrev pub is_name_byte : ℕ → Bool
 is_name_byte byte = is_ascii_alphanumeric byte || (byte == 95) || (byte == 46)
 
+-- the bytes are a name: one that may begin a name, then any that may stand in it
 abbrev pub IsName : List ℕ → Type 0
 IsName [] = ⊥
 IsName (first ∷ rest) = IsTrue (begins_name first) × IsTrue (list_all is_name_byte rest)

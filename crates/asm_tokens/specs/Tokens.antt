@@ -172,6 +172,7 @@ abbrev pub TokenFaults : Result (List Token) ℕ → TokenFault → Type 0
 TokenFaults read (fault.Token bad) = read ≡ Err bad
 TokenFaults read fault.NoMemory = Unit {0}
 
+-- what the tokenizer may answer where the definition gives these tokens or the place of a fault
 abbrev pub TokensAnswers : Result (List Token) ℕ → Result (List Token) TokenFault → Type 0
 TokensAnswers read (Ok tokens) = read ≡ Ok tokens
 TokensAnswers read (Err fault) = TokenFaults read fault

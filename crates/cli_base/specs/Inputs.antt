@@ -31,6 +31,7 @@ fetched_bytes name limit None = Err (Unread name)
 fetched_bytes name limit (Some bytes) =
     if nat_le (length bytes) limit then Ok bytes else Err (Bad name TooLong)
 
+-- the bytes that a file holds, or why they can't be had, where at most so many are read
 unfoldable pub file_or_refusal : Held → List ℕ → ℕ → Result (List ℕ) Refusal
 file_or_refusal held name limit = fetched_bytes name limit (held name)
 
@@ -51,6 +52,7 @@ abbrev pub InputFaults : {A : Type 0} → Result A InputFault → InputStop → 
 InputFaults wanted (input_stop.Fault fault) = wanted ≡ Err fault
 InputFaults wanted input_stop.NoMemory = Unit {0}
 
+-- what the reader of a format may answer where the definition gives this value or this fault
 abbrev pub InputAnswers : {A : Type 0} → Result A InputFault → Result A InputStop → Type 0
 InputAnswers wanted (Ok value) = wanted ≡ Ok value
 InputAnswers wanted (Err why) = InputFaults wanted why
@@ -73,17 +75,20 @@ image_if_aligned entry bytes fits private true aligned =
       private = private;
     })
 
+-- the image of an entry and of bytes of which there are few enough, where the entry may be one
 abbrev pub image_if_private : (entry : ℕ) (bytes : List ℕ) → length bytes ≤ 2 ^ 20
     → Dec (entry < 2 ^ 20) → Option PlainImage
 image_if_private entry bytes fits (no high) = None
 image_if_private entry bytes fits (yes private) =
     image_if_aligned entry bytes fits private (entry % 4 == 0) refl
 
+-- the image of an entry and bytes, where there are few enough and the entry may be one
 abbrev pub image_if_fitting : (entry : ℕ) (bytes : List ℕ) → Dec (length bytes ≤ 2 ^ 20)
     → Option PlainImage
 image_if_fitting entry bytes (no long) = None
 image_if_fitting entry bytes (yes fits) = image_if_private entry bytes fits (dec_lt entry (2 ^ 20))
 
+-- the image of this entry and these bytes, or none where they are no valid image
 abbrev pub valid_image : ℕ → List ℕ → Option PlainImage
 valid_image entry bytes = image_if_fitting entry bytes (dec_le (length bytes) (2 ^ 20))
 
@@ -93,6 +98,7 @@ abbrev pub image_found : Option PlainImage → Result PlainImage InputFault
 image_found None = Err NotBuilt
 image_found (Some image) = Ok image
 
+-- what a plain image file comes to, of the entry and the bytes that it has or of its first bad byte
 abbrev pub image_read : Result (ℕ × List ℕ) ℕ → Result PlainImage InputFault
 image_read (Ok read) = image_found (valid_image read.0 read.1)
 image_read (Err bad) = Err (BadByte bad)
@@ -110,5 +116,6 @@ in_lines (Err line) = Err (BadLine line)
 abbrev pub image_limit : ℕ
 image_limit = 1048592
 
+-- the image that a file holds, or why it can't be had
 unfoldable pub image_of : Held → List ℕ → Result PlainImage Refusal
 image_of = input_of image_limit image_at

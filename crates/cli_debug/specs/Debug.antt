@@ -27,6 +27,7 @@ use Rattle.xom_script.specs.declared.run_file.RunFile.{RunFile}
 abbrev pub commands_limit : ℕ
 commands_limit = 65536
 
+-- the commands that a file holds, or why they can't be had
 unfoldable pub commands_of : Held → List ℕ → Result (List Command) Refusal
 commands_of = input_of commands_limit (λ text. in_lines (commands_at text))
 
@@ -39,6 +40,7 @@ abbrev pub moments_under : {K : Type 0} → (K → View → Option (Turn × (Lis
 moments_under told k file first =
     unwrap_or (moments_from shipped_versions told file.schedule file.budget 0 first k) []
 
+-- the moments of the run that a script or a kernel's image makes of a run file and its guests
 abbrev pub moments_by : RunFile → List GuestImage → KernelFile → List Moment
 moments_by file guests (kernel.Script script) =
     moments_under script_told script.lines file (first_of file guests (kernel.Script script))

@@ -27,6 +27,7 @@ journal_limit = 268435456
 abbrev pub entries_at : List ℕ → Result (List Entry) ℕ
 entries_at text = made_of entries_alone (read_from journal_step 0 1 (lines_of text))
 
+-- the entries of the journal that a file holds, or why they can't be had
 unfoldable pub journal_of : Held → List ℕ → Result (List Entry) Refusal
 journal_of = input_of journal_limit (λ text. in_lines (entries_at text))
 

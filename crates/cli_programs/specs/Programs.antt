@@ -15,10 +15,11 @@ use Rattle.cli_base.specs.declared.refusal.Refusal.{Refusal}
 use Rattle.cli_base.specs.Commands.{prints, writes}
 use Rattle.cli_base.specs.Inputs.{◌>>=◌, Held, image_of, in_lines, input_of}
 
--- at most so many bytes are in an assembler source and in a received file
+-- at most so many bytes are in an assembler source
 abbrev pub source_limit : ℕ
 source_limit = 1048576
 
+-- at most so many bytes are in a received file
 abbrev pub received_limit : ℕ
 received_limit = 1048576
 
@@ -55,11 +56,13 @@ abbrev pub sealed_text : (lines size : ℕ) → List ℕ
 sealed_text lines size =
     codes "sealed " ++ (decimal lines ++ (codes " lines " ++ (decimal size ++ codes " bytes\n")))
 
+-- the answer of `seal`: its line, and the sealed file under the name of the target
 abbrev pub sealing_answer : Key256 → Owner → List ℕ → Answer
 sealing_answer machine owner target =
     writes (sealed_text (length (sealed_lines_of owner)) (length (sealed_bytes machine owner)))
     target (sealed_bytes machine owner)
 
+-- the owner of this image, with its key and its id
 abbrev pub owner_with : PlainImage → Key256 → ImageId → Owner
 owner_with image key id = record { plain = image; key = key; id = id }
 

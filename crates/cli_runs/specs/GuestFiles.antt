@@ -25,6 +25,7 @@ guest_image_read (Err bad) = Err (BadByte bad)
 unfoldable pub guest_image_at : List ℕ → Result GuestImage InputFault
 guest_image_at bytes = guest_image_read (sealed_image_at bytes)
 
+-- the sealed image that a file holds, or why it can't be had
 unfoldable pub guest_image_of : Held → List ℕ → Result GuestImage Refusal
 guest_image_of = input_of sealed_limit guest_image_at
 

@@ -21,6 +21,7 @@ use Rattle.cli_runs.specs.declared.kernel_file.KernelFile.TheVariants as kernel
 abbrev pub script_limit : ℕ
 script_limit = 1048576
 
+-- the script that a file holds, or why it can't be had
 unfoldable pub script_of : Held → List ℕ → Result Script Refusal
 script_of = input_of script_limit (λ text. in_lines (script_at text))
 
@@ -31,6 +32,8 @@ abbrev pub kernel_image_at : ℕ → ℕ → PlainImage → Result PlainImage In
 kernel_image_at frames line image =
     if kernel_fits frames image then Ok image else Err (BadLine line)
 
+-- the kernel's image that a file holds; the line of the run file is bad where RAM has no room for
+-- it
 unfoldable pub kernel_image_of : Held → List ℕ → ℕ → ℕ → List ℕ → Result PlainImage Refusal
 kernel_image_of held run frames number name = do
   image ← image_of held name

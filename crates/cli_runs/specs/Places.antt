@@ -40,6 +40,7 @@ frame_behind frame (image ∷ images) = frame_behind (frame + frames_of_guest im
 abbrev pub kernel_limit : ℕ
 kernel_limit = 131072
 
+-- whether an image is short enough for a kernel's, and for RAM of so many frames
 abbrev pub kernel_fits : ℕ → PlainImage → Bool
 kernel_fits frames image =
     nat_le (length image.bytes) kernel_limit && nat_le (length image.bytes) (frames * frame_size)

@@ -29,6 +29,7 @@ is_built (kernel.Script name) = true
 is_built (kernel.Image name) = true
 is_built (kernel.Xomos pages) = false
 
+-- the run file, unless its kernel is one that isn't built
 abbrev pub built_at : RunFile → Result RunFile InputFault
 built_at file = if is_built file.kernel then Ok file else Err NotBuilt
 

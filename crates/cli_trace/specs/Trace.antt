@@ -52,12 +52,14 @@ abbrev pub last_under : {K : Type 0} → (K → View → Option (Turn × (List �
 last_under told k file first =
     unwrap_or (run_from shipped_versions told file.schedule file.budget 0 first k) first
 
+-- the machine after the run that a script or a kernel's image makes of a run file and its guests
 abbrev pub last_by : RunFile → List GuestImage → KernelFile → Record
 last_by file guests (kernel.Script script) =
     last_under script_told script.lines file (first_of file guests (kernel.Script script))
 last_by file guests (kernel.Image image) =
     last_under image_told tt file (first_of file guests (kernel.Image image))
 
+-- the machine after the run of all its parts
 unfoldable pub last_record : Parts → Record
 last_record parts = last_by parts.file parts.guests parts.kernel
 
@@ -67,6 +69,7 @@ report_of parts = judgement parts.file.machine parts.owners (last_record parts).
 
 -- ---- What is printed
 
+-- the name of a fault of the null instruction
 abbrev pub fault_word : NullFault → List ℕ
 fault_word null.Reserved = codes "Reserved"
 fault_word null.Overflow = codes "Overflow"
@@ -88,6 +91,8 @@ abbrev pub stop_text : Option (ℕ × NullFault) → List ℕ
 stop_text None = codes " halted\n"
 stop_text (Some (at, why)) = kernel_fault_text at why
 
+-- how a run ended, as the end of a line: the kernel halted or faulted, or else the budget was
+-- reached
 abbrev pub ending_text : Bool → Option (ℕ × NullFault) → List ℕ
 ending_text true fault = stop_text fault
 ending_text false fault = codes " budget\n"
@@ -103,6 +108,7 @@ abbrev pub stop_status : Option (ℕ × NullFault) → ℕ
 stop_status None = 0
 stop_status (Some fault) = 7
 
+-- the status of how a run ended
 abbrev pub ending_status : Bool → Option (ℕ × NullFault) → ℕ
 ending_status true fault = stop_status fault
 ending_status false fault = 6
@@ -134,6 +140,7 @@ answer_of_run journal report r =
           trace_status report r;
     }
 
+-- the answer of `trace`, of the run of these parts
 unfoldable pub trace_answer : Option (List ℕ) → Parts → Answer
 trace_answer journal parts = answer_of_run journal (report_of parts) (last_record parts)
 

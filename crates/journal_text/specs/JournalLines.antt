@@ -86,11 +86,13 @@ JournalLine = OfWords (λ last n words entry next. IsRow last words entry next)
 
 -- ---- the same as functions
 
+-- the bytes of a key, a message or a preimage: from one to so many
 unfoldable pub payload_of : ℕ → List ℕ → Option (List ℕ)
 payload_of most word = do
   bytes ← hex_within most word
   if nat_le 1 (length bytes) then Some bytes else None
 
+-- the number of an install from the first to the last
 unfoldable pub installed_of : ℕ → List ℕ → Option ℕ
 installed_of last word = do
   n ← numeral_of 10 word
@@ -102,11 +104,13 @@ next_install_of last word = do
   n ← numeral_of 10 word
   if n == last + 1 then Some n else None
 
+-- the number of a slot
 unfoldable pub slot_of_word : List ℕ → Option ℕ
 slot_of_word word = do
   n ← number_below_of 17 word
   if nat_le 1 n then Some n else None
 
+-- the words behind `install`
 unfoldable pub install_entry_of : ℕ → List (List ℕ) → Option Entry
 install_entry_of last (a ∷ s ∷ i ∷ p ∷ b ∷ l ∷ []) = do
   n ← next_install_of last a
@@ -118,6 +122,7 @@ install_entry_of last (a ∷ s ∷ i ∷ p ∷ b ∷ l ∷ []) = do
   Some (entry.Install n slot (record { 0 = id }) place begin lines)
 install_entry_of last other = None
 
+-- the words behind `step`: the install, and the fields of the step
 unfoldable pub step_entry_of : ℕ → List (List ℕ) → Option Entry
 step_entry_of last (a ∷ fields) = do
   n ← installed_of last a
@@ -133,11 +138,13 @@ named_cause_of name detail =
     (number_below_of (2 ^ 32) detail)
     else (if bytes_eq name (codes "fault") then option_map cause.Fault (fault_of detail) else None))
 
+-- the words of a cause, as a trap has it
 unfoldable pub cause_of : List (List ℕ) → Option Cause
 cause_of (name ∷ []) = if bytes_eq name (codes "interrupt") then Some cause.Interrupt else None
 cause_of (name ∷ detail ∷ []) = named_cause_of name detail
 cause_of other = None
 
+-- the words behind `trap`: the install, and the cause
 unfoldable pub trap_entry_of : ℕ → List (List ℕ) → Option Entry
 trap_entry_of last (a ∷ causes) = do
   n ← installed_of last a
@@ -145,6 +152,7 @@ trap_entry_of last (a ∷ causes) = do
   Some (entry.Trap n why)
 trap_entry_of last [] = None
 
+-- the words behind `seal`: the key of the tag, and the message
 unfoldable pub seal_entry_of : List (List ℕ) → Option Entry
 seal_entry_of (k ∷ m ∷ []) = do
   key ← payload_of 96 k
@@ -152,6 +160,7 @@ seal_entry_of (k ∷ m ∷ []) = do
   Some (entry.Seal key message)
 seal_entry_of other = None
 
+-- the words behind `accept`: the key of the tag, the message, and its address in RAM
 unfoldable pub accept_entry_of : List (List ℕ) → Option Entry
 accept_entry_of (k ∷ m ∷ p ∷ []) = do
   key ← payload_of 96 k
@@ -160,6 +169,7 @@ accept_entry_of (k ∷ m ∷ p ∷ []) = do
   Some (entry.Accept key message place)
 accept_entry_of other = None
 
+-- the words behind `hash`: a text, and its digest, which has to be right
 unfoldable pub hash_entry_of : List (List ℕ) → Option Entry
 hash_entry_of (p ∷ d ∷ []) = do
   preimage ← payload_of 260 p
@@ -179,10 +189,12 @@ named_rule_of name detail =
     else (if bytes_eq name (codes "RegisterMissing") then option_map rule.RegisterMissing
     (number_below_of (2 ^ 8) detail) else None)))
 
+-- the words of a rule: its name, and the line, level or register
 unfoldable pub rule_of : List (List ℕ) → Option Rule
 rule_of (name ∷ detail ∷ []) = named_rule_of name detail
 rule_of other = None
 
+-- the words behind `stop`: the install, and the rule
 unfoldable pub stop_entry_of : ℕ → List (List ℕ) → Option Entry
 stop_entry_of last (a ∷ rules) = do
   n ← installed_of last a
@@ -190,10 +202,12 @@ stop_entry_of last (a ∷ rules) = do
   Some (entry.Stop n why)
 stop_entry_of last [] = None
 
+-- the word behind `kill`: the install
 unfoldable pub kill_entry_of : ℕ → List (List ℕ) → Option Entry
 kill_entry_of last (a ∷ []) = option_map entry.Kill (installed_of last a)
 kill_entry_of last other = None
 
+-- the word behind `out`: the byte
 unfoldable pub out_entry_of : List (List ℕ) → Option Entry
 out_entry_of (b ∷ []) = option_map entry.Out (number_below_of 256 b)
 out_entry_of other = None
@@ -227,6 +241,7 @@ last_behind last (entry.Out byte) = last
 abbrev pub with_last : ℕ → Entry → Entry × ℕ
 with_last last e = (e, last_behind last e)
 
+-- the words of a line, as an entry and the number of the last install behind it
 unfoldable pub row_of_entry : ℕ → List (List ℕ) → Option (Entry × ℕ)
 row_of_entry last (name ∷ rest) = option_map (with_last last) (named_entry_of last name rest)
 row_of_entry last [] = None

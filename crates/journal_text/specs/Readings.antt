@@ -43,6 +43,7 @@ ReadOrBad false reading lines entries =
     Reads JournalLine 0 1 lines entries reading.last × (reading.lines ≡ length lines)
 ReadOrBad true reading lines entries = IsBadJournalLine lines reading.lines
 
+-- the reader has read these lines, which gave these entries, unless it says that one is bad
 abbrev pub HasRead : Reading → List (List ℕ) → List Entry → Type 0
 HasRead reading lines entries = ReadOrBad reading.bad reading lines entries
 

@@ -7,10 +7,11 @@ use Rattle.sha2.specs.Sha256.{sha256}
 abbrev pub hash_block_size : ℕ
 hash_block_size = 64
 
--- the byte of the inner pad, and that of the outer one (section 2.3)
+-- the byte of the inner pad (section 2.3)
 abbrev pub ipad : ℕ
 ipad = 0x36
 
+-- the byte of the outer pad (section 2.3)
 abbrev pub opad : ℕ
 opad = 0x5c
 

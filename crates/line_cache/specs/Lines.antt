@@ -9,6 +9,7 @@ pub record Holds (way : Way) (slot line : ℕ) : Type 0 where
   pub its_slot : way.slot ≡ slot
   pub its_line : way.line ≡ line
 
+-- the way at this place holds a line
 abbrev pub IsFilled : List Way → ℕ → Type 0
 IsFilled ways place = (way_at ways place).slot ≢ 0
 
@@ -29,6 +30,7 @@ pub record IsCache (cache : Cache) : Type 0 where
 abbrev pub IsFull : List Way → ℕ → Type 0
 IsFull ways line = (way : ℕ) → way < 4 → IsFilled ways (first_place line + way)
 
+-- the way at the place that a search found, if it found one
 abbrev pub way_found : List Way → Option ℕ → Option Way
 way_found ways (Some place) = Some (way_at ways place)
 way_found ways None = None

@@ -13,15 +13,19 @@ pub record Cache : Type 0 where
   pub ways : List Way
   pub pointers : List ℕ
 
+-- all ways free
 unfoldable pub no_ways : List Way
 no_ways = replicate 128 free_way
 
+-- every set's pointer names its first way
 unfoldable pub first_pointers : List ℕ
 first_pointers = replicate 32 0
 
+-- the cache in which nothing is held
 abbrev pub empty_cache : Cache
 empty_cache = record { ways = no_ways; pointers = first_pointers }
 
+-- the way at a place
 abbrev pub way_at : List Way → ℕ → Way
 way_at ways place = slice_index_or ways place free_way
 
@@ -39,9 +43,11 @@ place_of_line ways slot line = position (is_of slot line) ways
 abbrev pub first_place : ℕ → ℕ
 first_place line = 4 * (line % 32)
 
+-- the four ways in which a line may stand
 abbrev pub set_of : List Way → ℕ → List Way
 set_of ways line = slice_range ways (first_place line) (first_place line + 4)
 
+-- the way holds no line: its slot is 0
 abbrev pub is_free : Way → Bool
 is_free way = way.slot == 0
 
@@ -55,6 +61,7 @@ way_of_pointer pointers line = slice_index_or pointers (line % 32) 0 % 4
 
 -- ---- A new line
 
+-- the free way where there is one, else the one that the pointer names
 abbrev pub free_or_pointed : Option ℕ → ℕ → ℕ
 free_or_pointed (Some free) pointer = free
 free_or_pointed None pointer = pointer
@@ -64,6 +71,8 @@ abbrev pub place_for : List Way → List ℕ → ℕ → ℕ
 place_for ways pointers line =
     first_place line + free_or_pointed (free_in_set ways line) (way_of_pointer pointers line)
 
+-- the pointers after a new line: as they were where its set had a free way, else that of the set
+-- moves on
 abbrev pub moved_on : Option ℕ → List ℕ → ℕ → List ℕ
 moved_on (Some free) pointers line = pointers
 moved_on None pointers line =
@@ -89,6 +98,7 @@ abbrev pub victim_of : Way → Victim
 victim_of way =
     record { slot = way.slot; line = way.line; bytes = way.bytes; dirty = way.dirty }
 
+-- what is handed out of the way that a new line takes: nothing where the way was free
 abbrev pub pushed_out : Option ℕ → Way → Option Victim
 pushed_out (Some free) way = None
 pushed_out None way = Some (victim_of way)
@@ -104,13 +114,16 @@ victim_for cache line = pushed_out (free_in_set cache.ways line)
 abbrev pub way_with_bytes : Way → List ℕ → Way
 way_with_bytes way bytes = record way { bytes = bytes; dirty = true }
 
+-- the cache with another way at a place
 abbrev pub cache_with_way : Cache → ℕ → Way → Cache
 cache_with_way cache place way = record cache { ways = slice_set cache.ways place way }
 
+-- the cache with other bytes in the line at a place, which is dirty then
 abbrev pub cache_with_bytes : Cache → ℕ → List ℕ → Cache
 cache_with_bytes cache place bytes =
     cache_with_way cache place (way_with_bytes (way_at cache.ways place) bytes)
 
+-- a free way in place of one that holds a line of the slot
 abbrev pub free_if : ℕ → Way → Way
 free_if slot way = if way.slot == slot then free_way else way
 

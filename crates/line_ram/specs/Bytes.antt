@@ -2,10 +2,11 @@
 use Rattle.std.specs.Prelude.{ℕ, ◌+◌, ◌*◌, ◌≤◌, List, ◌++◌, length, take, drop}
 use Rattle.xom_base.specs.Frames.{frame_size}
 
--- how many bytes a line has, and how many lines a frame
+-- how many bytes a line has
 abbrev pub line_size : ℕ
 line_size = 32
 
+-- how many lines a frame has
 abbrev pub frame_lines : ℕ
 frame_lines = 128
 
@@ -29,10 +30,11 @@ HoldsRange ram address count = address + count ≤ length ram
 abbrev pub HoldsFrame : List ℕ → ℕ → Type 0
 HoldsFrame ram frame = HoldsRange ram (frame * frame_size) frame_size
 
--- where a frame has the ciphertext of its line of this index, and that line's tag of as many bytes
+-- where a frame has the ciphertext of its line of this index
 abbrev pub ciphertext_place : ℕ → ℕ → ℕ
 ciphertext_place frame index = frame * frame_size + line_size * index
 
+-- where a frame has the tag of its line of this index
 abbrev pub tag_place : ℕ → ℕ → ℕ
 tag_place frame index = frame * frame_size + tags_offset + line_size * index
 

@@ -51,6 +51,7 @@ abbrev pub word_bytes : Integer → Option (List ℕ)
 word_bytes n =
     where_holds (in_range 2147483648 4294967295 n) (to_be_bytes w32 (twos_complement 32 n))
 
+-- the four bytes of a value of `.word`, with the labels' places for their names
 unfoldable pub word_value : Labels → Value → Option (List ℕ)
 word_value labels v = value_number labels v >>= word_bytes
 
@@ -171,6 +172,7 @@ abbrev pub IsCode : ℕ → Option (List Ins) → List ℕ → Type 0
 IsCode place instructions bytes =
     (is : List Ins) × (place % 4 ≡ 0) × (instructions ≡ Some is) × AreWords is bytes
 
+-- the list of just this instruction
 abbrev pub one_instruction : Ins → List Ins
 one_instruction i = i ∷ []
 

@@ -22,6 +22,7 @@ first_fault line bad before [] = None
 first_fault line bad before (x ∷ xs) =
     if bad before x then Some (line x) else first_fault line bad (before ++ x ∷ []) xs
 
+-- the line in which a label or a statement stands
 abbrev pub statement_line : Placed → ℕ
 statement_line placed = placed.part.line
 
@@ -55,6 +56,7 @@ duplicate_line parts = first_fault (λ (part : Part). part.line) repeats [] part
 
 -- ---- TooLong: a byte past the limit
 
+-- the first line that writes a byte past the limit, or none
 abbrev pub too_long_line : List Placed → Option ℕ
 too_long_line placed = option_map statement_line (find is_too_long placed)
 
@@ -66,9 +68,11 @@ meets a b =
     (nat_lt 0 a.size && nat_lt 0 b.size) && (nat_lt a.place (b.place + b.size) && nat_lt b.place
     (a.place + a.size))
 
+-- it writes a byte that an earlier statement wrote
 abbrev pub overlaps : List Placed → Placed → Bool
 overlaps before placed = list_any (meets placed) before
 
+-- the first line that writes a byte for a second time, or none
 abbrev pub overlap_line : List Placed → Option ℕ
 overlap_line placed = first_fault statement_line overlaps [] placed
 
@@ -84,10 +88,12 @@ place_of (placed ∷ more) name =
 abbrev pub Labels : Type 0
 Labels = List ℕ → Option ℕ
 
+-- the value is the name of no label
 abbrev pub value_unknown : Labels → Value → Bool
 value_unknown labels (values.Number n) = false
 value_unknown labels (values.Label name) = is_none (labels name)
 
+-- a value in the operand is the name of no label
 abbrev pub argument_unknown : Labels → Argument → Bool
 argument_unknown labels (argument.Value v) = value_unknown labels v
 argument_unknown labels (argument.Offset v r) = value_unknown labels v
@@ -101,8 +107,10 @@ content_unknown labels (LoadAddress r name) = is_none (labels name)
 content_unknown labels (Instruction name arguments) = list_any (argument_unknown labels) arguments
 content_unknown labels _ = false
 
+-- the statement names a label that there isn't
 abbrev pub is_unknown : Labels → Placed → Bool
 is_unknown labels placed = content_unknown labels placed.part.content
 
+-- the first line that names a label that there isn't, or none
 abbrev pub unknown_line : Labels → List Placed → Option ℕ
 unknown_line labels placed = option_map statement_line (find (is_unknown labels) placed)

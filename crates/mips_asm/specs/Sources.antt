@@ -16,10 +16,12 @@ use Rattle.mips_asm.specs.Images.{IsOver, IsWritten, PlacedBytes, byte_over}
 
 -- ---- the entry
 
+-- it is an `.entry`
 abbrev pub entry_content : Content → Bool
 entry_content (Entry v) = true
 entry_content _ = false
 
+-- the statement is an `.entry`
 abbrev pub is_entry_statement : Placed → Bool
 is_entry_statement placed = entry_content placed.part.content
 

@@ -18,10 +18,11 @@ abbrev pub in_32 : ℤ → Option ℕ
 in_32 z =
     if int_le (pos 0 -ℤ pos (2 ^ 31)) z && int_lt z (pos (2 ^ 31)) then Some (number_modulo_word z) else None
 
--- the signed sum, and the signed difference
+-- the signed sum, where 32 bits hold it
 abbrev pub sum : ℕ → ℕ → Option ℕ
 sum s t = in_32 (signed_number s +ℤ signed_number t)
 
+-- the signed difference, where 32 bits hold it
 abbrev pub difference : ℕ → ℕ → Option ℕ
 difference s t = in_32 (signed_number s -ℤ signed_number t)
 
@@ -62,10 +63,11 @@ divided_unsigned s t = if t == 0 then writes.Pair s 0 else writes.Pair (s % t) (
 
 -- ---- Parts of words, where place 0 is a word's first byte, the highest
 
--- the byte at a place, and the half-word that begins there
+-- the byte at a place of a word
 abbrev pub byte_in_word : ℕ → ℕ → ℕ
 byte_in_word word place = word / 2 ^ (24 - 8 * place) % 2 ^ 8
 
+-- the half-word that begins at a place of a word
 abbrev pub half_of : ℕ → ℕ → ℕ
 half_of word place = word / 2 ^ (16 - 8 * place) % 2 ^ 16
 

@@ -122,6 +122,7 @@ abbrev pub number_of_seen : Seen → ℕ
 number_of_seen (Value v) = v
 number_of_seen Foreign = 0
 
+-- the cell isn't owned by who sees it
 abbrev pub is_foreign : Seen → Bool
 is_foreign (Value v) = false
 is_foreign Foreign = true
@@ -206,6 +207,7 @@ jumps written to following =
 abbrev pub way : Bool → ℕ → ℕ → ℕ
 way taken imm following = if taken then target following imm else next_address following
 
+-- a branch writes no register; it goes to the target where it is taken
 abbrev pub branches : Bool → ℕ → ℕ → Result Effect OwnFault
 branches taken imm following = jumps writes.Nothing (way taken imm following) following
 
@@ -266,6 +268,8 @@ at_word address wished following =
 -- ---- The instructions, of the values of rs, rt and rd and the address of the following
 -- instruction
 
+-- what each instruction does: in this mode, with these numbers in the cells that it reads, and with
+-- this address of the instruction behind it
 unfoldable pub act : Ins → Mode → ℕ → ℕ → ℕ → ℕ → Result Effect OwnFault
 act (Sll rd rt sa) mode s t d following = sets rd (t * 2 ^ sa % 2 ^ 32) following
 act (Srl rd rt sa) mode s t d following = sets rd (t / 2 ^ sa) following

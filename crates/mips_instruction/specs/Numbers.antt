@@ -6,20 +6,23 @@ use Rattle.std.specs.Int.{int_rem_euclid}
 
 -- ---- Signed numbers
 
--- numbers of 8, 16 and 32 bits with their sign
+-- a number of 8 bits with its sign
 abbrev pub signed_8 : ℕ → ℤ
 signed_8 n = if nat_lt n (2 ^ 7) then pos n else pos n -ℤ pos (2 ^ 8)
 
+-- a number of 16 bits with its sign
 abbrev pub signed_16 : ℕ → ℤ
 signed_16 n = if nat_lt n (2 ^ 15) then pos n else pos n -ℤ pos (2 ^ 16)
 
+-- a number of 32 bits with its sign
 abbrev pub signed_number : ℕ → ℤ
 signed_number n = if nat_lt n (2 ^ 31) then pos n else pos n -ℤ pos (2 ^ 32)
 
--- a whole number reduced to 32 bits, and to 64
+-- a whole number reduced to 32 bits
 abbrev pub number_modulo_word : ℤ → ℕ
 number_modulo_word z = unsigned_abs (int_rem_euclid z (pos (2 ^ 32)))
 
+-- a whole number reduced to 64 bits
 abbrev pub reduced_64 : ℤ → ℕ
 reduced_64 z = unsigned_abs (int_rem_euclid z (pos (2 ^ 64)))
 

@@ -204,31 +204,39 @@ pub record Word (i : Ins) (w : ℕ) : Type 0 where
 abbrev pub IsReserved : ℕ → Type 0
 IsReserved w = (i : Ins) → ¬ Word i w
 
--- the fields of a word
+-- bits 31 to 26: the operation
 abbrev pub op_of : ℕ → ℕ
 op_of w = w / 2 ^ 26
 
+-- bits 25 to 21: rs
 abbrev pub rs_of : ℕ → ℕ
 rs_of w = w / 2 ^ 21 % 2 ^ 5
 
+-- bits 20 to 16: rt
 abbrev pub rt_of : ℕ → ℕ
 rt_of w = w / 2 ^ 16 % 2 ^ 5
 
+-- bits 15 to 11: rd
 abbrev pub rd_of : ℕ → ℕ
 rd_of w = w / 2 ^ 11 % 2 ^ 5
 
+-- bits 10 to 6: the amount of a shift
 abbrev pub sa_of : ℕ → ℕ
 sa_of w = w / 2 ^ 6 % 2 ^ 5
 
+-- bits 5 to 0: the function
 abbrev pub function_of : ℕ → ℕ
 function_of w = w % 2 ^ 6
 
+-- bits 15 to 0: the immediate
 abbrev pub imm_of : ℕ → ℕ
 imm_of w = w % 2 ^ 16
 
+-- bits 25 to 6: the code of `syscall` and `break`
 abbrev pub code_field : ℕ → ℕ
 code_field w = w / 2 ^ 6 % 2 ^ 20
 
+-- bits 25 to 0: the index of a jump
 abbrev pub index_field : ℕ → ℕ
 index_field w = w % 2 ^ 26
 

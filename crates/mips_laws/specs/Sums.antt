@@ -47,6 +47,7 @@ pub record SetsDifference (i : Ins) (s t reg : ℕ) : Type 0 where
   pub sets : SetsOnly i s t reg number
   pub number_is : (number + t) % 2 ^ 32 ≡ s
 
+-- SUBU is the difference modulo 2^32
 abbrev pub SubuSubtractsModulo : Type 0
 SubuSubtractsModulo =
     (rd rs rt s t : ℕ) → s < 2 ^ 32 → t < 2 ^ 32 → SetsDifference (Subu rd rs rt) s t rd

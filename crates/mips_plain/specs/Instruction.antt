@@ -40,10 +40,12 @@ abbrev pub returns_to : Option (ℕ × ℕ) → Effect → Result Effect OwnFaul
 returns_to None effect = Err fault.Reserved
 returns_to (Some pair) effect = Ok (record effect { pc = pair.0; npc = pair.1 })
 
+-- an effect with the pair that it goes on at: the kept one, where it returns from a signal
 abbrev pub with_return : Option (ℕ × ℕ) → Effect → Wish → Result Effect OwnFault
 with_return kept effect wish.SigRet = returns_to kept effect
 with_return kept effect other = Ok effect
 
+-- an instruction that may have faulted already, with the pair that it goes on at
 abbrev pub with_kept_pair : Option (ℕ × ℕ) → Result Effect OwnFault → Result Effect OwnFault
 with_kept_pair kept (Err fault) = Err fault
 with_kept_pair kept (Ok effect) = with_return kept effect effect.wish
@@ -58,11 +60,12 @@ effect_at see kept (Ok ins) pc npc =
     (effect_of ins Guest (see (sources_of ins).0) (see (sources_of ins).1)
     (see (sources_of ins).2) pc npc)
 
--- the handler, and the kept pair, after a wish
+-- the handler after a wish
 abbrev pub handler_after : ℕ → Wish → ℕ
 handler_after handler (wish.Hand address) = address
 handler_after handler other = handler
 
+-- the kept pair after a wish: gone after the return from a signal
 abbrev pub kept_after : Option (ℕ × ℕ) → Wish → Option (ℕ × ℕ)
 kept_after kept wish.SigRet = None
 kept_after kept other = kept

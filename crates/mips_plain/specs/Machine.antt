@@ -51,11 +51,12 @@ start image = record {
 abbrev pub plain_cell_at : List PlainCell → ℕ → PlainCell
 plain_cell_at cells reg = slice_index_or cells reg Lent
 
--- what the program sees in a cell; $0 is zero
+-- what the program sees in a cell
 abbrev pub seen_in : PlainCell → Seen
 seen_in (Own value) = Value value
 seen_in Lent = Foreign
 
+-- what the program sees in a register; $0 is zero
 abbrev pub seen_of_cell : List PlainCell → ℕ → Seen
 seen_of_cell cells reg = if reg == 0 then Value 0 else seen_in (plain_cell_at cells reg)
 
@@ -71,6 +72,7 @@ with_lent cells released.Nothing = cells
 with_lent cells (released.Cell reg value) = slice_set cells reg Lent
 with_lent cells (released.Null address value) = cells
 
+-- the step ended the program
 abbrev pub is_exit : StepEnd → Bool
 is_exit ended.Exit = true
 is_exit other = false
@@ -105,6 +107,7 @@ state_after_signal s n = record s {
   kept = Some (s.pc, s.npc);
 }
 
+-- a signal is taken where it is one and the program is ready for it; else nothing changes
 abbrev pub signal_answered : State → ℕ → PlainStep × State
 signal_answered s n =
     if is_signal n && is_signal_ready s.handler s.kept

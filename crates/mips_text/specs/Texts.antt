@@ -25,9 +25,11 @@ operand_value pc (Branch imm) = pos (target (next_address pc) imm)
 operand_value pc (Jump index) = pos (jump_target (next_address pc) index)
 operand_value pc (Offset imm base) = signed_16 imm
 
+-- a register by its number
 abbrev pub register_text : ℕ → List ℕ
 register_text reg = codes "$" ++ decimal reg
 
+-- an address, or a word, with eight digits
 abbrev pub address_text : ℕ → List ℕ
 address_text address = codes "0x" ++ hex8 address
 
@@ -36,6 +38,7 @@ abbrev pub offset_text : (imm base : ℕ) → List ℕ
 offset_text imm base =
     signed_decimal (signed_16 imm) ++ (codes "(" ++ (register_text base ++ codes ")"))
 
+-- an operand of the instruction at address `pc`
 abbrev pub operand_text : ℕ → Operand → List ℕ
 operand_text pc (Register reg) = register_text reg
 operand_text pc (Shift amount) = decimal amount
@@ -74,6 +77,7 @@ abbrev pub read_text : Option Ins → (word pc : ℕ) → List ℕ
 read_text (Some ins) word pc = instruction_text ins pc
 read_text None word pc = codes ".word " ++ address_text word
 
+-- the line's text for a word at address `pc`
 abbrev pub word_text : (word pc : ℕ) → List ℕ
 word_text word pc = read_text (instruction_of_word word) word pc
 

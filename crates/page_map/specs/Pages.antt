@@ -2,6 +2,7 @@
 -- is the null compartment's, which has no private page; places 1 to 16 are the slots'.
 use Rattle.std.specs.Prelude.{ℕ, ◌≡◌, ◌≢◌, List, Option, None, length, replicate, slice_index_or, slice_set}
 
+-- for each compartment, for each of its pages, the frame or none
 abbrev pub Pages : Type 0
 Pages = List (List (Option ℕ))
 

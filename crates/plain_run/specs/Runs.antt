@@ -65,6 +65,7 @@ run_of_image image count values = run_from count (start image) values
 abbrev pub step_line : Step → List ℕ
 step_line step = step_fields step ++ 10 ∷ []
 
+-- why a run stopped, as its last line says it
 abbrev pub plain_end_text : PlainEnd → List ℕ
 plain_end_text ending.Ended = codes "ended"
 plain_end_text ending.Steps = codes "steps"

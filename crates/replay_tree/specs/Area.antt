@@ -11,6 +11,7 @@ unfoldable pub part_size : ℕ → ℕ
 part_size zero = 8
 part_size (suc level) = 32
 
+-- how many bytes a block of a level has
 abbrev pub tree_block_size : ℕ → ℕ
 tree_block_size level = 8 * part_size level
 

@@ -10,10 +10,11 @@ use Rattle.replay_tree.specs.Calls.{top_level}
 abbrev pub versions_to : ℕ → ℕ → List ℕ
 versions_to lines n = parts_joined (λ line. to_be_bytes w64 (start_version lines line)) n
 
--- the digests of the first blocks that RAM has at a level, and their texts
+-- the digests of the first blocks that RAM has at a level
 abbrev pub digests_in : ℕ → List ℕ → ℕ → ℕ → List ℕ
 digests_in area ram level n = parts_joined (λ i. digest_of level (block_in top_level area ram level i)) n
 
+-- the texts of the first blocks that RAM has at a level
 unfoldable pub texts_in : ℕ → List ℕ → ℕ → ℕ → List (List ℕ)
 texts_in area ram level zero = []
 texts_in area ram level (suc n) =

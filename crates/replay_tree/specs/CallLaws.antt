@@ -38,6 +38,7 @@ answered (Some level) answer number is = absurd (cc)
 start-fits : (lines line : ℕ) → start_version lines line < 2 ^ 64
 start-fits lines line = grind (arith, nat_tests)
 
+-- after a build the store stands for the start versions, and its blocks are in the journal
 pub build-stands : (top : ℕ) (entries : List Entry) (area lines : ℕ)
     → TreeStands top (in_area (Some area) (root_of top (start_version lines)))
     (with_hashes entries (texts_up_to top (start_version lines) top)) (start_version lines)
@@ -66,6 +67,7 @@ path-on_tree top area root journal numbers line ram is hashed low none seen fine
     (subst (AreHashed journal numbers top) first hashed)
     (is ∙ ap (λ i. digest_of top (node numbers top i)) first) fine
 
+-- a version that is answered is the line's number, unless two hashed texts have one digest
 pub version-told : (top : ℕ) (area : Option ℕ) (root : List ℕ) (entries : List Entry)
     (numbers : ℕ → ℕ) (line number : ℕ) (ram : List ℕ)
     → root ≡ root_of top numbers → AreHashed entries numbers top 0 → numbers line < 2 ^ 64
@@ -135,6 +137,7 @@ raises-found top area root journal numbers line ram is hashed fields low none se
           (next-fits (version_at_line top area line ram)) (fields at few);
     }
 
+-- a raise that is answered leaves a store that stands for the numbers with the line's raised
 pub raise-told : (top : ℕ) (area : Option ℕ) (root : List ℕ) (entries : List Entry)
     (numbers : ℕ → ℕ) (line number : ℕ) (ram : List ℕ)
     → root ≡ root_of top numbers → AreHashed entries numbers top 0
@@ -182,6 +185,7 @@ torn-root top (Some area) root line ram fault is = by_torn (torn_in top root are
 
 -- ---- RAM
 
+-- a raise keeps the length of RAM
 pub size-raised : (top : ℕ) (area : Option ℕ) (root : List ℕ) (line : ℕ) (ram : List ℕ)
     → IfSome area (λ at. HoldsRange ram at (area_length top)) → line < tree_lines top
     → length (ram_after_raise_in top area root line ram) ≡ length ram
@@ -195,6 +199,7 @@ size-raised top (Some area) root line ram held low = by_torn (torn_in top root a
         top ram held low (omega arith)
         (λ below few. length-block top area line below ram held low few)
 
+-- two roots of which a raise accepts both or neither leave the same RAM
 pub same-ram : (top : ℕ) (area : Option ℕ) (root other : List ℕ) (line : ℕ) (ram : List ℕ)
     → is_ok (version_answer top (raised_in top) area root line ram) ≡ is_ok
     (version_answer top (raised_in top) area other line ram)

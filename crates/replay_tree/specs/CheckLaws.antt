@@ -19,6 +19,7 @@ use Rattle.replay_tree.specs.NodeLaws.{child-index, digest-part, low-part, versi
 
 -- ---- Texts that stand in a journal as hashed
 
+-- each of the texts stands in the journal as hashed
 unfoldable pub AreIn : List Entry → List (List ℕ) → Type 0
 AreIn journal [] = Unit {0}
 AreIn journal (text ∷ texts) = Contains journal (hash_entry text) × AreIn journal texts
@@ -40,12 +41,14 @@ added-are_in entries (text ∷ texts) =
           (added-are_in (entries ++ hash ∷ []) texts),
     )
 
+-- of texts that all stand in the journal, so do those of the front part
 pub in-front : (journal : List Entry) (texts more : List (List ℕ)) → AreIn journal (texts ++ more)
     → AreIn journal texts
 unfolding AreIn
 in-front journal [] more within = tt
 in-front journal (text ∷ texts) more within = (within.0, in-front journal texts more within.1)
 
+-- of texts that all stand in the journal, so do those of the back part
 pub in-back : (journal : List Entry) (texts more : List (List ℕ)) → AreIn journal (texts ++ more)
     → AreIn journal more
 unfolding AreIn
@@ -126,6 +129,8 @@ unfolding AreHashed
 hashed-first entries numbers zero i hashed = hashed
 hashed-first entries numbers (suc level) i hashed = hashed.0
 
+-- where a check from a level down isn't torn, and the digest that it begins with is that of the
+-- tree's block, each block of the path below is the tree's, unless two hashed texts have one digest
 pub checked-path : (path : ℕ → List ℕ) (numbers : ℕ → ℕ) (line : ℕ) (journal : List Entry)
     (level : ℕ) (wanted : List ℕ)
     → NoCollision journal
@@ -167,6 +172,7 @@ number-found path numbers line is fits =
 
 -- ---- The block at the top is the first of its level
 
+-- a line below n times 8^(level + 1) is under one of the first n blocks of the level
 pub index-low : (level line n : ℕ) → line < 8 ^ (level + 1) * n → index_at level line < n
 unfolding index_at
 index-low zero line n low = grind arith
@@ -178,6 +184,7 @@ index-low (suc level) line n low =
     ∙ mul_assoc (8 ^ (level + 1)) 8 n in omega arith) in
     let j = index_at level line in grind arith
 
+-- every line of the tree is under the one block of the top level
 pub top-index : (top line : ℕ) → line < tree_lines top → index_at top line ≡ 0
 top-index top line low =
     let first : index_at top line < 1 = index-low top line 1 (omega arith) in omega arith

@@ -15,6 +15,7 @@ use Rattle.replay_tree.specs.PartLaws.{apart, alike, bytes-joined, joined-same, 
 length-version : (n : ℕ) → length (to_be_bytes w64 n) ≡ 8
 length-version n = refl
 
+-- a block of the tree has the size of its level
 pub length-node : (numbers : ℕ → ℕ) (level i : ℕ) → length (node numbers level i) ≡ tree_block_size level
 unfolding node part_size
 length-node numbers zero i =
@@ -26,6 +27,7 @@ length-node numbers (suc level) i =
 
 -- ---- Parts
 
+-- part k of a leaf is the version of its line k, in eight bytes
 pub part-leaf : (numbers : ℕ → ℕ) (i k : ℕ) → k < 8
     → bytes_at (node numbers 0 i) (8 * k) 8 ≡ to_be_bytes w64 (numbers (8 * i + k))
 unfolding node
@@ -33,6 +35,7 @@ part-leaf numbers i k low =
     bytes-joined (λ k. to_be_bytes w64 (numbers (8 * i + k))) 8 8 k
     (λ k low. length-version (numbers (8 * i + k))) low
 
+-- part k of a block above the leaves is the digest of its block k below
 pub part-above : (numbers : ℕ → ℕ) (level i k : ℕ) → k < 8
     → bytes_at (node numbers (suc level) i) (32 * k) 32 ≡ digest_of level
     (node numbers level (8 * i + k))
@@ -43,24 +46,29 @@ part-above numbers level i k low =
 
 -- ---- The path of a line
 
+-- the part that a line is under is one of eight
 pub low-part : (level line : ℕ) → part_at level line < 8
 unfolding part_at
 low-part zero line = grind arith
 low-part (suc level) line = grind arith
 
+-- a line's leaf and its part of it tell the line
 pub leaf-line : (line : ℕ) → 8 * index_at 0 line + part_at 0 line ≡ line
 unfolding index_at part_at
 leaf-line line = grind arith
 
+-- a line's block and its part of it tell the block of the level below
 pub child-index : (level line : ℕ)
     → 8 * index_at (suc level) line + part_at (suc level) line ≡ index_at level line
 unfolding index_at part_at
 child-index level line = let j = index_at level line in grind arith
 
+-- lines 8 i to 8 i + 7 have leaf i
 pub line-index : (i k : ℕ) → k < 8 → index_at 0 (8 * i + k) ≡ i
 unfolding index_at
 line-index i k low = grind arith
 
+-- blocks 8 i to 8 i + 7 have block i above them
 pub parent-index : (level line i k : ℕ) → k < 8 → index_at level line ≡ 8 * i + k
     → index_at (suc level) line ≡ i
 unfolding index_at
@@ -74,6 +82,7 @@ version-part numbers line =
     part-leaf numbers (index_at 0 line) (part_at 0 line) (low-part 0 line)
     ∙ ap (λ at. to_be_bytes w64 (numbers at)) (leaf-line line)
 
+-- a block's part over a line is the digest of that line's block one level below
 pub digest-part : (numbers : ℕ → ℕ) (level line : ℕ)
     → part_in (suc level) line (node numbers (suc level) (index_at (suc level) line)) ≡ digest_of
     level (node numbers level (index_at level line))
@@ -85,6 +94,7 @@ digest-part numbers level line =
 
 -- ---- What a block depends on
 
+-- a block depends only on the numbers of the lines under it
 pub node-same : (numbers others : ℕ → ℕ) (level i : ℕ)
     → ((line : ℕ) → index_at level line ≡ i → numbers line ≡ others line)
     → node numbers level i ≡ node others level i
@@ -105,6 +115,7 @@ pub other-number : (numbers : ℕ → ℕ) (line number at : ℕ) → at ≢ lin
 other-number numbers line number at differs =
     ap (λ b. if b then number else numbers at) (apart at line differs)
 
+-- the number that was set is the line's
 pub own-number : (numbers : ℕ → ℕ) (line number at : ℕ) → at ≡ line
     → with_version numbers line number at ≡ number
 own-number numbers line number at is = ap (λ b. if b then number else numbers at) (alike at line is)

@@ -7,6 +7,7 @@ use Rattle.std.proofs.Math.Nat.{mul-le-mul_left}
 use Rattle.line_ram.specs.Bytes.{bytes_at, ram_with_bytes}
 use Rattle.replay_tree.specs.Tree.{parts_joined}
 
+-- n parts of one size have n times that many bytes
 pub length-joined : (part : ℕ → List ℕ) (size n : ℕ) → ((i : ℕ) → i < n → length (part i) ≡ size)
     → length (parts_joined part n) ≡ size * n
 unfolding parts_joined
@@ -28,17 +29,20 @@ joined-same part other (suc n) same =
 
 -- ---- Ranges at the seam of two lists
 
+-- a range inside the first list is found there
 pub bytes-left : (xs ys : List ℕ) (address count : ℕ) → address + count ≤ length xs
     → bytes_at (xs ++ ys) address count ≡ bytes_at xs address count
 bytes-left xs ys address count within =
     ap (take count) (drop-append-le address xs ys (omega arith))
     ∙ take-append-le count (drop address xs) ys (omega (arith, length-drop address xs))
 
+-- the range behind the first list is the second
 pub bytes-right : (xs ys : List ℕ) (address count : ℕ) → length xs ≡ address → length ys ≡ count
     → bytes_at (xs ++ ys) address count ≡ ys
 bytes-right xs ys address count at long =
     ap (take count) (drop_at xs ys address at) ∙ take_all count ys (omega arith)
 
+-- a store inside the first list leaves the second
 pub stored-left : (xs ys bytes : List ℕ) (address : ℕ) → address + length bytes ≤ length xs
     → ram_with_bytes (xs ++ ys) address bytes ≡ ram_with_bytes xs address bytes ++ ys
 stored-left xs ys bytes address within =
@@ -49,6 +53,7 @@ stored-left xs ys bytes address within =
     ∙ ap (λ l. front ++ l) (sym (append_assoc bytes rest ys))
     ∙ sym (append_assoc front (bytes ++ rest) ys)
 
+-- a store over the whole second list leaves the first
 pub stored-right : (xs ys bytes : List ℕ) (address : ℕ) → length xs ≡ address
     → length bytes ≡ length ys → ram_with_bytes (xs ++ ys) address bytes ≡ xs ++ bytes
 stored-right xs ys bytes address at long =
@@ -59,10 +64,12 @@ stored-right xs ys bytes address at long =
 
 -- ---- The part of an index
 
+-- part k of n ends inside them
 pub part-fits : (size k n : ℕ) → k < n → size * k + size ≤ size * n
 part-fits size k n low =
     let more : size * (k + 1) ≤ size * n = mul-le-mul_left size (omega arith) in omega arith
 
+-- part k is found k sizes from the beginning
 pub bytes-joined : (part : ℕ → List ℕ) (size n k : ℕ) → ((i : ℕ) → i < n → length (part i) ≡ size)
     → k < n → bytes_at (parts_joined part n) (size * k) size ≡ part k
 unfolding parts_joined
@@ -81,9 +88,11 @@ bytes-joined part size (suc n) k whole low =
           n k (λ i few. whole i (omega arith)) below
     ]
 
+-- the test of two numbers that differ
 pub apart : (i k : ℕ) → ¬ (i ≡ k) → (i == k) ≡ false
 apart i k differs = grind (arith, nat_tests)
 
+-- the test of two numbers that are the same
 pub alike : (i k : ℕ) → i ≡ k → (i == k) ≡ true
 alike i k is = grind (arith, nat_tests)
 
@@ -91,6 +100,7 @@ alike i k is = grind (arith, nat_tests)
 abbrev pub with_at : (ℕ → List ℕ) → ℕ → List ℕ → ℕ → List ℕ
 with_at part k bytes i = if i == k then bytes else part i
 
+-- a store over part k leaves the parts with that one replaced
 pub stored-joined : (part : ℕ → List ℕ) (size n k : ℕ) (bytes : List ℕ)
     → ((i : ℕ) → i < n → length (part i) ≡ size) → k < n → length bytes ≡ size
     → ram_with_bytes (parts_joined part n) (size * k) bytes ≡ parts_joined (with_at part k bytes) n

@@ -30,10 +30,11 @@ part_in level line block = bytes_at block (part_offset level line) (part_size le
 abbrev pub with_part : ℕ → ℕ → List ℕ → List ℕ → List ℕ
 with_part level line block part = ram_with_bytes block (part_offset level line) part
 
--- where the block begins in the area, and what RAM has there
+-- where the block begins in the area
 abbrev pub path_offset : ℕ → ℕ → ℕ → ℕ
 path_offset top line level = block_offset top level (index_at level line)
 
+-- the block that RAM has on the path of a line, at a level
 abbrev pub path_in : ℕ → ℕ → List ℕ → ℕ → ℕ → List ℕ
 path_in top area ram line level = block_in top area ram level (index_at level line)
 

@@ -18,12 +18,14 @@ use Rattle.replay_tree.specs.CheckLaws.{index-low}
 abbrev pub area_length : ℕ → ℕ
 area_length top = level_offset top (top + 1)
 
+-- a level has as many bytes as its blocks together
 pub length-level : (top : ℕ) (numbers : ℕ → ℕ) (level : ℕ)
     → length (level_bytes top numbers level) ≡ tree_block_size level * width top level
 length-level top numbers level =
     length-joined (node numbers level) (tree_block_size level) (width top level)
     (λ i low. length-node numbers level i)
 
+-- the levels below one have as many bytes as stand before it in the area
 pub length-levels : (top : ℕ) (numbers : ℕ → ℕ) (n : ℕ)
     → length (parts_joined (level_bytes top numbers) n) ≡ level_offset top n
 unfolding parts_joined level_offset
@@ -33,11 +35,13 @@ length-levels top numbers (suc n) =
     ∙ (let before = length-levels top numbers n in let last = length-level top numbers n in
     omega arith)
 
+-- the bytes of a whole tree fill its area
 pub length-area : (top : ℕ) (numbers : ℕ → ℕ) → length (area_bytes top numbers) ≡ area_length top
 length-area top numbers = length-levels top numbers (top + 1)
 
 -- ---- The path
 
+-- a higher level begins no earlier
 pub offset-grows : (top level upper : ℕ) → level ≤ upper
     → level_offset top level ≤ level_offset top upper
 unfolding level_offset
@@ -50,6 +54,7 @@ offset-grows top level (suc upper) low = elim (eqb_tells level (suc upper)) [
       omega arith
 ]
 
+-- the block that a line is under is one of its level's
 pub index-within : (top line level : ℕ) → line < tree_lines top → level ≤ top
     → index_at level line < width top level
 index-within top line level low few =
@@ -63,6 +68,7 @@ next-offset : (top level : ℕ)
 unfolding level_offset
 next-offset top level = refl
 
+-- each block of a line's path lies inside the area
 pub path-within : (top line level : ℕ) → line < tree_lines top → level ≤ top
     → path_offset top line level + tree_block_size level ≤ area_length top
 path-within top line level low few =

@@ -44,6 +44,7 @@ same-area area other root also line ram same torn =
     → ram_after_raise_in top_level area root line ram ≡ ram_after_raise_in top_level at also line
     ram) same (same-ram top_level area root also line ram) torn
 
+-- the law of versions, of the tree
 pub tree_law : VersionLaw tree (TreeStands top_level)
 tree_law = record {
   builds = λ entries area lines ram few. build-stands top_level entries area lines;

@@ -35,6 +35,7 @@ free = record {
 unfoldable pub none_held : List Session
 none_held = replicate 17 free
 
+-- the session of a slot; the free one where there is no such place
 abbrev pub session_at : List Session → ℕ → Session
 session_at sessions slot = slice_index_or sessions slot free
 
@@ -45,6 +46,7 @@ is_live state.Running = true
 is_live state.Paused = true
 is_live other = false
 
+-- the slot's guest runs now
 abbrev pub is_running : SlotState → Bool
 is_running state.Running = true
 is_running other = false

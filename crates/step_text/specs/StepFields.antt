@@ -98,6 +98,7 @@ IsFault word kind = word ≡ own_fault_text kind
 
 -- ---- the same as functions, of a word its value or none
 
+-- the number of eight hexadecimal digits
 unfoldable pub hex8_of : List ℕ → Option ℕ
 hex8_of word = option_map (from_be_bytes w32) (hex_of 4 word)
 
@@ -105,9 +106,11 @@ hex8_of word = option_map (from_be_bytes w32) (hex_of 4 word)
 unfoldable pub text_after_name : List ℕ → List ℕ → Option (List ℕ)
 text_after_name name word = if starts_with nat_eq word name then Some (drop (length name) word) else None
 
+-- the number of eight hexadecimal digits behind a name
 unfoldable pub named_hex8_of : List ℕ → List ℕ → Option ℕ
 named_hex8_of name word = text_after_name name word >>= hex8_of
 
+-- the number of 32 bits behind a name
 unfoldable pub named_number_of : List ℕ → List ℕ → Option ℕ
 named_number_of name word = text_after_name name word >>= number_below_of (2 ^ 32)
 
@@ -119,6 +122,7 @@ pair_of word = do
   second ← hex8_of parts.1
   Some (first, second)
 
+-- two numbers of eight hexadecimal digits each behind a name
 unfoldable pub named_pair_of : List ℕ → List ℕ → Option (ℕ × ℕ)
 named_pair_of name word = text_after_name name word >>= pair_of
 
@@ -128,6 +132,7 @@ count_below_of bound word = do
   n ← number_below_of bound word
   if nat_le 1 n then Some n else None
 
+-- a register and its value: `rN=HEX8`
 unfoldable pub cell_of : List ℕ → Option (ℕ × ℕ)
 cell_of word = do
   rest ← text_after_name (codes "r") word
@@ -149,17 +154,19 @@ cell_or_pair_of name word =
     (option_map (λ cell. form.Cell cell.0 cell.1) (cell_of word))
     (option_map (λ pair. form.Pair pair.0 pair.1) (named_pair_of name word))
 
--- the same as WRITES, and as RELEASED
+-- what the form says as WRITES
 abbrev pub writes_by : CellOrPair → Writes
 writes_by form.Nothing = writes.Nothing
 writes_by (form.Cell reg value) = writes.One reg value
 writes_by (form.Pair first second) = writes.Pair first second
 
+-- what the form says as RELEASED
 abbrev pub released_by : CellOrPair → Released
 released_by form.Nothing = released.Nothing
 released_by (form.Cell reg value) = released.Cell reg value
 released_by (form.Pair first second) = released.Null first second
 
+-- what a step wrote: WRITES
 unfoldable pub writes_of : List ℕ → Option Writes
 writes_of word = option_map writes_by (cell_or_pair_of (codes "hl=") word)
 
@@ -171,15 +178,18 @@ bytes_at_of address word = do
   bytes ← hex_of count parts.1
   Some (stored.Bytes address count (number_of_bytes count bytes))
 
+-- bytes stored at an address: `HEX8+COUNT=HEX`
 unfoldable pub stored_bytes_of : List ℕ → Option Stored
 stored_bytes_of word = do
   parts ← cut_of 43 word
   address ← hex8_of parts.0
   bytes_at_of address parts.1
 
+-- what a step stored: STORED
 unfoldable pub stored_of : List ℕ → Option Stored
 stored_of word = if bytes_eq word (codes "-") then Some stored.Nothing else stored_bytes_of word
 
+-- what a step received: RECEIVED
 unfoldable pub received_word : List ℕ → Option Received
 received_word word =
     if bytes_eq word (codes "-") then Some received.Nothing
@@ -189,15 +199,18 @@ received_word word =
     (option_map (λ pair. received.Null pair.0 pair.1) (named_pair_of (codes "null=") word))
     (option_map received.Signal (named_number_of (codes "signal=") word)))
 
+-- what a step released: RELEASED
 unfoldable pub released_of : List ℕ → Option Released
 released_of word = option_map released_by (cell_or_pair_of (codes "null=") word)
 
+-- how a step ended: END
 unfoldable pub end_of_word : List ℕ → Option StepEnd
 end_of_word word =
     if bytes_eq word (codes "goes") then Some ended.Goes
     else (if bytes_eq word (codes "exit") then Some ended.Exit
     else option_map ended.Call (named_number_of (codes "call=") word))
 
+-- a step, of its words PC NPC WRITES STORED RECEIVED RELEASED END
 unfoldable pub step_of_words : List (List ℕ) → Option Step
 step_of_words (pc ∷ npc ∷ w ∷ s ∷ g ∷ r ∷ e ∷ []) = do
   pc ← hex8_of pc
@@ -219,6 +232,7 @@ step_of_words (pc ∷ npc ∷ w ∷ s ∷ g ∷ r ∷ e ∷ []) = do
   })
 step_of_words other = None
 
+-- a guest's own fault, by its name
 unfoldable pub fault_of : List ℕ → Option OwnFault
 fault_of word =
     if bytes_eq word (codes "Reserved") then Some fault.Reserved

@@ -3,5 +3,6 @@
 use Rattle.std.specs.Prelude.{ℕ, List}
 use Rattle.std.specs.Hash.FoldHasher.{initial, write, finish}
 
+-- what std's hasher gives of the bytes of a text
 unfoldable pub fingerprint_of : List ℕ → ℕ
 fingerprint_of text = finish (write initial text)

@@ -62,6 +62,7 @@ abbrev pub watch_of : Option Owner → Watch
 watch_of None = NoOwner
 watch_of (Some owner) = Runs (start owner.plain) 0
 
+-- what is known of an install after an entry that is a step of it or isn't
 abbrev pub watch_after : Watch → Option Step → Watch
 watch_after watch None = watch
 watch_after watch (Some step) = watch_after_step watch step
@@ -71,6 +72,7 @@ abbrev pub end_after : GuestEnd → ℕ → List Entry → GuestEnd
 end_after Running n more = guest_end_of n more
 end_after end n more = end
 
+-- the end after one more entry: the first end stays
 abbrev pub end_after_entry : GuestEnd → ℕ → Entry → GuestEnd
 end_after_entry Running n e = unwrap_or (end_in n e) Running
 end_after_entry end n e = end
@@ -128,6 +130,7 @@ next_guests owners gs (entry.Stop n rule) = guests_after gs n (entry.Stop n rule
 next_guests owners gs (entry.Kill n) = guests_after gs n (entry.Kill n)
 next_guests owners gs other = gs
 
+-- the entry is an Install
 abbrev pub IsInstall : Entry → Type 0
 IsInstall (entry.Install n slot id place begin lines) = Unit {0}
 IsInstall other = ⊥

@@ -20,11 +20,13 @@ report_rule_text (TreeNode level) = codes "TreeNode " ++ decimal level
 report_rule_text (RegisterTag reg) = codes "RegisterTag " ++ decimal reg
 report_rule_text (RegisterMissing reg) = codes "RegisterMissing " ++ decimal reg
 
+-- what the steps of a guest are to its owner's program
 abbrev pub verdict_text : Verdict → List ℕ
 verdict_text (Follows steps) = codes "follows " ++ (decimal steps ++ codes " steps")
 verdict_text (Departs step) = codes "departs at step " ++ decimal step
 verdict_text NoOwner = codes "no owner"
 
+-- how a guest ended, or that it is open
 abbrev pub guest_end_text : GuestEnd → List ℕ
 guest_end_text Ended = codes "ended"
 guest_end_text (Stopped rule) = codes "stopped " ++ report_rule_text rule
@@ -39,10 +41,12 @@ guest_line_text line =
     ++ (codes " " ++ (verdict_text line.verdict
     ++ (codes " " ++ (guest_end_text line.end ++ 10 ∷ [])))))))))
 
+-- the line on the first tag that was accepted for bytes never sealed
 abbrev pub forged_text : Option ℕ → List ℕ
 forged_text None = codes "forged none" ++ 10 ∷ []
 forged_text (Some n) = codes "forged at entry " ++ (decimal n ++ 10 ∷ [])
 
+-- the line on the first two hashed texts with one digest
 abbrev pub collision_text : Option (ℕ × ℕ) → List ℕ
 collision_text None = codes "collision none" ++ 10 ∷ []
 collision_text (Some pair) =

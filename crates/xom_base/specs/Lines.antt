@@ -175,6 +175,8 @@ abbrev pub FaultsLine : {S X : Type 0} → Option (Option X × S) → LineFault 
 FaultsLine step line_fault.Bad = step ≡ None
 FaultsLine step line_fault.NoMemory = Unit {0}
 
+-- What a reader may answer of a line and leave as its state, where the definition gives this value
+-- and state, or calls the line bad.
 abbrev pub AnswersLine : {S X : Type 0} → Option (Option X × S) → Result (Option X) LineFault → S
     → Type 0
 AnswersLine step (Ok value) next = step ≡ Some (value, next)

@@ -12,17 +12,20 @@ use Rattle.xom_base.specs.declared.step.StepEnd.{StepEnd}
 use Rattle.xom_base.specs.declared.step.StepEnd.TheVariants as ended
 use Rattle.xom_base.specs.declared.step.Step.{Step}
 
+-- both write the same cells and values
 abbrev pub same_writes : Writes → Writes → Bool
 same_writes writes.Nothing writes.Nothing = true
 same_writes (writes.One r v) (writes.One s w) = (r == s) && (v == w)
 same_writes (writes.Pair g k) (writes.Pair h l) = (g == h) && (k == l)
 same_writes a b = false
 
+-- both store the same bytes at the same address
 abbrev pub same_stored : Stored → Stored → Bool
 same_stored stored.Nothing stored.Nothing = true
 same_stored (stored.Bytes x m v) (stored.Bytes y n w) = (x == y) && ((m == n) && (v == w))
 same_stored a b = false
 
+-- both receive the same value from the same place
 abbrev pub same_received : Received → Received → Bool
 same_received received.Nothing received.Nothing = true
 same_received (received.Cell v) (received.Cell w) = v == w
@@ -30,12 +33,14 @@ same_received (received.Null x v) (received.Null y w) = (x == y) && (v == w)
 same_received (received.Signal m) (received.Signal n) = m == n
 same_received a b = false
 
+-- both release the same value to the same place
 abbrev pub same_released : Released → Released → Bool
 same_released released.Nothing released.Nothing = true
 same_released (released.Cell r v) (released.Cell s w) = (r == s) && (v == w)
 same_released (released.Null x v) (released.Null y w) = (x == y) && (v == w)
 same_released a b = false
 
+-- both end alike
 abbrev pub same_end : StepEnd → StepEnd → Bool
 same_end ended.Goes ended.Goes = true
 same_end (ended.Call m) (ended.Call n) = m == n

@@ -31,9 +31,11 @@ pub record Printed : Type 0 where
   pub file : Option OutputFile
   pub status : ℕ
 
+-- what is printed of words that no command has: the line that lists the commands, with status 1
 abbrev pub printed_words : Printed
 printed_words = record { text = words_line; file = None; status = 1 }
 
+-- what is printed of an answer, or of a refusal
 abbrev pub printed_text : Result Answer Refusal → Printed
 printed_text (Ok answer) = record { text = answer.text; file = answer.file; status = answer.status }
 printed_text (Err refusal) = record {
@@ -43,6 +45,7 @@ printed_text (Err refusal) = record {
       refusal_status refusal;
 }
 
+-- what is printed of words that match a row, or none
 abbrev pub IsPrintedBy : Option Row → Held → Printed → Type 0
 IsPrintedBy None held p = p ≡ printed_words
 IsPrintedBy (Some row) held p =

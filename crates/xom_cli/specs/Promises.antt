@@ -214,6 +214,8 @@ pub record IsJudged (held : Held) (before after : Outside) (run journal : List �
   pub prints : Appends before.output.written after.output.written
       (report_text (judgement file.machine owners entries))
 
+-- where `judge` was carried out over files that tell what they hold, `IsJudged` says what it
+-- printed
 abbrev pub JudgesJournal : List (List ℕ) → Outside → Outside → ℕ → Type 0
 JudgesJournal words before after status = (held : Held) → before.disk.held ≡ Some held
     → (run journal : List ℕ) → row_of_words words ≡ Some (Judge run journal) → IsDone status

@@ -7,6 +7,7 @@ use Rattle.xom_base.specs.declared.key.ImageId.{ImageId}
 use Rattle.xom_base.specs.declared.key.Key256.{Key256}
 use Rattle.xom_base.specs.Options.{◌>>=◌}
 
+-- a command with what its words say
 pub data Row : Type 0 where
   -- assembles a source, and writes its plain image
   Asm : (source : List ℕ) → (image : List ℕ) → Row
@@ -44,13 +45,14 @@ seal_row image key id machine sealed = do
   machine ← hex_of 32 machine
   Some (Seal image (record { 0 = key }) (record { 0 = id }) (record { 0 = machine }) sealed)
 
--- the rows of a command with one word, with two, with three and with five
+-- the row of a command with one word behind it
 abbrev pub row_of_one : List ℕ → List ℕ → Option Row
 row_of_one command a =
     if bytes_eq command (codes "disasm") then Some (Disasm a)
     else (if bytes_eq command (codes "run") then Some (Run a)
     else (if bytes_eq command (codes "trace") then Some (Trace a None) else None))
 
+-- the row of a command with two words behind it
 abbrev pub row_of_two : List ℕ → List ℕ → List ℕ → Option Row
 row_of_two command a b =
     if bytes_eq command (codes "asm") then Some (Asm a b)
@@ -59,10 +61,12 @@ row_of_two command a b =
     else (if bytes_eq command (codes "judge") then Some (Judge a b)
     else (if bytes_eq command (codes "debug") then Some (Debug a b) else None))))
 
+-- the row of a command with three words behind it
 abbrev pub row_of_three : List ℕ → List ℕ → List ℕ → List ℕ → Option Row
 row_of_three command a b c =
     if bytes_eq command (codes "plain") then plain_row a b (Some c) else None
 
+-- the row of a command with five words behind it
 abbrev pub row_of_five : List ℕ → List ℕ → List ℕ → List ℕ → List ℕ → List ℕ → Option Row
 row_of_five command a b c d e = if bytes_eq command (codes "seal") then seal_row a b c d e else None
 

@@ -4,6 +4,7 @@ use Rattle.xom_cli.specs.declared.row.Row.{Row}
 use Rattle.xom_cli.specs.declared.row.Row.TheVariants as row
 use Rattle.xom_cli.specs.Rows.{Row as RowOfWords, Asm, Disasm, Plain, Seal, Run, Trace, Judge, Debug}
 
+-- a row of the code as one of the definitions: strings as their bytes
 abbrev pub row_of_words_of : Row → RowOfWords
 row_of_words_of (row.Asm source image) = Asm (string_bytes source.now) (string_bytes image.now)
 row_of_words_of (row.Disasm image) = Disasm (string_bytes image.now)

@@ -41,33 +41,40 @@ CommandKeepsRules (command.Ram address count) = count ≤ 64
 
 -- ---- the same as a function, by the number of words
 
+-- the command `step COUNT`
 unfoldable pub step_command : List ℕ → Option Command
 step_command count = do
   count ← number_of_word count
   Some (command.Step count)
 
+-- the command `until trap`
 unfoldable pub until_command : List ℕ → Option Command
 until_command event = if bytes_eq event (codes "trap") then Some command.UntilTrap else None
 
+-- the command `reg R`, of a register from 1 to 33
 unfoldable pub reg_command : List ℕ → Option Command
 reg_command reg = do
   reg ← number_below_of 34 reg
   if nat_le 1 reg then Some (command.Reg reg) else None
 
+-- the command `slot S`, of a slot from 1 to 16
 unfoldable pub slot_command : List ℕ → Option Command
 slot_command slot = do
   slot ← number_below_of 17 slot
   if nat_le 1 slot then Some (command.Slot slot) else None
 
+-- the command `ram ADDRESS COUNT`, of at most 64 bytes
 unfoldable pub ram_command : List ℕ → List ℕ → Option Command
 ram_command address count = do
   address ← number_below_of (2 ^ 32) address
   count ← number_below_of 65 count
   Some (command.Ram address count)
 
+-- the command that has no word behind its name
 unfoldable pub command_of_one : List ℕ → Option Command
 command_of_one name = if bytes_eq name (codes "last") then Some command.Last else None
 
+-- the commands with one word behind their name
 unfoldable pub command_of_two : List ℕ → List ℕ → Option Command
 command_of_two name a =
     if bytes_eq name (codes "step") then step_command a
@@ -75,6 +82,7 @@ command_of_two name a =
     else (if bytes_eq name (codes "reg") then reg_command a
     else (if bytes_eq name (codes "slot") then slot_command a else None)))
 
+-- the command with two words behind its name
 unfoldable pub command_of_three : List ℕ → List ℕ → List ℕ → Option Command
 command_of_three name a b = if bytes_eq name (codes "ram") then ram_command a b else None
 
@@ -85,6 +93,7 @@ command_of (name ∷ a ∷ []) = command_of_two name a
 command_of (name ∷ a ∷ b ∷ []) = command_of_three name a b
 command_of other = None
 
+-- a line of a file of commands, as the loop over lines takes it
 abbrev pub command_step : LineStep (Unit {0}) Command
 command_step = rows_step command_of
 

@@ -42,6 +42,7 @@ op_word op.Halt = codes "halt"
 abbrev pub range_text : ℕ → ℕ → List ℕ
 range_text address count = decimal address ++ (codes " " ++ decimal count)
 
+-- an event: what it is, and the operation, or the address and the length of a write
 abbrev pub event_text : Event → List ℕ
 event_text (event.Do op) = codes "do " ++ op_word op
 event_text (event.Write address count) = codes "write " ++ range_text address count
@@ -49,6 +50,7 @@ event_text event.Null = codes "null"
 event_text (event.Guest interrupt) = codes "guest"
 event_text (event.Poke address count) = codes "poke " ++ range_text address count
 
+-- an event with its number, as a line
 abbrev pub noted_line : Noted → List ℕ
 noted_line noted = decimal noted.number ++ (codes " " ++ (event_text noted.event ++ codes "\n"))
 
@@ -73,6 +75,7 @@ abbrev pub cell_text : Option ℕ → ℕ → List ℕ
 cell_text (Some value) tag = codes "null " ++ hex8 value
 cell_text None tag = codes "slot " ++ decimal tag
 
+-- a register and what is seen in its cell, as a line
 abbrev pub cell_line : ℕ → Cell → List ℕ
 cell_line reg cell =
     codes "$" ++ (decimal reg ++ (codes " " ++ (cell_text (open_cell cell) cell.tag ++ codes "\n")))
@@ -86,6 +89,7 @@ state_word state.Paused = codes "Paused"
 state_word state.Ended = codes "Ended"
 state_word (state.Stopped rule) = codes "Stopped"
 
+-- the state and the epoch of a slot, as a line
 abbrev pub slot_line : ℕ → SlotView → List ℕ
 slot_line slot shown =
     codes "slot "
@@ -96,9 +100,11 @@ slot_line slot shown =
 abbrev pub byte_at : View → ℕ → ℕ
 byte_at view address = if nat_lt address (2 ^ 32) then unwrap_or (ram_byte view address) 0 else 0
 
+-- so many bytes of RAM from an address on
 abbrev pub bytes_from : View → ℕ → ℕ → List ℕ
 bytes_from view address count = map (byte_at view) (range_with_len address count)
 
+-- these bytes in hexadecimal, as a line
 abbrev pub ram_line : View → ℕ → ℕ → List ℕ
 ram_line view address count = encode_lower (bytes_from view address count) ++ codes "\n"
 
@@ -121,6 +127,7 @@ pub record Place : Type 0 where
   pub view : View
   pub rest : List Moment
 
+-- the place with these events, this view and these moments
 abbrev pub place : List Event → View → List Moment → Place
 place past view rest = record { past = past; view = view; rest = rest }
 

@@ -22,6 +22,7 @@ pub record Moment : Type 0 where
 
 -- ---- A guest that leaves
 
+-- the event is one of the guest that runs
 abbrev pub is_guest : Event → Bool
 is_guest (event.Guest interrupt) = true
 is_guest (event.Do op) = false

@@ -32,6 +32,7 @@ without_guest core slot =
           without_pages core.pages slot;
     }
 
+-- the core after a slot's guest left for good, in this last state
 abbrev pub after_leaving : CoreState → ℕ → SlotState → CoreState
 after_leaving core slot final =
     core_with_session (without_guest core slot) slot (session_after_leaving (session_of core slot) final)
@@ -102,6 +103,7 @@ module _ (v : Versions) where
   after_victim core way false = (core, None)
   after_victim core way true = or_stopped way.slot (write_back core way.slot way.line way.bytes)
 
+  -- the line at a place is written back, if it is dirty
   unfoldable pub cleared_at : CoreState → ℕ → CoreState × Option Rule
   cleared_at core place = after_victim core (way_at core.ways place) (way_at core.ways place).dirty
 
@@ -133,6 +135,7 @@ module _ (v : Versions) where
       reach_after_placing (with_entry core (accept_entry (who_of core slot) line version ct place))
       slot line bytes
 
+  -- a line is read from its frame and opened under this version
   abbrev pub read_from : CoreState → ℕ → ℕ → ℕ → ℕ → CoreState × Reach
   read_from core slot line frame version =
       let sealed = sealed_at core.ram frame line in
@@ -155,6 +158,7 @@ module _ (v : Versions) where
       brought (core_with_hashes core (v.texts_of_version (store_of core slot) line core.ram)) slot
       line frame (v.answer_of_version (store_of core slot) line core.ram)
 
+  -- a line of a page that isn't mapped can't be reached
   abbrev pub reach_in_frame : CoreState → ℕ → ℕ → Option ℕ → CoreState × Reach
   reach_in_frame core slot line None = (core, reach.PageFault (page_of line))
   reach_in_frame core slot line (Some frame) =

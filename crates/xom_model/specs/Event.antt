@@ -33,10 +33,12 @@ fits r (event.Write address count) =
     not r.halted && (is_none (running_slot r) && nat_le count chunk_size)
 fits r (event.Poke address count) = not r.halted && nat_le count chunk_size
 
+-- the operation is Halt
 abbrev pub is_halt : Op → Bool
 is_halt Halt = true
 is_halt other = false
 
+-- what an operation comes to for who drives the machine: it goes on, unless it was Halt
 abbrev pub outcome_of : Op → Outcome
 outcome_of Halt = outcome.Halted
 outcome_of other = outcome.Went
@@ -54,13 +56,15 @@ ran_on r slot (core, None) = (record r { core = core; events = r.events + 1 }, o
 ran_on r slot (core, Some why) =
     (record r { core = core; cause = why; who = slot; events = r.events + 1 }, outcome.Left why)
 
--- what null code is told, and what it may change
+-- what null code is told
 abbrev pub told_in : Record → Told
 told_in r = record { status = r.status; cause = r.cause; who = r.who }
 
+-- what null code may change: the cells, RAM and the null pair
 abbrev pub open_in : Record → Open
 open_in r = record { cells = r.core.cells; ram = r.core.ram; pc = r.pc; npc = r.npc }
 
+-- the record with that part changed
 abbrev pub with_open : Record → Open → Record
 with_open r s = record r {
   core = record r.core { cells = s.cells; ram = s.ram };
@@ -69,6 +73,7 @@ with_open r s = record r {
       s.npc;
 }
 
+-- the record after an event that changed RAM alone
 abbrev pub with_ram : Record → List ℕ → Record
 with_ram r ram = record r { core = record r.core { ram = ram }; events = r.events + 1 }
 
@@ -83,6 +88,7 @@ after_kernel_write r address bytes = (
 )
 
 module _ (v : Versions) where
+  -- the event of the guest that runs, if one runs
   abbrev pub guest_turn : Record → Bool → Option ℕ → Record × Outcome
   guest_turn r interrupt None = (r, outcome.Went)
   guest_turn r interrupt (Some slot) = ran_on r slot (guest v r.core slot interrupt)
@@ -97,6 +103,7 @@ module _ (v : Versions) where
   null_asked r at (Ok None) = (record r { events = r.events + 1 }, outcome.Went)
   null_asked r at (Ok (Some op)) = after_operation r op (operation v r.core op)
 
+  -- the event of null code, of what its instruction left and asked for
   abbrev pub null_turn : Record → Answer → Record × Outcome
   null_turn r answer = null_asked (with_open r answer.0) r.pc answer.1
 

@@ -39,10 +39,11 @@ use Rattle.line_cache.specs.Ways.{way_at, way_with_bytes}
 use Rattle.xom_model.specs.State.{CoreState, core_with_session, line_of_address, ram_holds_range, session_of, with_entry}
 use Rattle.xom_model.specs.Access.{access, after_leaving}
 
--- what a slot's guest sees in a cell: the value where the cell has the slot's tag; $0 is zero
+-- what a slot's guest sees in a cell: the value where the cell has the slot's tag
 abbrev pub seen_as : ℕ → Cell → Seen
 seen_as slot cell = if cell.tag == slot then Value cell.value else Foreign
 
+-- what a slot's guest sees in a register; $0 is zero
 abbrev pub seen_by : ℕ → List Cell → ℕ → Seen
 seen_by slot cells reg = if reg == 0 then Value 0 else seen_as slot (cell_at cells reg)
 
@@ -50,11 +51,11 @@ seen_by slot cells reg = if reg == 0 then Value 0 else seen_as slot (cell_at cel
 abbrev pub null_word : List ℕ → ℕ → ℕ
 null_word ram address = if ram_holds_range ram address 4 then word_at_address ram address else 0
 
--- what comes from outside: the value of a cell of the null compartment, and 0 of any other's; or a
--- word of RAM
+-- the value of a cell of the null compartment, and 0 of any other's
 abbrev pub open_value : Cell → ℕ
 open_value cell = if cell.tag == 0 then cell.value else 0
 
+-- the value that a wish receives from the null compartment: from a cell or from RAM
 abbrev pub received_by : List Cell → List ℕ → Wish → ℕ
 received_by cells ram (wish.Receive reg from) = open_value (cell_at cells from)
 received_by cells ram (wish.NullLoad reg address) = null_word ram address
@@ -83,17 +84,19 @@ with_release cells (released.Null address value) = cells
 abbrev pub cells_after_step : ℕ → List Cell → Step → List Cell
 cells_after_step slot cells step = with_release (with_writes slot cells step.writes) step.released
 
--- the cells that the guest owns after what it wrote and released
+-- the mask with the cells that were written
 abbrev pub mask_written : ℕ → Writes → ℕ
 mask_written mask writes.Nothing = mask
 mask_written mask (writes.One reg value) = mask_with_cell mask reg
 mask_written mask (writes.Pair hi lo) = mask_with_cell (mask_with_cell mask 32) 33
 
+-- the mask without a cell that was released
 abbrev pub mask_released : ℕ → Released → ℕ
 mask_released mask released.Nothing = mask
 mask_released mask (released.Cell reg value) = without_cell mask reg
 mask_released mask (released.Null address value) = mask
 
+-- the cells that the guest owns after what a step wrote and released
 abbrev pub mask_after : ℕ → Step → ℕ
 mask_after mask step = mask_released (mask_written mask step.writes) step.released
 
@@ -135,10 +138,11 @@ abbrev pub after_retirement : CoreState → ℕ → ℕ → Effect → Step → 
 after_retirement core slot place effect step =
     core_after_step core slot place (session_after_step (session_of core slot) effect step) step
 
--- a signal is delivered: its step keeps the pair and goes to the handler
+-- the step of a signal that is delivered
 abbrev pub signal_of : Session → ℕ → Step
 signal_of s n = signal_step s.pc s.npc n
 
+-- the session after a signal: its pair is kept, and it goes on at its handler
 abbrev pub session_after_signal : Session → ℕ → Session
 session_after_signal s n = record s {
   pc = s.handler;
@@ -148,6 +152,7 @@ session_after_signal s n = record s {
   saved = Some (s.pc, s.npc);
 }
 
+-- the core after a signal was delivered to a slot's guest
 abbrev pub after_delivery : CoreState → ℕ → ℕ → CoreState
 after_delivery core slot n =
     core_after_step core slot 0 (session_after_signal (session_of core slot) n)
@@ -224,6 +229,8 @@ module _ (v : Versions) where
       effect_at (seen_by slot core.cells) (session_of core slot).saved
       (instruction_or_fault (instruction_of_word word)) (session_of core slot).pc (session_of core slot).npc
 
+  -- the event of a guest, of what fetching its instruction came to: a line, an unmapped page, or a
+  -- stop
   abbrev pub code_reached : ℕ → Bool → CoreState × Reach → CoreState × Option Cause
   code_reached slot interrupt (core, reach.PageFault page) = after_trap core slot (cause.Page page)
   code_reached slot interrupt (core, reach.Stopped why) = (core, Some (cause.Stopped why))

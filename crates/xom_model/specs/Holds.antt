@@ -58,9 +58,11 @@ was_entered state.Running = true
 was_entered state.Paused = true
 was_entered other = false
 
+-- the slot holds a guest that may run on
 abbrev pub IsLive : CoreState → ℕ → Type 0
 IsLive core slot = is_live (session_of core slot).state ≡ true
 
+-- the slot's guest runs now
 abbrev pub IsRunning : CoreState → ℕ → Type 0
 IsRunning core slot = (session_of core slot).state ≡ state.Running
 
@@ -236,6 +238,7 @@ pub record RunningHolds (core : CoreState) : Type 0 where
   pub tagged : (slot reg : ℕ) → IsRunning core slot → 1 ≤ reg → reg < 34
       → bit_at (session_of core slot).mask reg ≡ 1 → (cell_at core.cells reg).tag ≡ slot
 
+-- all that the machine keeps between events
 pub record Holds (Stands : StandsFor) (owners : List Owner) (core : CoreState) : Type 0 where
   pub slots : SlotsHold Stands owners core
   pub running : RunningHolds core

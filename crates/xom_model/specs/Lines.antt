@@ -26,9 +26,11 @@ pub record Who : Type 0 where
   pub key : Key256
   pub lines : ℕ
 
+-- of the session of a guest, in a run of this boot number
 abbrev pub who_in : ℕ → Session → Who
 who_in boot s = record { boot = boot; install = s.install; id = s.id; key = s.key; lines = s.lines }
 
+-- of the guest in a slot
 abbrev pub who_of : CoreState → ℕ → Who
 who_of core slot = who_in core.boot (session_of core slot)
 
@@ -38,13 +40,16 @@ who_of core slot = who_in core.boot (session_of core slot)
 abbrev pub is_image_at : Who → ℕ → ℕ → Bool
 is_image_at who line version = nat_lt line who.lines && (version == 1)
 
+-- the name of a line that the machine itself sealed
 abbrev pub run_name : Who → ℕ → ℕ → LineName
 run_name who line version = Run who.boot who.install line version
 
+-- the name of a line under a version: that of the image, or that of the run
 abbrev pub line_name_of : Who → ℕ → ℕ → LineName
 line_name_of who line version =
     if is_image_at who line version then Image who.id line else run_name who line version
 
+-- the keys of a line under a version: the image's, or those of the run
 abbrev pub keys_of : Who → ℕ → ℕ → LineKeys
 keys_of who line version =
     if is_image_at who line version then image_keys who.key who.id else run_keys who.key who.boot
@@ -59,11 +64,13 @@ sealed_as who line version bytes =
 abbrev pub message_as : Who → ℕ → ℕ → List ℕ → List ℕ
 message_as who line version ct = line_message (line_name_of who line version) ct
 
+-- the journal's entry of a line that was sealed
 abbrev pub seal_entry : Who → ℕ → ℕ → List ℕ → Entry
 seal_entry who line version bytes =
     entry.Seal (keys_of who line version).tag.0
     (message_as who line version (sealed_as who line version bytes).ct)
 
+-- the journal's entry of a line whose tag in RAM was right
 abbrev pub accept_entry : Who → ℕ → ℕ → List ℕ → ℕ → Entry
 accept_entry who line version ct place =
     entry.Accept (keys_of who line version).tag.0 (message_as who line version ct) place
@@ -101,6 +108,7 @@ with_sealed ram (Some frame) line sealed = ram_with_line ram frame (index_in_fra
 
 -- ---- Versions, counted in a journal's Seals
 
+-- the Seal is one of this line of this install
 abbrev pub names_line : ℕ → ℕ → Sealing → Bool
 names_line install line sealing = names_run_line install line sealing.1
 
@@ -108,6 +116,7 @@ names_line install line sealing = names_run_line install line sealing.1
 abbrev pub line_seals : ℕ → ℕ → List Sealing → List Sealing
 line_seals install line seals = filter (names_line install line) seals
 
+-- the Seal is one of this version of this line of this install
 abbrev pub names_version : ℕ → ℕ → ℕ → Sealing → Bool
 names_version install line version sealing =
     names_run_line install line sealing.1 && (version_of_message sealing.1 == version)

@@ -23,10 +23,11 @@ unfoldable pub names_install : ℕ → List ℕ → Bool
 names_install install message =
     is_own_kind message && bytes_eq (take 8 (drop 9 message)) (to_be_bytes w64 install)
 
--- the Seals of an install: of its lines and of its registers
+-- the Seal is of an install: of a line or a register of it
 abbrev pub is_its : ℕ → Sealing → Bool
 is_its install sealing = names_install install sealing.1
 
+-- the Seals of an install
 abbrev pub install_seals : ℕ → List Sealing → List Sealing
 install_seals install seals = filter (is_its install) seals
 

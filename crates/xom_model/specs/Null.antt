@@ -51,6 +51,7 @@ pub record Open : Type 0 where
 
 -- ---- What it is told
 
+-- a guest's own fault, as null code is told it
 abbrev pub fault_number : OwnFault → ℕ
 fault_number fault.Reserved = 1
 fault_number fault.Foreign = 2
@@ -58,12 +59,14 @@ fault_number fault.Overflow = 3
 fault_number fault.Address = 4
 fault_number fault.Break = 5
 
+-- a rule, as null code is told it
 abbrev pub rule_number : Rule → ℕ
 rule_number (rule.LineTag line) = 1
 rule_number (rule.TreeNode level) = 2
 rule_number (rule.RegisterTag reg) = 3
 rule_number (rule.RegisterMissing reg) = 4
 
+-- why a guest left last, as null code is told it
 abbrev pub cause_number : Cause → ℕ
 cause_number cause.Nothing = 0
 cause_number cause.Interrupt = 1
@@ -73,6 +76,7 @@ cause_number (cause.Fault why) = 4
 cause_number cause.Exit = 5
 cause_number (cause.Stopped why) = 6
 
+-- the detail of why a guest left: the code of a call, a page, or the number of a fault or rule
 abbrev pub cause_argument : Cause → ℕ
 cause_argument cause.Nothing = 0
 cause_argument cause.Interrupt = 0
@@ -82,6 +86,7 @@ cause_argument (cause.Fault why) = fault_number why
 cause_argument cause.Exit = 0
 cause_argument (cause.Stopped why) = rule_number why
 
+-- what null code is told where it asks for the status, the cause, its detail or the slot
 abbrev pub null_answer : Told → Asked → ℕ
 null_answer told asked.Status = told.status
 null_answer told asked.Cause = cause_number told.cause
@@ -94,6 +99,7 @@ null_answer told asked.Who = told.who
 abbrev pub open_cell : Cell → Seen
 open_cell cell = if cell.tag == 0 then Value cell.value else Foreign
 
+-- what null code sees in a register; $0 is zero
 abbrev pub seen_open : List Cell → ℕ → Seen
 seen_open cells reg = if reg == 0 then Value 0 else open_cell (cell_at cells reg)
 
@@ -128,6 +134,7 @@ open_after s effect written = record {
   npc = effect.npc;
 }
 
+-- the bytes are stored in RAM
 abbrev pub stored_open : Open → ℕ → List ℕ → Open
 stored_open s address bytes = record s { ram = ram_with_bytes s.ram address bytes }
 
@@ -135,6 +142,7 @@ stored_open s address bytes = record s { ram = ram_with_bytes s.ram address byte
 abbrev pub loaded_open : List ℕ → LoadKind → ℕ → ℕ → ℕ
 loaded_open ram how old address = merge_of how old address (word_at_address ram (address - address % 4))
 
+-- the fault of the null instruction that an own fault is
 abbrev pub null_fault : OwnFault → NullFault
 null_fault fault.Reserved = null.Reserved
 null_fault fault.Foreign = null.Reserved
@@ -150,6 +158,7 @@ Answer = Open × Result (Option Op) NullFault
 abbrev pub done_answer : Open → Answer
 done_answer s = (s, Ok None)
 
+-- it ends the run by a fault, and changes nothing
 abbrev pub stopped_by : Open → NullFault → Answer
 stopped_by s why = (s, Err why)
 
@@ -176,6 +185,7 @@ wish_answer told s effect (wish.Hand address) = stopped_by s null.Reserved
 wish_answer told s effect wish.SigRet = stopped_by s null.Reserved
 wish_answer told s effect wish.Exit = stopped_by s null.Reserved
 
+-- what an instruction leaves, of its effect or of its fault
 abbrev pub ran_open : Told → Open → Result Effect OwnFault → Answer
 ran_open told s (Err why) = stopped_by s (null_fault why)
 ran_open told s (Ok effect) = wish_answer told s effect effect.wish

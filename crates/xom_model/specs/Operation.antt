@@ -32,6 +32,7 @@ use Rattle.xom_model.specs.Guest.{after_delivery}
 abbrev pub refusal_of : CoreState → ℕ → CoreState × ℕ
 refusal_of core status = (core, status)
 
+-- an operation that is done has status 0
 abbrev pub success : CoreState → CoreState × ℕ
 success core = (core, 0)
 
@@ -89,6 +90,7 @@ resume_paused core slot signal =
     (missing_cell slot (session_of core slot).mask core.cells) else refusal_of core 2)
     else refusal_of core 7
 
+-- Resume: only a paused guest goes on
 abbrev pub resume : CoreState → ℕ → ℕ → SlotState → CoreState × ℕ
 resume core slot signal state.Free = refusal_of core 1
 resume core slot signal state.Fresh = refusal_of core 2
@@ -111,6 +113,7 @@ first_refusal_or core [] deed = deed
 first_refusal_or core (test ∷ tests) deed =
     if test.0 then refusal_of core test.1 else first_refusal_or core tests deed
 
+-- the slot holds nothing
 abbrev pub is_free_state : SlotState → Bool
 is_free_state state.Free = true
 is_free_state other = false
@@ -125,6 +128,7 @@ can_come_back other = false
 abbrev pub is_bad_slot : CoreState → ℕ → Bool
 is_bad_slot core slot = not (is_slot slot) || is_free_state (session_of core slot).state
 
+-- the slot's guest has left and may come back
 abbrev pub is_paused : SlotState → Bool
 is_paused state.Paused = true
 is_paused other = false
@@ -133,6 +137,7 @@ is_paused other = false
 abbrev pub envelope_size : ℕ
 envelope_size = 88
 
+-- the bytes of the envelope at an address of RAM
 abbrev pub envelope_in_ram : CoreState → ℕ → List ℕ
 envelope_in_ram core place = bytes_at core.ram place envelope_size
 
@@ -145,15 +150,17 @@ abbrev pub is_bad_image : Session → Bool
 is_bad_image s =
     nat_lt (lines_of_session s) s.lines || (not (s.entry % 4 == 0) || nat_le (window_of s) s.entry)
 
--- the tests of each, in their order, with their statuses
+-- the tests of Install that come before the envelope is opened, each with the status of its refusal
 abbrev pub install_tests : CoreState → ℕ → ℕ → ℕ → List (Bool × ℕ)
 install_tests core slot place area =
     (not (is_slot slot), 1) ∷ (not (is_free_state (session_of core slot).state), 2)
     ∷ (not (ram_holds_range core.ram place envelope_size && ram_holds_range core.ram area area_size), 4) ∷ []
 
+-- the test of Install of what the envelope says
 abbrev pub image_tests : CoreState → Unwrapped → List (Bool × ℕ)
 image_tests core plain = (is_bad_image (session_for core plain), 7) ∷ []
 
+-- the tests of Map
 abbrev pub map_tests : CoreState → ℕ → ℕ → ℕ → List (Bool × ℕ)
 map_tests core slot page frame =
     (is_bad_slot core slot, 1) ∷ (not (can_come_back (session_of core slot).state), 2)
@@ -161,12 +168,14 @@ map_tests core slot page frame =
     ∷ (not (ram_holds_range core.ram (frame * frame_size) frame_size), 4)
     ∷ (is_some (frame_of core.pages slot page), 5) ∷ []
 
+-- the tests of Unmap
 abbrev pub unmap_tests : CoreState → ℕ → ℕ → List (Bool × ℕ)
 unmap_tests core slot page =
     (is_bad_slot core slot, 1) ∷ (not (can_come_back (session_of core slot).state), 2)
     ∷ (nat_le (pages_of_session (session_of core slot)) page, 7)
     ∷ (is_none (frame_of core.pages slot page), 5) ∷ []
 
+-- the test of Kill
 abbrev pub kill_tests : CoreState → ℕ → List (Bool × ℕ)
 kill_tests core slot = (is_bad_slot core slot, 1) ∷ []
 
@@ -181,10 +190,12 @@ register_tests core slot reg address last =
     ∷ (not (is_cell reg), 7)
     ∷ (not (ram_holds_range core.ram address saved_size), 4) ∷ last
 
+-- the tests of Save: the last one, that the cell is the slot's own
 abbrev pub save_tests : CoreState → ℕ → ℕ → ℕ → List (Bool × ℕ)
 save_tests core slot reg address =
     register_tests core slot reg address ((not (is_own_cell slot (cell_at core.cells reg)), 6) ∷ [])
 
+-- the tests of Restore: the last one, that the guest owns the cell
 abbrev pub restore_tests : CoreState → ℕ → ℕ → ℕ → List (Bool × ℕ)
 restore_tests core slot reg address =
     register_tests core slot reg address
@@ -205,6 +216,7 @@ after_save core slot reg address =
           value);
     }
 
+-- Save, with its tests
 abbrev pub save_register : CoreState → ℕ → ℕ → ℕ → CoreState × ℕ
 save_register core slot reg address =
     first_refusal_or core (save_tests core slot reg address)
@@ -224,12 +236,14 @@ after_reopening core slot reg address None = (after_stop core slot (rule.Registe
 after_reopening core slot reg address (Some value) =
     success (after_restore core slot reg address value)
 
+-- the saved register in RAM is opened under the slot's epoch
 abbrev pub reopening : CoreState → ℕ → ℕ → ℕ → CoreState × ℕ
 reopening core slot reg address =
     after_reopening core slot reg address
     (unsealed_register (reg_name (who_of core slot) (epoch_of core slot) reg)
     (reg_keys (who_of core slot) (epoch_of core slot)) (saved_at core.ram address))
 
+-- Restore, with its tests
 abbrev pub restore_register : CoreState → ℕ → ℕ → ℕ → CoreState × ℕ
 restore_register core slot reg address =
     first_refusal_or core (restore_tests core slot reg address) (reopening core slot reg address)
@@ -250,12 +264,14 @@ module _ (v : Versions) where
       })
       (v.texts_of_build area plain.lines core.ram)
 
+  -- Install, of what the envelope's tag lets know: status 3 where it isn't right
   abbrev pub unwrap : CoreState → ℕ → ℕ → ℕ → Option Unwrapped → CoreState × ℕ
   unwrap core slot place area None = refusal_of core 3
   unwrap core slot place area (Some plain) =
       first_refusal_or core (image_tests core plain)
       (success (after_install core slot place area plain))
 
+  -- Install, with its tests
   abbrev pub install : CoreState → ℕ → ℕ → ℕ → CoreState × ℕ
   install core slot place area = first_refusal_or core (install_tests core slot place area)
       (unwrap core slot place area (envelope_contents core.machine (envelope_in_ram core place)))
@@ -272,6 +288,7 @@ module _ (v : Versions) where
       success (record core { pages = with_page core.pages slot page None })
   after_unmap slot page (core, Some why) = (core, 8)
 
+  -- Unmap, with its tests
   abbrev pub unmap_page : CoreState → ℕ → ℕ → CoreState × ℕ
   unmap_page core slot page =
       first_refusal_or core (unmap_tests core slot page)
@@ -283,6 +300,7 @@ module _ (v : Versions) where
       with_entry (core_with_session (without_guest core slot) slot free)
       (entry.Kill (session_of core slot).install)
 
+  -- Kill, with its test
   abbrev pub kill : CoreState → ℕ → CoreState × ℕ
   kill core slot = first_refusal_or core (kill_tests core slot) (success (after_kill core slot))
 

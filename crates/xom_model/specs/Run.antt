@@ -32,6 +32,7 @@ pub record IsPoke (poke : Poke) : Type 0 where
   pub some : 1 ≤ length poke.bytes
   pub few : length poke.bytes ≤ chunk_size
 
+-- the number of the event that a write of the bus is
 abbrev pub event_number : Poke → ℕ
 event_number poke = poke.event
 
@@ -96,6 +97,7 @@ module _ (v : Versions) {K : Type 0} (told : K → View → Option (Turn × (Lis
 
 -- ---- How it ended
 
+-- the end of a run that the kernel ended: by Halt, or by a fault
 abbrev pub end_by : Option (ℕ × NullFault) → RunEnd
 end_by None = end.Halted
 end_by (Some (at, why)) = end.KernelFault at why

@@ -44,21 +44,25 @@ reg_pair who epoch reg value = (
       (sealed_reg who epoch reg value).ct,
 )
 
+-- the journal's entry of a register that was sealed
 abbrev pub reg_seal_entry : Who → ℕ → ℕ → ℕ → Entry
 reg_seal_entry who epoch reg value =
     entry.Seal (reg_pair who epoch reg value).0 (reg_pair who epoch reg value).1
 
+-- the journal's entry of a saved register whose tag in RAM was right
 abbrev pub reg_accept_entry : Who → ℕ → ℕ → List ℕ → ℕ → Entry
 reg_accept_entry who epoch reg ct place =
     entry.Accept (reg_keys who epoch).tag.0 (register_message (reg_name who epoch reg) ct) place
 
--- a saved register in RAM has 36 bytes: 4 of ciphertext, then 32 of tag
+-- how many bytes a saved register has in RAM: 4 of ciphertext, then 32 of tag
 abbrev pub saved_size : ℕ
 saved_size = 36
 
+-- the saved register that RAM has at an address
 abbrev pub saved_at : List ℕ → ℕ → SealedReg
 saved_at ram address = record { ct = bytes_at ram address 4; tag = bytes_at ram (address + 4) 32 }
 
+-- RAM with a saved register at an address
 abbrev pub with_saved : List ℕ → ℕ → SealedReg → List ℕ
 with_saved ram address sealed = ram_with_bytes (ram_with_bytes ram address sealed.ct) (address + 4) sealed.tag
 

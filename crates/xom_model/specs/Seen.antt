@@ -39,6 +39,7 @@ shown_slot s = record {
   signal_ready = is_signal_ready s.handler s.saved;
 }
 
+-- what a kernel is told of the machine
 unfoldable pub view_of : Record → View
 view_of r = record {
   cells = map shown_cell r.core.cells;
@@ -72,6 +73,7 @@ pub record Seen : Type 0 where
 abbrev pub area_of : CoreState → ℕ → Option ℕ
 area_of core slot = if is_live (session_of core slot).state then (store_of core slot).area else None
 
+-- what is seen of the machine
 unfoldable pub seen_of : Record → Seen
 seen_of r = record {
   view = view_of r;

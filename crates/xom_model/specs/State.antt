@@ -55,17 +55,19 @@ pub record Record : Type 0 where
 abbrev pub window_of : Session → ℕ
 window_of s = private_bytes
 
--- how many lines of 32 bytes that is, and how many pages of 128 lines
+-- how many lines of 32 bytes that is
 abbrev pub lines_of_session : Session → ℕ
 lines_of_session s = line_limit
 
+-- how many pages of 128 lines a guest's window has
 abbrev pub pages_of_session : Session → ℕ
 pages_of_session s = 256
 
--- the line of an address, and the page of a line
+-- the line of an address
 abbrev pub line_of_address : ℕ → ℕ
 line_of_address address = address / line_size
 
+-- the page of a line
 abbrev pub page_of : ℕ → ℕ
 page_of line = line / frame_lines
 
@@ -77,12 +79,15 @@ ram_holds_range ram address count = nat_le (address + count) (length ram)
 
 -- ---- The whole
 
+-- the session of a slot
 abbrev pub session_of : CoreState → ℕ → Session
 session_of core slot = session_at core.sessions slot
 
+-- the store of a place that there isn't
 unfoldable pub no_store : Store
 no_store = record { numbers = []; area = None; root = [] }
 
+-- the version store of a slot
 abbrev pub store_of : CoreState → ℕ → Store
 store_of core slot = slice_index_or core.stores slot no_store
 

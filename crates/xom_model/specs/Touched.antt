@@ -29,6 +29,7 @@ named_in (Ok (Some op)) = slot_of_op op
 named_in (Ok None) = 0
 named_in (Err why) = 0
 
+-- the slot, and 0, which is no slot, where there is none
 abbrev pub slot_or_none : Option ℕ → ℕ
 slot_or_none (Some slot) = slot
 slot_or_none None = 0

@@ -22,6 +22,7 @@ pub record Whole : Type 0 where
 abbrev pub blank_stores : Versions → List Store
 blank_stores v = replicate 17 v.blank_store
 
+-- the version store of a slot
 abbrev pub store_at : List Store → ℕ → Store
 store_at stores slot = slice_index_or stores slot no_store
 
@@ -47,6 +48,7 @@ pub record Serves (keys : GuestKeys) (boot : ℕ) (s : Session) : Type 0 where
   pub run : keys.run ≡ run_keys s.key boot s.install
   pub registers : keys.registers ≡ register_keys s.key boot s.install s.epoch
 
+-- what the parts of the core keep of one another
 pub record Fits (sessions : List Session) (pages : Pages) (ways : List Way) (ram : List ℕ)
     (stores : List Store) (keys : List GuestKeys) (boot : ℕ) : Type 0 where
   -- each mapped frame lies in RAM

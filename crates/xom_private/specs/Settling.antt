@@ -10,6 +10,7 @@ use Rattle.xom_model.specs.declared.reach.Reach.TheVariants as reach
 use Rattle.xom_model.specs.Access.{after_stop, with_pointers, write_back}
 use Rattle.xom_model.specs.State.{CoreState, core_with_way}
 
+-- a line that was pushed out, where it is dirty
 abbrev pub if_dirty : Victim → Bool → Option Victim
 if_dirty victim false = None
 if_dirty victim true = Some victim
@@ -19,6 +20,7 @@ abbrev pub to_write : Option Victim → Option Victim
 to_write None = None
 to_write (Some victim) = if_dirty victim victim.dirty
 
+-- the cache of the core
 abbrev pub cache_of : CoreState → Cache
 cache_of core = record { ways = core.ways; pointers = core.pointers }
 
@@ -36,6 +38,7 @@ settled_by slot place who core (Some why) =
     (after_stop core who why, if who == slot then reach.Stopped why else reach.Ready place)
 
 module _ (v : Versions) where
+  -- an access after its line was placed, with what that pushed out written back
   abbrev pub access_after_settling : CoreState → ℕ → ℕ → Option Victim → CoreState × Reach
   access_after_settling core slot place None = (core, reach.Ready place)
   access_after_settling core slot place (Some victim) =

@@ -15,6 +15,7 @@ WritesBytes word bytes = WritesHex 8192 word bytes × (1 ≤ length bytes)
 
 -- ---- the same as functions
 
+-- the bytes of one write, or none
 unfoldable pub write_bytes_of : List ℕ → Option (List ℕ)
 write_bytes_of word = do
   bytes ← hex_within 8192 word

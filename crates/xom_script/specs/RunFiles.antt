@@ -30,12 +30,14 @@ IsBadRun text bad = IsFirstBadOf RunFormat IsWhole progress.Start text bad
 
 -- ---- the same as a function
 
+-- what is known of the run file behind a line of these words, where they may stand there
 abbrev pub run_row_of : Progress → ℕ → List (List ℕ) → Option (Unit {0} × Progress)
 run_row_of before n words = do
   line ← run_line_of words
   after ← after_line before n line
   Some (tt, after)
 
+-- a line of a run file, as the loop over lines takes it
 abbrev pub run_step : LineStep Progress (Unit {0})
 run_step = step_by_words run_row_of
 
@@ -50,6 +52,7 @@ whole_file missing (progress.Framed machine boot frames) = Err missing
 whole_file missing (progress.Files draft) = Err missing
 whole_file missing (progress.Kernel draft kernel number) = Err missing
 
+-- the run file of what the loop over lines gave, or the number of its first bad line
 abbrev pub run_file_from : ℕ → Result (List (Unit {0}) × Progress) ℕ → Result RunFile ℕ
 run_file_from missing (Ok read) = whole_file missing read.1
 run_file_from missing (Err bad) = Err bad

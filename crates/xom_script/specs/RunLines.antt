@@ -63,30 +63,35 @@ IsRunLine words (line.Poke poke) =
 
 -- ---- the same as a function: of the words behind the first one the line, or none
 
+-- the words behind `machine`: the machine's key
 unfoldable pub machine_line : List (List ℕ) → Option RunLine
 machine_line (key ∷ []) = do
   key ← hex_of 32 key
   Some (line.Machine (record { 0 = key }))
 machine_line _ = None
 
+-- the word behind `boot`: the boot number
 unfoldable pub boot_line : List (List ℕ) → Option RunLine
 boot_line (n ∷ []) = do
   boot ← number_below_of (2 ^ 63) n
   Some (line.Boot boot)
 boot_line _ = None
 
+-- the word behind `frames`: the frames of RAM, 4 to 8,192
 unfoldable pub frames_line : List (List ℕ) → Option RunLine
 frames_line (n ∷ []) = do
   frames ← number_below_of 8193 n
   where_holds (nat_le 4 frames) (line.Frames frames)
 frames_line _ = None
 
+-- the word behind `budget`: at most so many events
 unfoldable pub budget_line : List (List ℕ) → Option RunLine
 budget_line (n ∷ []) = do
   budget ← number_below_of 1048577 n
   Some (line.Budget budget)
 budget_line _ = None
 
+-- the words behind `owner`: its plain image's file, its key and its id
 unfoldable pub owner_line : List (List ℕ) → Option RunLine
 owner_line (plain ∷ key ∷ id ∷ []) = do
   plain ← name_of_word plain
@@ -95,12 +100,14 @@ owner_line (plain ∷ key ∷ id ∷ []) = do
   Some (line.Owner (record { plain = plain; key = record { 0 = key }; id = record { 0 = id } }))
 owner_line _ = None
 
+-- a guest's sealed image and the file of its input
 unfoldable pub guest_and_input_line : List ℕ → List ℕ → Option RunLine
 guest_and_input_line sealed input = do
   sealed ← name_of_word sealed
   input ← name_of_word input
   Some (line.Guest sealed (Some input))
 
+-- the words behind `guest`: its sealed image's file, and that of its input, if it has one
 unfoldable pub guest_line : List (List ℕ) → Option RunLine
 guest_line (sealed ∷ []) = do
   sealed ← name_of_word sealed
@@ -108,6 +115,7 @@ guest_line (sealed ∷ []) = do
 guest_line (sealed ∷ input ∷ []) = guest_and_input_line sealed input
 guest_line _ = None
 
+-- the word behind `kernel xomos`: the pages of each guest, 2 to 256
 unfoldable pub pages_line : List ℕ → Option RunLine
 pages_line word = do
   pages ← number_below_of 257 word
@@ -121,14 +129,17 @@ kernel_rows word =
     ∷ (codes "xomos", pages_line word)
     ∷ []
 
+-- the words behind `kernel`: its kind, and a word of that kind
 unfoldable pub kernel_choice : List (List ℕ) → Option RunLine
 kernel_choice (kind ∷ word ∷ []) = row_by_name (kernel_rows word) kind
 kernel_choice _ = None
 
+-- nothing stands behind `interrupt never`
 unfoldable pub never_line : List (List ℕ) → Option RunLine
 never_line [] = Some (line.Interrupt interrupts.Never)
 never_line _ = None
 
+-- the word behind `interrupt every`: a number from 1 on
 unfoldable pub every_line : List (List ℕ) → Option RunLine
 every_line (n ∷ []) = do
   n ← number_of_word n
@@ -144,6 +155,7 @@ times_of last (word ∷ words) = do
   more ← times_of n words
   Some (n ∷ more)
 
+-- the words behind `interrupt at`: numbers that ascend, at least one
 unfoldable pub at_line : List (List ℕ) → Option RunLine
 at_line words =
     if length words == 0 then None else (do
@@ -156,10 +168,12 @@ interrupt_rows words =
     (codes "never", never_line words) ∷ (codes "every", every_line words) ∷ (codes "at", at_line words)
     ∷ []
 
+-- the words behind `interrupt`: its kind, and the words of that kind
 unfoldable pub interrupt_line : List (List ℕ) → Option RunLine
 interrupt_line (kind ∷ words) = row_by_name (interrupt_rows words) kind
 interrupt_line [] = None
 
+-- the words behind `poke`: the event, the address and the bytes of a write of the bus
 unfoldable pub poke_line : List (List ℕ) → Option RunLine
 poke_line (event ∷ address ∷ bytes ∷ []) = do
   event ← number_of_word event

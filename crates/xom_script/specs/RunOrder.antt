@@ -66,13 +66,15 @@ run_file draft kernel number interrupts = record {
   schedule = record { interrupts = interrupts; pokes = [] };
 }
 
--- with one more of each
+-- with one more owner
 abbrev pub with_owner : Draft → OwnerFile → Draft
 with_owner draft owner = record draft { owners = draft.owners ++ (owner ∷ []) }
 
+-- with one more guest
 abbrev pub draft_with_guest : Draft → GuestFile → Draft
 draft_with_guest draft guest = record draft { guests = draft.guests ++ (guest ∷ []) }
 
+-- the run file with one more write of the bus
 abbrev pub with_poke : RunFile → Poke → RunFile
 with_poke file poke =
     record file {
@@ -134,18 +136,22 @@ IsWhole (progress.Kernel draft kernel number) = ⊥
 abbrev pub has_id : ImageId → List OwnerFile → Bool
 has_id id owners = list_any (λ (owner : OwnerFile). bytes_eq owner.id.0 id.0) owners
 
+-- whether an owner of this id may come: before the guests, at most 16, each of another id
 abbrev pub takes_owner : Draft → ImageId → Bool
 takes_owner draft id =
     (length draft.guests == 0) && (nat_lt (length draft.owners) 16 && not (has_id id draft.owners))
 
+-- whether the built-in kernel has room for its guests and their pages in so many frames
 abbrev pub has_room : KernelLine → ℕ → ℕ → Bool
 has_room (kernel.Script file) frames guests = true
 has_room (kernel.Image file) frames guests = true
 has_room (kernel.Xomos pages) frames guests = nat_le (guests * (52 + pages)) frames
 
+-- whether a write of the bus lies in RAM of so many frames
 abbrev pub fits_ram : Poke → ℕ → Bool
 fits_ram poke frames = nat_le (poke.address + length poke.bytes) (frames * 8192)
 
+-- whether a write of the bus may come: behind the last one, and inside RAM
 abbrev pub takes_poke : RunFile → Poke → Bool
 takes_poke file poke =
     nat_lt (last_event file.schedule.pokes) poke.event && fits_ram poke file.frames
@@ -177,6 +183,7 @@ after_line (progress.Whole file) n (line.Poke poke) =
     where_holds (takes_poke file poke) (progress.Whole (with_poke file poke))
 after_line _ n _ = None
 
+-- whether the text may end here: behind the line of interrupts
 abbrev pub is_whole : Progress → Bool
 is_whole (progress.Whole file) = true
 is_whole progress.Start = false

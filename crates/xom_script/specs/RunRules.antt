@@ -35,6 +35,7 @@ pub record KeepsDraft (draft : Draft) : Type 0 where
   pub ids : HasOwnIds draft.owners
   pub guests : length draft.guests ≤ 16
 
+-- what a run file says before the kernel's line
 abbrev pub draft_of : RunFile → Draft
 draft_of file = record {
   machine = file.machine;
@@ -45,6 +46,7 @@ draft_of file = record {
   guests = file.guests;
 }
 
+-- all the rules of a run file
 pub record KeepsRules (file : RunFile) : Type 0 where
   pub draft : KeepsDraft (draft_of file)
   pub room : HasRoom file.kernel file.frames (length file.guests)

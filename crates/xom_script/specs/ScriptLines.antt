@@ -53,6 +53,7 @@ IsScriptLine words line.Show = words ≡ codes "show" ∷ []
 abbrev pub rows_of_none : List (List ℕ × Option ScriptLine)
 rows_of_none = (codes "halt", Some (line.Do op.Halt)) ∷ (codes "show", Some line.Show) ∷ []
 
+-- the line of this name without a number, or none
 unfoldable pub no_word_line : List ℕ → Option ScriptLine
 no_word_line name = row_by_name rows_of_none name
 
@@ -64,6 +65,7 @@ rows_of_one a =
     ∷ (codes "out", where_holds (nat_lt a 256) (line.Do (op.Out a)))
     ∷ []
 
+-- the line of this name and one number, or none
 unfoldable pub one_word_line : List ℕ → List ℕ → Option ScriptLine
 one_word_line name a = do
   a ← number_below_of (2 ^ 32) a
@@ -78,6 +80,7 @@ rows_of_two a b =
     ∷ (codes "flip", where_holds (nat_lt b 256) (line.Flip a b))
     ∷ []
 
+-- the line of this name and two numbers, or none
 unfoldable pub two_word_line : List ℕ → List ℕ → List ℕ → Option ScriptLine
 two_word_line name a b = do
   a ← number_below_of (2 ^ 32) a
@@ -94,6 +97,7 @@ rows_of_three a b c =
     ∷ (codes "copy", where_holds (nat_le 1 c && nat_le c 8192) (line.Copy a b c))
     ∷ []
 
+-- the line of this name and three numbers, or none
 unfoldable pub three_word_line : List ℕ → List ℕ → List ℕ → List ℕ → Option ScriptLine
 three_word_line name a b c = do
   a ← number_below_of (2 ^ 32) a
@@ -101,6 +105,7 @@ three_word_line name a b c = do
   c ← number_below_of (2 ^ 32) c
   row_by_name (rows_of_three a b c) name
 
+-- the write of the kernel at this address with these bytes, or none
 unfoldable pub kernel_write_line : List ℕ → List ℕ → Option ScriptLine
 kernel_write_line address bytes = do
   address ← number_below_of (2 ^ 32) address

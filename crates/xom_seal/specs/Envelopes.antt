@@ -19,19 +19,23 @@ unfoldable pub envelope_fields : List ℕ → ℕ → ℕ → List ℕ → List 
 envelope_fields id entry lines wrapped =
     id ++ (to_be_bytes w32 entry ++ (to_be_bytes w32 lines ++ wrapped))
 
--- the same, read from an envelope
+-- the id that an envelope has
 abbrev pub id_in : List ℕ → List ℕ
 id_in envelope = take 16 envelope
 
+-- the entry that an envelope has
 abbrev pub entry_of_envelope : List ℕ → ℕ
 entry_of_envelope envelope = from_be_bytes w32 (take 4 (drop 16 envelope))
 
+-- the number of lines that an envelope has
 abbrev pub lines_in : List ℕ → ℕ
 lines_in envelope = from_be_bytes w32 (take 4 (drop 20 envelope))
 
+-- the wrapped key that an envelope has
 abbrev pub wrapped_in : List ℕ → List ℕ
 wrapped_in envelope = take 32 (drop 24 envelope)
 
+-- the tag that an envelope has
 abbrev pub tag_in : List ℕ → List ℕ
 tag_in envelope = take 32 (drop 56 envelope)
 

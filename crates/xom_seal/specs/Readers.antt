@@ -9,15 +9,19 @@ use Rattle.std.specs.Int.{w64, w32, from_be_bytes}
 abbrev pub kind_of_text : List ℕ → ℕ
 kind_of_text text = slice_index text 0
 
+-- the kind of a line of an image, sealed by its owner
 abbrev pub image_line_kind : ℕ
 image_line_kind = 1
 
+-- the kind of a line that the machine sealed
 abbrev pub run_line_kind : ℕ
 run_line_kind = 2
 
+-- the kind of a saved register
 abbrev pub register_kind : ℕ
 register_kind = 3
 
+-- the kind of an envelope
 abbrev pub envelope_kind : ℕ
 envelope_kind = 4
 

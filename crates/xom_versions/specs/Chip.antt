@@ -12,15 +12,19 @@ start_table count lines = replicate lines 1 ++ replicate (count - lines) 0
 abbrev pub start_numbers : ℕ → List ℕ
 start_numbers lines = start_table line_limit lines
 
+-- the store that holds this table
 abbrev pub on_chip : List ℕ → Store
 on_chip numbers = record { numbers = numbers; area = None; root = [] }
 
+-- the number that the table has for a line
 abbrev pub stored_number : Store → ℕ → ℕ
 stored_number store line = slice_index_or store.numbers line 0
 
+-- the number that a raise gives a line
 abbrev pub next_at : Store → ℕ → ℕ
 next_at store line = next_version (stored_number store line)
 
+-- the calls of a store on chip
 abbrev pub chip : Versions
 chip = record {
   blank_store = on_chip (start_numbers 0);

@@ -18,6 +18,7 @@ zeros n = replicate n 0
 len : (n x : ℕ) → length (replicate n x) ≡ n
 len n x = length-replicate n x
 
+-- a first table has a number for each line
 pub length-start_table : (count lines : ℕ) → lines ≤ count
     → length (start_table count lines) ≡ count
 unfolding start_table
@@ -77,6 +78,7 @@ raise-stands entries store numbers line number stands low is = (
   },
 )
 
+-- the law of versions, of a store on chip
 pub chip_law : VersionLaw chip ChipStands
 chip_law = record {
   builds = λ entries area lines ram few. record {

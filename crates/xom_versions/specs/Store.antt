@@ -14,13 +14,15 @@ line_limit = 32768
 abbrev pub area_size : ℕ
 area_size = 411904
 
--- how many bytes of the journal a call may use
+-- how many bytes of the journal a build may use
 abbrev pub build_room : ℕ
 build_room = 800000
 
+-- how many bytes of the journal asking for a version may use
 abbrev pub version_room : ℕ
 version_room = 2000
 
+-- how many bytes of the journal a raise may use
 abbrev pub raise_room : ℕ
 raise_room = 4000
 
