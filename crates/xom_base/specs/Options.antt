@@ -1,8 +1,8 @@
 -- Values that may be absent: one step after another, and a value on a condition.
 use Rattle.std.specs.Prelude.{Bool, Option, Some, None, if◌then◌else◌, option_and_then}
 
--- one step and the next, where the first has a value
 infixl 10 ◌>>=◌
+-- one step and the next, where the first has a value
 abbrev pub ◌>>=◌ : {A B : Type 0} → Option A → (A → Option B) → Option B
 o >>= f = option_and_then f o
 

@@ -14,6 +14,7 @@ abbrev pub IsRunRow : Progress → ℕ → List (List ℕ) → Unit {0} → Prog
 IsRunRow before n words value after =
     (line : RunLine) × IsRunLine words line × Follows before n line after
 
+-- the format: a line gives no value, and leaves what the lines so far have said
 abbrev pub RunFormat : Format Progress (Unit {0})
 RunFormat = OfWords IsRunRow
 
