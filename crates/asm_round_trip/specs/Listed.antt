@@ -2,6 +2,7 @@
 use Rattle.std.specs.Prelude.{◌≡◌, ℕ, zero, suc, ◌+◌, ◌*◌, ◌/◌, ◌%◌, ◌^◌, ◌<◌, ◌≤◌, List, [], ◌∷◌, ◌++◌, All, Some, length, replicate}
 use Rattle.std.specs.Int.{w32, to_be_bytes}
 use Rattle.xom_base.specs.declared.image.PlainImage.{PlainImage}
+use Rattle.xom_base.specs.Sizes.{window_size}
 use Rattle.mips_text.specs.Texts.{image_word_at, word_text}
 use Rattle.asm_source.specs.declared.content.Content.{Content}
 use Rattle.asm_syntax.specs.Lines.{line_parts, part_of_line}
@@ -32,6 +33,6 @@ whole_words bytes = bytes ++ replicate (padding 2 (length bytes)) 0
 -- these bytes, filled up to a whole word, and with the entry 0.
 abbrev pub ListingsAreAssembledAgain : Type 0
 ListingsAreAssembledAgain =
-    (bytes : List ℕ) → All (λ byte. byte < 2 ^ 8) bytes → length bytes ≤ 2 ^ 20
+    (bytes : List ℕ) → All (λ byte. byte < 2 ^ 8) bytes → length bytes ≤ window_size
     → (image : PlainImage) × (image.entry ≡ 0) × (image.bytes ≡ whole_words bytes)
     × IsImageOf (texts_of bytes ((length bytes + 3) / 4)) image

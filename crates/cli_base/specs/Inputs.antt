@@ -1,12 +1,13 @@
 -- What a command reads, where it is told what files hold: the value that a file's bytes write, or
 -- why it is refused.
-use Rattle.std.specs.Prelude.{◌≡◌, ℕ, ◌%◌, ◌^◌, ◌<◌, ◌≤◌, ◌==◌, Bool, true, false, List, Option, Some, None, Result, Ok, Err, length, nat_le, if◌then◌else◌}
+use Rattle.std.specs.Prelude.{◌≡◌, ℕ, ◌%◌, ◌<◌, ◌≤◌, ◌==◌, Bool, true, false, List, Option, Some, None, Result, Ok, Err, length, nat_le, if◌then◌else◌}
 use Rattle.std.proofs.Math.Decide.{dec_le, dec_lt}
 use Rattle.std.proofs.Common.{refl}
 use Rattle.std.proofs.lemmas.Bool.{eqb-true}
 use Rattle.std.specs.Str.{bytes_eq}
 pub use Rattle.xom_base.specs.Results.{◌>>=◌}
 use Rattle.xom_base.specs.declared.image.PlainImage.{PlainImage}
+use Rattle.xom_base.specs.Sizes.{window_size}
 use Rattle.xom_image.specs.PlainFiles.{plain_image_at}
 use Rattle.cli_base.specs.declared.refusal.InputFault.{InputFault}
 use Rattle.cli_base.specs.declared.refusal.InputFault.TheVariants.{TooLong, NotBuilt, BadByte, BadLine}
@@ -60,10 +61,9 @@ InputAnswers wanted (Err why) = InputFaults wanted why
 -- ---- The formats
 
 -- the image of an entry and of bytes that are valid: the bytes are few enough, and the entry is
--- below the size of
--- private memory and aligned
-abbrev pub image_if_aligned : (entry : ℕ) (bytes : List ℕ) → length bytes ≤ 2 ^ 20 → entry < 2 ^ 20
-    → (b : Bool) → (entry % 4 == 0) ≡ b → Option PlainImage
+-- below the size of private memory and aligned
+abbrev pub image_if_aligned : (entry : ℕ) (bytes : List ℕ) → length bytes ≤ window_size
+    → entry < window_size → (b : Bool) → (entry % 4 == 0) ≡ b → Option PlainImage
 image_if_aligned entry bytes fits private false aligned = None
 image_if_aligned entry bytes fits private true aligned =
     Some (record {
@@ -76,21 +76,22 @@ image_if_aligned entry bytes fits private true aligned =
     })
 
 -- the image of an entry and of bytes of which there are few enough, where the entry may be one
-abbrev pub image_if_private : (entry : ℕ) (bytes : List ℕ) → length bytes ≤ 2 ^ 20
-    → Dec (entry < 2 ^ 20) → Option PlainImage
+abbrev pub image_if_private : (entry : ℕ) (bytes : List ℕ) → length bytes ≤ window_size
+    → Dec (entry < window_size) → Option PlainImage
 image_if_private entry bytes fits (no high) = None
 image_if_private entry bytes fits (yes private) =
     image_if_aligned entry bytes fits private (entry % 4 == 0) refl
 
 -- the image of an entry and bytes, where there are few enough and the entry may be one
-abbrev pub image_if_fitting : (entry : ℕ) (bytes : List ℕ) → Dec (length bytes ≤ 2 ^ 20)
+abbrev pub image_if_fitting : (entry : ℕ) (bytes : List ℕ) → Dec (length bytes ≤ window_size)
     → Option PlainImage
 image_if_fitting entry bytes (no long) = None
-image_if_fitting entry bytes (yes fits) = image_if_private entry bytes fits (dec_lt entry (2 ^ 20))
+image_if_fitting entry bytes (yes fits) =
+    image_if_private entry bytes fits (dec_lt entry window_size)
 
 -- the image of this entry and these bytes, or none where they are no valid image
 abbrev pub valid_image : ℕ → List ℕ → Option PlainImage
-valid_image entry bytes = image_if_fitting entry bytes (dec_le (length bytes) (2 ^ 20))
+valid_image entry bytes = image_if_fitting entry bytes (dec_le (length bytes) window_size)
 
 -- The image that was read, or the first bad byte. What is read is valid, so the first case is never
 -- met.

@@ -1,6 +1,7 @@
 -- The owners of a run.
 use Rattle.std.specs.Prelude.{◌≡◌, ℕ, List, [], ◌∷◌, Some, Result, Ok, length, slice_get}
 use Rattle.xom_base.specs.declared.image.PlainImage.{PlainImage}
+use Rattle.xom_base.specs.Sizes.{id_size}
 use Rattle.xom_owners.specs.Owners.{AreDistinct}
 use Rattle.xom_owners.specs.declared.owner.Owner.{Owner}
 use Rattle.xom_script.specs.declared.run_file.OwnerFile.{OwnerFile}
@@ -31,4 +32,4 @@ AreOwnersOf (line ∷ lines) [] = ⊥
 pub record AreWhole (owners : List Owner) : Type 0 where
   pub distinct : AreDistinct owners
   pub keys : (i : ℕ) (owner : Owner) → slice_get owners i ≡ Some owner → length owner.key.0 ≡ 32
-  pub ids : (i : ℕ) (owner : Owner) → slice_get owners i ≡ Some owner → length owner.id.0 ≡ 16
+  pub ids : (i : ℕ) (owner : Owner) → slice_get owners i ≡ Some owner → length owner.id.0 ≡ id_size

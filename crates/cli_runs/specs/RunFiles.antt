@@ -1,7 +1,9 @@
 -- The run file of a run.
 use Rattle.std.specs.Prelude.{◌≡◌, ℕ, ◌^◌, ◌<◌, ◌≤◌, Bool, true, false, List, length, Result, Ok, Err, if◌then◌else◌}
 use Rattle.std.specs.List.{AllByRecursion}
+use Rattle.xom_base.specs.Sizes.{id_size, slot_limit}
 use Rattle.xom_script.specs.RunFiles.{run_file_at}
+use Rattle.xom_script.specs.RunOrder.{owner_limit}
 use Rattle.xom_script.specs.RunRules.{HasOwnIds}
 use Rattle.xom_script.specs.declared.run_file.KernelLine.{KernelLine}
 use Rattle.xom_script.specs.declared.run_file.KernelLine.TheVariants as kernel
@@ -44,7 +46,7 @@ built_run_of held run = do
 -- the key and the id of an owner's line have their lengths
 pub record IsOwnerLine (line : OwnerFile) : Type 0 where
   pub key : length line.key.0 ≡ 32
-  pub id : length line.id.0 ≡ 16
+  pub id : length line.id.0 ≡ id_size
 
 -- what the machine wants of a run file: its numbers are in their ranges, no two owners have one id,
 -- and its schedule keeps
@@ -56,6 +58,6 @@ pub record IsRunnable (file : RunFile) : Type 0 where
   pub budget : file.budget ≤ 2 ^ 20
   pub ids : HasOwnIds file.owners
   pub owners : AllByRecursion IsOwnerLine file.owners
-  pub few_owners : length file.owners ≤ 16
-  pub few_guests : length file.guests ≤ 16
+  pub few_owners : length file.owners ≤ owner_limit
+  pub few_guests : length file.guests ≤ slot_limit
   pub schedule : KeepsSchedule file.frames file.schedule

@@ -5,6 +5,7 @@ use Rattle.hex.specs.Hex.{IsBytes}
 use Rattle.xom_base.specs.declared.entry.Entry.{Entry}
 use Rattle.xom_base.specs.declared.event.Op.{Op}
 use Rattle.xom_base.specs.declared.event.Op.TheVariants.{Install, Enter, Resume, Save, Restore, Map, Unmap, SetReg, Kill, Out, Halt}
+use Rattle.xom_base.specs.Sizes.{compartment_count, id_size}
 use Rattle.journal_text.specs.JournalLines.{last_behind}
 use Rattle.journal_round_trip.specs.KeepsRules.{CameBefore, Is32Bit, KeepsPayload, KeepsRules}
 use Rattle.line_cache.specs.declared.way.Way.{Way}
@@ -82,7 +83,7 @@ pub record IsSoundSession (last : ℕ) (s : Session) : Type 0 where
   pub handler : Is32Bit s.handler
   pub saved : IfSome s.saved IsShortPair
   pub id : IsBytes s.id.0
-  pub id_length : length s.id.0 ≤ 16
+  pub id_length : length s.id.0 ≤ id_size
   pub key : KeepsPayload 96 s.key.0
   pub install : is_free_state s.state ≡ false → CameBefore last s.install
 
@@ -107,7 +108,7 @@ pub record RulesHold (core : CoreState) : Type 0 where
   -- what an entry may be made of is in its range
   pub machine : KeepsPayload 96 core.machine.0
   pub sessions : All (IsSoundSession core.installs) core.sessions
-  pub places : length core.sessions ≤ 17
+  pub places : length core.sessions ≤ compartment_count
   pub cells : All IsShortCell core.cells
   pub ways : (place : ℕ) → IsSoundWay core.sessions (way_at core.ways place)
   -- RAM has bytes, its addresses have 32 bits, and what is to lie in it does

@@ -19,6 +19,7 @@ use Rattle.xom_base.specs.declared.step.Released.TheVariants as released
 use Rattle.xom_base.specs.declared.step.StepEnd.{StepEnd}
 use Rattle.xom_base.specs.declared.step.StepEnd.TheVariants as ended
 use Rattle.xom_base.specs.declared.step.Step.{Step}
+use Rattle.xom_base.specs.Sizes.{compartment_count, id_size, register_places}
 use Rattle.journal_text.specs.JournalLines.{last_behind}
 
 -- ---- steps
@@ -29,7 +30,7 @@ Is32Bit n = n < 2 ^ 32
 
 -- a cell's number, 1 to 33, and its value
 abbrev pub KeepsCell : ℕ → ℕ → Type 0
-KeepsCell reg value = (1 ≤ reg) × (reg < 34) × Is32Bit value
+KeepsCell reg value = (1 ≤ reg) × (reg < register_places) × Is32Bit value
 
 -- the cells that a step writes
 abbrev pub KeepsWrites : Writes → Type 0
@@ -99,7 +100,8 @@ CameBefore last n = (1 ≤ n) × (n ≤ last)
 -- the entry may stand where the last install before it has this number, or 0 where there is none
 abbrev pub KeepsEntry : ℕ → Entry → Type 0
 KeepsEntry last (entry.Install n slot id place begin lines) =
-    (n ≡ last + 1) × (n < 2 ^ 64) × (1 ≤ slot) × (slot < 17) × IsBytes id.0 × (length id.0 ≡ 16)
+    (n ≡ last + 1) × (n < 2 ^ 64) × (1 ≤ slot) × (slot < compartment_count)
+    × IsBytes id.0 × (length id.0 ≡ id_size)
     × Is32Bit place × Is32Bit begin × Is32Bit lines
 KeepsEntry last (entry.Step n step) = CameBefore last n × KeepsStep step
 KeepsEntry last (entry.Trap n why) = CameBefore last n × KeepsCause why

@@ -8,6 +8,7 @@ use Rattle.xom_base.specs.Hex.{IsHex, WritesHex, hex_of, hex_within}
 use Rattle.xom_base.specs.Lines.{Format, LineStep, OfWords, step_by_words as line_step_of}
 use Rattle.xom_base.specs.Numbers.{IsDecimal, WritesBelow, WritesDecimal, decimal_below_of, number_below_of, numeral_of}
 use Rattle.xom_base.specs.Options.{◌>>=◌}
+use Rattle.xom_base.specs.Sizes.{compartment_count, id_size}
 use Rattle.xom_base.specs.declared.entry.Entry.{Entry}
 use Rattle.xom_base.specs.declared.entry.Entry.TheVariants as entry
 use Rattle.xom_base.specs.declared.event.Cause.{Cause}
@@ -54,7 +55,8 @@ IsCause words (cause.Stopped why) = ⊥
 abbrev pub IsRow : ℕ → List (List ℕ) → Entry → ℕ → Type 0
 IsRow last words (entry.Install n slot id place begin lines) next =
     (a s i p b l : List ℕ) × (words ≡ codes "install" ∷ a ∷ s ∷ i ∷ p ∷ b ∷ l ∷ [])
-    × IsDecimal a n × (n ≡ last + 1) × WritesBelow 17 s slot × (1 ≤ slot) × IsHex 16 i id.0
+    × IsDecimal a n × (n ≡ last + 1) × WritesBelow compartment_count s slot
+    × (1 ≤ slot) × IsHex id_size i id.0
     × WritesDecimal (2 ^ 32) p place × WritesDecimal (2 ^ 32) b begin × WritesDecimal (2 ^ 32) l
     lines × (next ≡ n)
 IsRow last words (entry.Step n step) next =
@@ -107,7 +109,7 @@ next_install_of last word = do
 -- the number of a slot
 unfoldable pub slot_of_word : List ℕ → Option ℕ
 slot_of_word word = do
-  n ← number_below_of 17 word
+  n ← number_below_of compartment_count word
   if nat_le 1 n then Some n else None
 
 -- the words behind `install`
@@ -115,7 +117,7 @@ unfoldable pub install_entry_of : ℕ → List (List ℕ) → Option Entry
 install_entry_of last (a ∷ s ∷ i ∷ p ∷ b ∷ l ∷ []) = do
   n ← next_install_of last a
   slot ← slot_of_word s
-  id ← hex_of 16 i
+  id ← hex_of id_size i
   place ← decimal_below_of (2 ^ 32) p
   begin ← decimal_below_of (2 ^ 32) b
   lines ← decimal_below_of (2 ^ 32) l

@@ -1,5 +1,6 @@
 -- The cache as a map from lines of slots to what is cached of them.
 use Rattle.std.specs.Prelude.{ℕ, ◌+◌, ◌/◌, ◌%◌, ◌^◌, ◌≡◌, ◌≢◌, ◌≤◌, ◌<◌, ◌==◌, ◌&&◌, Bool, true, false, List, Option, Some, None, length, IfSome}
+use Rattle.xom_base.specs.Sizes.{slot_limit}
 use Rattle.line_cache.specs.declared.way.Way.{Way}
 use Rattle.line_cache.specs.declared.way.Victim.{Victim}
 use Rattle.line_cache.specs.Ways.{Cache, cache_with_way, first_place, free_way, new_way, place_of_line, victim_of, way_at, way_with_bytes}
@@ -23,7 +24,7 @@ pub record IsCache (cache : Cache) : Type 0 where
       → Holds (way_at cache.ways other) (way_at cache.ways place).slot
       (way_at cache.ways place).line
       → other ≡ place
-  pub known : (place : ℕ) → (way_at cache.ways place).slot ≤ 16
+  pub known : (place : ℕ) → (way_at cache.ways place).slot ≤ slot_limit
   pub inside : (place : ℕ) → (way_at cache.ways place).line < 2 ^ 15
 
 -- no way of a line's set is free
@@ -42,7 +43,7 @@ cached_line ways slot line = way_found ways (place_of_line ways slot line)
 -- a line of a slot, as it may be cached
 pub record IsLine (victim : Victim) : Type 0 where
   pub some : 1 ≤ victim.slot
-  pub known : victim.slot ≤ 16
+  pub known : victim.slot ≤ slot_limit
   pub inside : victim.line < 2 ^ 15
 
 -- the way was handed out with all that it held

@@ -1,5 +1,6 @@
 -- Where the labels and statements of a source stand, and how many bytes each writes.
 use Rattle.std.specs.Prelude.{◌≡◌, ℕ, ◌+◌, ◌-◌, ◌*◌, ◌%◌, ◌^◌, ◌<◌, ◌≤◌, Bool, ◌&&◌, nat_lt, nat_le, if◌then◌else◌, List, [], ◌∷◌, length, max}
+use Rattle.xom_base.specs.Sizes.{window_size}
 use Rattle.asm_tokens.specs.declared.integers.Integer.{Integer}
 use Rattle.asm_source.specs.declared.content.Content.{Content}
 use Rattle.asm_source.specs.declared.content.Content.TheVariants.{Label, Words, Bytes, Ascii, Space, Align, Org, Entry, LoadNumber, LoadAddress, Instruction}
@@ -48,7 +49,7 @@ layout place (part ∷ parts) =
 
 -- the bytes that an image may have
 abbrev pub limit : ℕ
-limit = 2 ^ 20
+limit = window_size
 
 -- it writes a byte at this place
 abbrev pub covers : Placed → ℕ → Bool

@@ -11,6 +11,7 @@ use Rattle.xom_base.specs.declared.event.OwnFault.{OwnFault}
 use Rattle.xom_base.specs.declared.event.OwnFault.TheVariants as fault
 use Rattle.xom_base.specs.declared.step.Writes.{Writes}
 use Rattle.xom_base.specs.declared.step.Writes.TheVariants as writes
+use Rattle.xom_base.specs.Sizes.{register_places, window_size}
 use Rattle.mips_effect.specs.declared.effects.Effect.{Effect}
 use Rattle.mips_effect.specs.declared.seen.Mode.{Mode}
 use Rattle.mips_effect.specs.declared.seen.Mode.TheVariants.{Guest, Null}
@@ -26,7 +27,7 @@ use Rattle.mips_effect.specs.Arithmetic.{bit_if, byte_in_word, difference, divid
 
 -- the bytes of private memory
 abbrev pub private_bytes : ℕ
-private_bytes = 2 ^ 20
+private_bytes = window_size
 
 -- ---- Cells
 
@@ -418,7 +419,7 @@ pub record IsPrivateStore (address count : ℕ) : Type 0 where
 -- the cells written are 1 to 33, $0 never
 abbrev pub AreCells : Writes → Type 0
 AreCells writes.Nothing = Unit {0}
-AreCells (writes.One reg value) = (1 ≤ reg) × (reg < 34)
+AreCells (writes.One reg value) = (1 ≤ reg) × (reg < register_places)
 AreCells (writes.Pair hi lo) = Unit {0}
 
 -- what a guest wishes; it never asks for an operation, nor for what null code is told

@@ -2,6 +2,7 @@
 -- pages or kernel in it.
 use Rattle.std.specs.Prelude.{ℕ, ◌+◌, ◌%◌, ◌^◌, ◌==◌, ◌&&◌, Bool, true, false, List, Option, Some, None, Result, Ok, Err, replicate, slice_set, slice_index_or, if◌then◌else◌}
 use Rattle.xom_base.specs.Padded.{padded_block}
+use Rattle.xom_base.specs.Sizes.{register_places}
 use Rattle.xom_base.specs.declared.event.OwnFault.{OwnFault}
 use Rattle.xom_base.specs.declared.image.PlainImage.{PlainImage}
 use Rattle.xom_base.specs.declared.step.Writes.{Writes}
@@ -37,7 +38,7 @@ pub record State : Type 0 where
 -- an image's program before its first step
 unfoldable pub start : PlainImage → State
 start image = record {
-  cells = replicate 34 Lent;
+  cells = replicate register_places Lent;
   pc = image.entry;
   npc = image.entry + 4;
   bytes =

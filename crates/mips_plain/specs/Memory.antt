@@ -1,12 +1,13 @@
 -- A guest's private memory: a list of bytes from address 0 on. Words are big-endian.
-use Rattle.std.specs.Prelude.{ℕ, ◌+◌, ◌-◌, ◌^◌, List, ◌++◌, length, take, drop, replicate}
+use Rattle.std.specs.Prelude.{ℕ, ◌+◌, ◌-◌, List, ◌++◌, length, take, drop, replicate}
 use Rattle.std.specs.Int.{w32, from_be_bytes, to_be_bytes}
 use Rattle.xom_base.specs.declared.step.Stored.{Stored}
 use Rattle.xom_base.specs.declared.step.Stored.TheVariants as stored
+use Rattle.xom_base.specs.Sizes.{window_size}
 
 -- how many bytes a guest has
 unfoldable pub private_size : ℕ
-private_size = 2 ^ 20
+private_size = window_size
 
 -- memory before anything was stored
 abbrev pub blank_memory : List ℕ

@@ -1,6 +1,7 @@
 -- The page map: for each compartment its 256 private pages, each with its frame or none. Place 0
 -- is the null compartment's, which has no private page; places 1 to 16 are the slots'.
 use Rattle.std.specs.Prelude.{ℕ, ◌≡◌, ◌≢◌, List, Option, None, length, replicate, slice_index_or, slice_set}
+use Rattle.xom_base.specs.Sizes.{compartment_count, page_count}
 
 -- for each compartment, for each of its pages, the frame or none
 abbrev pub Pages : Type 0
@@ -8,11 +9,11 @@ Pages = List (List (Option ℕ))
 
 -- no page of a compartment is mapped
 unfoldable pub no_pages : List (Option ℕ)
-no_pages = replicate 256 None
+no_pages = replicate page_count None
 
 -- no page at all is mapped
 unfoldable pub nothing_mapped : Pages
-nothing_mapped = replicate 17 no_pages
+nothing_mapped = replicate compartment_count no_pages
 
 -- the pages of a slot
 abbrev pub pages_at : Pages → ℕ → List (Option ℕ)
@@ -33,8 +34,8 @@ without_pages pages slot = slice_set pages slot no_pages
 
 -- there is a place for each compartment, with 256 pages
 pub record IsPageMap (pages : Pages) : Type 0 where
-  pub slots : length pages ≡ 17
-  pub pages_of : (slot : ℕ) → length (pages_at pages slot) ≡ 256
+  pub slots : length pages ≡ compartment_count
+  pub pages_of : (slot : ℕ) → length (pages_at pages slot) ≡ page_count
 
 -- a page of a slot has this frame, or none, and every other page is as it was
 pub record ChangesPage (old new : Pages) (slot page : ℕ) (frame : Option ℕ) : Type 0 where

@@ -3,6 +3,7 @@
 use Rattle.std.specs.Prelude.{ℕ, ◌+◌, ◌%◌, ◌^◌, Bool, true, false, List, Option, None, length, position, replicate, slice_index_or, slice_set, ◌≡◌}
 use Rattle.xom_base.specs.declared.key.ImageId.{ImageId}
 use Rattle.xom_base.specs.declared.key.Key256.{Key256}
+use Rattle.xom_base.specs.Sizes.{compartment_count, id_size}
 use Rattle.session_table.specs.declared.session.Session.{Session}
 use Rattle.session_table.specs.declared.session.SlotState.{SlotState}
 use Rattle.session_table.specs.declared.session.SlotState.TheVariants as state
@@ -16,7 +17,7 @@ pub record Sessions : Type 0 where
 abbrev pub free : Session
 free = record {
   install = 0;
-  id = record { 0 = replicate 16 0 };
+  id = record { 0 = replicate id_size 0 };
   key =
       record { 0 = replicate 32 0 };
   entry = 0;
@@ -33,7 +34,7 @@ free = record {
 
 -- no slot holds a guest
 unfoldable pub none_held : List Session
-none_held = replicate 17 free
+none_held = replicate compartment_count free
 
 -- the session of a slot; the free one where there is no such place
 abbrev pub session_at : List Session → ℕ → Session
@@ -57,7 +58,7 @@ running_in sessions = position (λ s. is_running s.state) sessions
 
 -- there is a place for each compartment, and none is held in the null one
 pub record IsTable (sessions : List Session) : Type 0 where
-  pub places : length sessions ≡ 17
+  pub places : length sessions ≡ compartment_count
   pub null : session_at sessions 0 ≡ free
 
 -- a guest that was just installed

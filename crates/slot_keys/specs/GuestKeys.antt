@@ -3,6 +3,7 @@
 use Rattle.std.specs.Prelude.{ℕ, List, ◌≡◌, ◌≢◌, length, replicate, slice_index_or}
 use Rattle.xom_base.specs.declared.key.ImageId.{ImageId}
 use Rattle.xom_base.specs.declared.key.Key256.{Key256}
+use Rattle.xom_base.specs.Sizes.{compartment_count, id_size}
 use Rattle.xom_seal.specs.declared.keys.LineKeys.{LineKeys}
 use Rattle.xom_seal.specs.declared.keys.RegisterKeys.{RegisterKeys}
 use Rattle.xom_seal.specs.Keys.{image_keys, register_keys, run_keys}
@@ -27,11 +28,11 @@ with_registers keys registers = record keys { registers = registers }
 
 -- what stands where there is no guest: the keys of a key and an id of zeros
 abbrev pub no_keys : GuestKeys
-no_keys = keys_of_install (record { 0 = replicate 32 0 }) (record { 0 = replicate 16 0 }) 0 0 0
+no_keys = keys_of_install (record { 0 = replicate 32 0 }) (record { 0 = replicate id_size 0 }) 0 0 0
 
 -- no slot has the keys of a guest
 unfoldable pub none_ready : List GuestKeys
-none_ready = replicate 17 no_keys
+none_ready = replicate compartment_count no_keys
 
 -- the keys of a slot
 abbrev pub keys_at : List GuestKeys → ℕ → GuestKeys
@@ -39,7 +40,7 @@ keys_at table slot = slice_index_or table slot no_keys
 
 -- there is a place for each compartment, and the null one has no keys
 pub record IsKeyTable (table : List GuestKeys) : Type 0 where
-  pub places : length table ≡ 17
+  pub places : length table ≡ compartment_count
   pub null : keys_at table 0 ≡ no_keys
 
 -- the keys of the slot are those of this install under this epoch

@@ -8,6 +8,7 @@ use Rattle.xom_base.specs.Hex.{IsHex, hex_of}
 use Rattle.xom_base.specs.Numbers.{WritesBelow as WritesNumber, number_below_of}
 use Rattle.xom_base.specs.Options.{◌>>=◌}
 use Rattle.xom_base.specs.Words.{cut_of}
+use Rattle.xom_base.specs.Sizes.{register_places}
 use Rattle.xom_base.specs.declared.event.OwnFault.{OwnFault}
 use Rattle.xom_base.specs.declared.event.OwnFault.TheVariants as fault
 use Rattle.xom_base.specs.declared.step.Writes.{Writes}
@@ -46,7 +47,7 @@ IsNamedPair name word first second =
 abbrev pub IsCell : List ℕ → ℕ → ℕ → Type 0
 IsCell word reg value =
     (n v : List ℕ) × (word ≡ codes "r" ++ (n ++ (codes "=" ++ v)))
-    × WritesNumber 34 n reg × (1 ≤ reg) × IsHex8 v value
+    × WritesNumber register_places n reg × (1 ≤ reg) × IsHex8 v value
 
 -- WRITES; HI and LO alone are cells 32 and 33
 abbrev pub IsWrites : List ℕ → Writes → Type 0
@@ -137,7 +138,7 @@ unfoldable pub cell_of : List ℕ → Option (ℕ × ℕ)
 cell_of word = do
   rest ← text_after_name (codes "r") word
   parts ← cut_of 61 rest
-  reg ← count_below_of 34 parts.0
+  reg ← count_below_of register_places parts.0
   value ← hex8_of parts.1
   Some (reg, value)
 

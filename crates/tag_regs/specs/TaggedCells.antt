@@ -1,5 +1,6 @@
 -- The processor's registers, each with the compartment that it belongs to.
 use Rattle.std.specs.Prelude.{ℕ, ◌==◌, List, map, replicate, slice_index_or, slice_set, if◌then◌else◌}
+use Rattle.xom_base.specs.Sizes.{register_places}
 use Rattle.tag_regs.specs.declared.cell.Cell.{Cell}
 
 -- zero, of the null compartment
@@ -8,7 +9,7 @@ empty_cell = record { value = 0; tag = 0 }
 
 -- all cells empty. There are 34 places: $1 to $31, HI at 32 and LO at 33; place 0 isn't used
 unfoldable pub all_empty : List Cell
-all_empty = replicate 34 empty_cell
+all_empty = replicate register_places empty_cell
 
 -- the cell of a register
 abbrev pub cell_at : List Cell → ℕ → Cell

@@ -6,6 +6,7 @@ use Rattle.xom_base.specs.Numbers.{number_below_of}
 use Rattle.xom_base.specs.declared.key.ImageId.{ImageId}
 use Rattle.xom_base.specs.declared.key.Key256.{Key256}
 use Rattle.xom_base.specs.Options.{◌>>=◌}
+use Rattle.xom_base.specs.Sizes.{id_size}
 
 -- a command with what its words say
 pub data Row : Type 0 where
@@ -41,7 +42,7 @@ plain_row image steps received =
 unfoldable pub seal_row : List ℕ → List ℕ → List ℕ → List ℕ → List ℕ → Option Row
 seal_row image key id machine sealed = do
   key ← hex_of 32 key
-  id ← hex_of 16 id
+  id ← hex_of id_size id
   machine ← hex_of 32 machine
   Some (Seal image (record { 0 = key }) (record { 0 = id }) (record { 0 = machine }) sealed)
 

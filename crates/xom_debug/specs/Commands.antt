@@ -4,6 +4,7 @@ use Rattle.std.specs.Str.{bytes_eq}
 use Rattle.xom_base.specs.Lines.{IsFirstBad, IsRows, LineStep, Rows, lines_of, rows_of, rows_step}
 use Rattle.xom_base.specs.Numbers.{IsNumber, WritesBelow, number_below_of, number_of_word}
 use Rattle.xom_base.specs.Options.{◌>>=◌}
+use Rattle.xom_base.specs.Sizes.{compartment_count, register_places, slot_limit}
 use Rattle.xom_debug.specs.declared.command.Command.{Command}
 use Rattle.xom_debug.specs.declared.command.Command.TheVariants as command
 
@@ -14,9 +15,10 @@ IsCommand words (command.Step count) =
     (n : List ℕ) × (words ≡ codes "step" ∷ n ∷ []) × IsNumber n count
 IsCommand words command.UntilTrap = words ≡ codes "until" ∷ codes "trap" ∷ []
 IsCommand words (command.Reg reg) =
-    (r : List ℕ) × (words ≡ codes "reg" ∷ r ∷ []) × WritesBelow 34 r reg × (1 ≤ reg)
+    (r : List ℕ) × (words ≡ codes "reg" ∷ r ∷ []) × WritesBelow register_places r reg × (1 ≤ reg)
 IsCommand words (command.Slot slot) =
-    (s : List ℕ) × (words ≡ codes "slot" ∷ s ∷ []) × WritesBelow 17 s slot × (1 ≤ slot)
+    (s : List ℕ) × (words ≡ codes "slot" ∷ s ∷ [])
+    × WritesBelow compartment_count s slot × (1 ≤ slot)
 IsCommand words command.Last = words ≡ codes "last" ∷ []
 IsCommand words (command.Ram address count) =
     (a n : List ℕ) × (words ≡ codes "ram" ∷ a ∷ n ∷ []) × WritesBelow (2 ^ 32) a address
@@ -35,7 +37,7 @@ abbrev pub CommandKeepsRules : Command → Type 0
 CommandKeepsRules (command.Step count) = Unit {0}
 CommandKeepsRules command.UntilTrap = Unit {0}
 CommandKeepsRules (command.Reg reg) = (1 ≤ reg) × (reg ≤ 33)
-CommandKeepsRules (command.Slot slot) = (1 ≤ slot) × (slot ≤ 16)
+CommandKeepsRules (command.Slot slot) = (1 ≤ slot) × (slot ≤ slot_limit)
 CommandKeepsRules command.Last = Unit {0}
 CommandKeepsRules (command.Ram address count) = count ≤ 64
 
@@ -54,13 +56,13 @@ until_command event = if bytes_eq event (codes "trap") then Some command.UntilTr
 -- the command `reg R`, of a register from 1 to 33
 unfoldable pub reg_command : List ℕ → Option Command
 reg_command reg = do
-  reg ← number_below_of 34 reg
+  reg ← number_below_of register_places reg
   if nat_le 1 reg then Some (command.Reg reg) else None
 
 -- the command `slot S`, of a slot from 1 to 16
 unfoldable pub slot_command : List ℕ → Option Command
 slot_command slot = do
-  slot ← number_below_of 17 slot
+  slot ← number_below_of compartment_count slot
   if nat_le 1 slot then Some (command.Slot slot) else None
 
 -- the command `ram ADDRESS COUNT`, of at most 64 bytes

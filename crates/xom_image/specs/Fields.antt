@@ -1,9 +1,10 @@
 -- What the files of plain and of sealed images have in common: a name with a version, an entry with
 -- a count behind it, and then so many parts of one size. Numbers have four bytes, the highest
 -- first. The formats are this project's own.
-use Rattle.std.specs.Prelude.{ℕ, ◌≡◌, ◌≢◌, ◌↔◌, ◌+◌, ◌*◌, ◌%◌, ◌^◌, ◌<◌, ◌≤◌, ◌⊎◌, ◌==◌, ◌&&◌, Bool, List, Result, Ok, Err, IfOk, IsOk, drop, length, min, nat_lt, slice_index, take, take_while, zip, if◌then◌else◌}
+use Rattle.std.specs.Prelude.{ℕ, ◌≡◌, ◌≢◌, ◌↔◌, ◌+◌, ◌*◌, ◌%◌, ◌<◌, ◌≤◌, ◌⊎◌, ◌==◌, ◌&&◌, Bool, List, Result, Ok, Err, IfOk, IsOk, drop, length, min, nat_lt, slice_index, take, take_while, zip, if◌then◌else◌}
 use Rattle.std.specs.Int.{w32, from_be_bytes}
 use Rattle.xom_base.specs.Memory.{OrOut}
+use Rattle.xom_base.specs.Sizes.{window_size}
 use Rattle.xom_image.specs.declared.fault.ImageFault.{ImageFault}
 use Rattle.xom_image.specs.declared.fault.ImageFault.TheVariants as fault
 use Rattle.xom_image.specs.declared.fields.Format.{Format}
@@ -37,7 +38,7 @@ DiffersAt format file n =
 abbrev pub HasBadEntryAt : Format → List ℕ → ℕ → Type 0
 HasBadEntryAt format file n =
     (n ≡ format.entry) × (format.entry + 4 ≤ length file)
-    × ((entry_of_file format file % 4 ≢ 0) ⊎ (2 ^ 20 ≤ entry_of_file format file))
+    × ((entry_of_file format file % 4 ≢ 0) ⊎ (window_size ≤ entry_of_file format file))
 
 -- the count, which is all there, is above the most that there may be
 abbrev pub HasBadCountAt : Format → List ℕ → ℕ → Type 0
@@ -69,7 +70,7 @@ pub record IsFirstBadOf (format : Format) (file : List ℕ) (n : ℕ) : Type 0 w
 
 -- whether an entry is an address of private memory where an instruction may stand
 abbrev pub is_entry_address : ℕ → Bool
-is_entry_address entry = (entry % 4 == 0) && nat_lt entry (2 ^ 20)
+is_entry_address entry = (entry % 4 == 0) && nat_lt entry window_size
 
 -- how many bytes of two texts agree, from the front on
 unfoldable pub common_prefix_size : List ℕ → List ℕ → ℕ
@@ -91,7 +92,7 @@ fields_at format file =
 pub record IsWhole (format : Format) (file : List ℕ) : Type 0 where
   pub head : common_prefix_size format.head file ≡ 8
   pub aligned : entry_of_file format file % 4 ≡ 0
-  pub private : entry_of_file format file < 2 ^ 20
+  pub private : entry_of_file format file < window_size
   pub most : count_of format file ≤ format.most
   pub size : length file ≡ size_of_file format file
 

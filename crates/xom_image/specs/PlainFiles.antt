@@ -1,8 +1,9 @@
 -- The file of a plain image: "XOMP", the version 1, the entry, the length, and the bytes. Numbers
 -- have four bytes, the highest first. The format is this project's own.
-use Rattle.std.specs.Prelude.{ℕ, ◌≡◌, ◌^◌, List, [], ◌∷◌, ◌++◌, Result, Ok, codes, drop, length}
+use Rattle.std.specs.Prelude.{ℕ, ◌≡◌, List, [], ◌∷◌, ◌++◌, Result, Ok, codes, drop, length}
 use Rattle.std.specs.Int.{w32, to_be_bytes}
 use Rattle.xom_base.specs.Results.{◌>>=◌}
+use Rattle.xom_base.specs.Sizes.{window_size}
 use Rattle.xom_base.specs.declared.image.PlainImage.{PlainImage}
 use Rattle.xom_image.specs.declared.fault.ImageFault.{ImageFault}
 use Rattle.xom_image.specs.declared.fields.Format.{Format}
@@ -27,7 +28,7 @@ IsPlainFile file image = file ≡ plain_file image.entry image.bytes
 
 -- The entry stands at 8 and the length at 12. From 16 on there are the bytes, at most 1,048,576.
 abbrev pub plain_format : Format
-plain_format = record { head = plain_head; entry = 8; start = 16; part = 1; most = 2 ^ 20 }
+plain_format = record { head = plain_head; entry = 8; start = 16; part = 1; most = window_size }
 
 -- this is the least place at which the file is bad
 abbrev pub IsFirstBad : List ℕ → ℕ → Type 0

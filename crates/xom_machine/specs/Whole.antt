@@ -1,5 +1,6 @@
 -- The machine as its callers see it, and what its type keeps.
 use Rattle.std.specs.Prelude.{◌≡◌, ℕ, ◌<◌, ◌^◌, false, List, length}
+use Rattle.xom_base.specs.Sizes.{compartment_count}
 use Rattle.xom_model.specs.Null.{ram_after_write}
 use Rattle.xom_model.specs.State.{Record}
 use Rattle.xom_model.specs.Counts.{AreCounted}
@@ -18,7 +19,7 @@ pub record InTime (r : Record) : Type 0 where
   -- stops are last
   pub stops : StopsHold r.core
   -- there is a version store for each compartment
-  pub stores : length r.core.stores ≡ 17
+  pub stores : length r.core.stores ≡ compartment_count
   -- before the first event nothing has ended
   pub going : r.events ≡ 0 → r.halted ≡ false
 

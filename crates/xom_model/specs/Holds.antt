@@ -5,6 +5,7 @@
 use Rattle.std.specs.Prelude.{◌≡◌, ◌≢◌, ℕ, ◌*◌, ◌<◌, ◌≤◌, ◌^◌, Bool, true, false, List, [], ◌∷◌, ◌⊎◌, Some, length, replicate}
 use Rattle.std.specs.Int.{bit_at}
 use Rattle.xom_base.specs.Entries.{steps_of}
+use Rattle.xom_base.specs.Sizes.{compartment_count, id_size, register_places}
 use Rattle.xom_base.specs.declared.entry.Entry.{Entry}
 use Rattle.xom_base.specs.declared.entry.Entry.TheVariants as entry
 use Rattle.xom_base.specs.declared.key.ImageId.{ImageId}
@@ -83,10 +84,11 @@ pub record Agrees (s : Session) (registers : List Cell) (entries : List Entry) (
   pub saved : s.saved ≡ p.kept
   -- registers: the mask is what the program owns, and a cell with the slot's tag has the program's
   -- value
-  pub mask : (reg : ℕ) → 1 ≤ reg → reg < 34 → bit_at s.mask reg ≡ own_bit (plain_cell p.cells reg)
-  pub cells : (reg : ℕ) → 1 ≤ reg → reg < 34 → (cell_at registers reg).tag ≡ slot
+  pub mask : (reg : ℕ) → 1 ≤ reg → reg < register_places
+      → bit_at s.mask reg ≡ own_bit (plain_cell p.cells reg)
+  pub cells : (reg : ℕ) → 1 ≤ reg → reg < register_places → (cell_at registers reg).tag ≡ slot
       → plain_cell p.cells reg ≡ Own (cell_at registers reg).value
-  pub places : length p.cells ≡ 34
+  pub places : length p.cells ≡ register_places
 
 -- ---- Private memory, line by line
 
@@ -156,11 +158,11 @@ pub record Shape (core : CoreState) : Type 0 where
   -- numbers are in their ranges
   pub boot : core.boot < 2 ^ 64
   pub count : core.installs ≤ length core.entries
-  pub ids : (slot : ℕ) → length (session_of core slot).id.0 ≡ 16
+  pub ids : (slot : ℕ) → length (session_of core slot).id.0 ≡ id_size
   -- lists have their lengths
   pub way_places : length core.ways ≡ 128
-  pub page_places : length core.pages ≡ 17
-  pub store_places : length core.stores ≡ 17
+  pub page_places : length core.pages ≡ compartment_count
+  pub store_places : length core.stores ≡ compartment_count
 
 -- each frame that holds a page lies in RAM
 abbrev pub FramesFit : Pages → List ℕ → Type 0
@@ -215,7 +217,7 @@ pub record SlotsHold (Stands : StandsFor) (owners : List Owner) (core : CoreStat
   -- what a live slot holds is a state of that run
   pub held : (slot : ℕ) → IsLive core slot → IsHeld Stands owners core slot
   -- a tag stands only where its slot is live
-  pub tags : (reg : ℕ) → 1 ≤ reg → reg < 34 → (cell_at core.cells reg).tag ≢ 0
+  pub tags : (reg : ℕ) → 1 ≤ reg → reg < register_places → (cell_at core.cells reg).tag ≢ 0
       → IsLive core (cell_at core.cells reg).tag
   -- an install number has one id, that of its session
   pub ids : (slot : ℕ) → IsLive core slot → (id : ImageId)
@@ -225,8 +227,8 @@ pub record SlotsHold (Stands : StandsFor) (owners : List Owner) (core : CoreStat
   pub installs : (install : ℕ) (id : ImageId) → IsInstalled core.entries install id
       → install ≤ core.installs
   -- the cache and the journal, and the lengths of lists
-  pub cell_places : length core.cells ≡ 34
-  pub session_places : length core.sessions ≡ 17
+  pub cell_places : length core.cells ≡ register_places
+  pub session_places : length core.sessions ≡ compartment_count
   pub shape : Shape core
   pub fits : RamFits core
   -- what the journal's Seals keep
@@ -235,7 +237,7 @@ pub record SlotsHold (Stands : StandsFor) (owners : List Owner) (core : CoreStat
 -- over all slots: at most one guest runs, and each cell that it owns has its slot's tag
 pub record RunningHolds (core : CoreState) : Type 0 where
   pub one : (slot other : ℕ) → IsRunning core slot → IsRunning core other → slot ≡ other
-  pub tagged : (slot reg : ℕ) → IsRunning core slot → 1 ≤ reg → reg < 34
+  pub tagged : (slot reg : ℕ) → IsRunning core slot → 1 ≤ reg → reg < register_places
       → bit_at (session_of core slot).mask reg ≡ 1 → (cell_at core.cells reg).tag ≡ slot
 
 -- all that the machine keeps between events

@@ -2,6 +2,7 @@
 -- way.
 use Rattle.std.specs.Prelude.{◌≡◌, ◌≢◌, ℕ, ◌<◌, ◌≤◌, List, ◌++◌, Some, length}
 use Rattle.xom_base.specs.Entries.{steps_of}
+use Rattle.xom_base.specs.Sizes.{register_places}
 use Rattle.xom_base.specs.declared.entry.Entry.{Entry}
 use Rattle.xom_base.specs.declared.key.ImageId.{ImageId}
 use Rattle.xom_owners.specs.declared.owner.Owner.{Owner}
@@ -37,14 +38,14 @@ pub record Kept (Stands : StandsFor) (owners : List Owner) (core new : CoreState
   -- sessions
   pub same : (slot : ℕ) → IsLive new slot → session_of new slot ≡ session_of core slot
   -- cells
-  pub cells : (reg : ℕ) → 1 ≤ reg → reg < 34 → (cell_at new.cells reg).tag ≢ 0
+  pub cells : (reg : ℕ) → 1 ≤ reg → reg < register_places → (cell_at new.cells reg).tag ≢ 0
       → cell_at new.cells reg ≡ cell_at core.cells reg
-  pub tags : (reg : ℕ) → 1 ≤ reg → reg < 34 → IsLive core (cell_at core.cells reg).tag
+  pub tags : (reg : ℕ) → 1 ≤ reg → reg < register_places → IsLive core (cell_at core.cells reg).tag
       → (cell_at new.cells reg).tag ≢ 0 → IsLive new (cell_at core.cells reg).tag
-  pub stay : (reg : ℕ) → 1 ≤ reg → reg < 34 → IsLive new (cell_at core.cells reg).tag
+  pub stay : (reg : ℕ) → 1 ≤ reg → reg < register_places → IsLive new (cell_at core.cells reg).tag
       → cell_at new.cells reg ≡ cell_at core.cells reg
   -- a value of the null compartment, lent to guests, stays
-  pub lent : (reg : ℕ) → 1 ≤ reg → reg < 34 → (cell_at core.cells reg).tag ≡ 0
+  pub lent : (reg : ℕ) → 1 ≤ reg → reg < register_places → (cell_at core.cells reg).tag ≡ 0
       → cell_at new.cells reg ≡ cell_at core.cells reg
   pub cell_places : length new.cells ≡ length core.cells
   pub session_places : length new.sessions ≡ length core.sessions

@@ -7,6 +7,7 @@ use Rattle.xom_base.specs.declared.event.Event.{Event}
 use Rattle.xom_base.specs.declared.event.Op.{Op}
 use Rattle.xom_base.specs.declared.event.OwnFault.{OwnFault}
 use Rattle.xom_base.specs.declared.key.Key256.{Key256}
+use Rattle.xom_base.specs.Sizes.{slot_limit}
 use Rattle.xom_owners.specs.declared.owner.Owner.{Owner}
 use Rattle.xom_owners.specs.Owners.{AreDistinct}
 use Rattle.image_sealer.specs.Laws.{IsOwner}
@@ -67,7 +68,8 @@ abbrev pub FaultsAreOwn : Versions → StandsFor → Type 0
 FaultsAreOwn v Stands = VersionLaw v Stands
     → (owners : List Owner) → AreOwners owners
     → (core : CoreState) (slot : ℕ) (interrupt : Bool) (fault : OwnFault)
-    → 1 ≤ slot → slot ≤ 16 → IsRunning core slot → IsBounded (guest v core slot interrupt).0.entries
+    → 1 ≤ slot → slot ≤ slot_limit → IsRunning core slot
+    → IsBounded (guest v core slot interrupt).0.entries
     → IsHonest (sealed_by core.machine owners) (guest v core slot interrupt).0.entries
     → Holds Stands owners core
     → (guest v core slot interrupt).1 ≡ Some (cause.Fault fault)

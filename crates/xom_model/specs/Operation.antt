@@ -7,6 +7,7 @@ use Rattle.xom_base.specs.declared.event.Op.TheVariants.{Install, Enter, Resume,
 use Rattle.xom_base.specs.declared.event.Rule.{Rule}
 use Rattle.xom_base.specs.declared.event.Rule.TheVariants as rule
 use Rattle.xom_base.specs.Frames.{frame_size}
+use Rattle.xom_base.specs.Sizes.{slot_limit}
 use Rattle.xom_seal.specs.declared.envelope.Unwrapped.{Unwrapped}
 use Rattle.xom_seal.specs.Envelopes.{envelope_contents}
 use Rattle.xom_seal.specs.Messages.{envelope_message}
@@ -38,7 +39,7 @@ success core = (core, 0)
 
 -- a number names a slot
 abbrev pub is_slot : ℕ → Bool
-is_slot slot = nat_le 1 slot && nat_le slot 16
+is_slot slot = nat_le 1 slot && nat_le slot slot_limit
 
 -- a number names a cell
 abbrev pub is_cell : ℕ → Bool

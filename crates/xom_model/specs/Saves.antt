@@ -5,6 +5,7 @@ use Rattle.std.specs.Int.{w32, to_be_bytes}
 use Rattle.std.specs.Str.{bytes_eq}
 use Rattle.xom_base.specs.declared.entry.Entry.{Entry}
 use Rattle.xom_base.specs.declared.entry.Entry.TheVariants as entry
+use Rattle.xom_base.specs.Sizes.{register_places}
 use Rattle.xom_seal.specs.declared.keys.RegisterKeys.{RegisterKeys}
 use Rattle.xom_seal.specs.declared.names.RegName.{RegName}
 use Rattle.xom_seal.specs.declared.register.SealedReg.{SealedReg}
@@ -73,7 +74,7 @@ with_saved ram address sealed = ram_with_bytes (ram_with_bytes ram address seale
 abbrev pub SavesAgree : Who → Session → List Sealing → State → Type 0
 SavesAgree who s seals p =
     s.state ≡ state.Paused → who.install < 2 ^ 64 → s.epoch < 2 ^ 64 → (reg : ℕ) → 1 ≤ reg
-    → reg < 34 → (key ct : List ℕ)
+    → reg < register_places → (key ct : List ℕ)
     → is_sealed key (register_message (reg_name who s.epoch reg) ct) seals ≡ true
     → (value : ℕ) × (value < 2 ^ 32) × (plain_cell p.cells reg ≡ Own value)
     × (key ≡ (reg_keys who s.epoch).tag.0)

@@ -3,6 +3,7 @@
 use Rattle.std.specs.Prelude.{ℕ, ◌==◌, List, Option, Some, None, map, slice_get, if◌then◌else◌}
 use Rattle.std.specs.List.{range_with_len}
 use Rattle.xom_base.specs.declared.event.Cause.{Cause}
+use Rattle.xom_base.specs.Sizes.{compartment_count}
 use Rattle.mips_plain.specs.Instruction.{is_signal_ready}
 use Rattle.page_map.specs.Pages.{Pages}
 use Rattle.tag_regs.specs.declared.cell.Cell.{Cell}
@@ -81,5 +82,5 @@ seen_of r = record {
   npc = r.npc;
   pages = r.core.pages;
   installs = r.core.installs;
-  areas = map (area_of r.core) (range_with_len 0 17);
+  areas = map (area_of r.core) (range_with_len 0 compartment_count);
 }

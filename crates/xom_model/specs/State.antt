@@ -4,6 +4,7 @@ use Rattle.xom_base.specs.declared.entry.Entry.{Entry}
 use Rattle.xom_base.specs.declared.event.Cause.{Cause}
 use Rattle.xom_base.specs.declared.event.Cause.TheVariants as cause
 use Rattle.xom_base.specs.declared.key.Key256.{Key256}
+use Rattle.xom_base.specs.Sizes.{compartment_count, page_count}
 use Rattle.mips_effect.specs.Effects.{private_bytes}
 use Rattle.line_ram.specs.Bytes.{frame_lines, line_size}
 use Rattle.page_map.specs.Pages.{Pages, nothing_mapped}
@@ -61,7 +62,7 @@ lines_of_session s = line_limit
 
 -- how many pages of 128 lines a guest's window has
 abbrev pub pages_of_session : Session → ℕ
-pages_of_session s = 256
+pages_of_session s = page_count
 
 -- the line of an address
 abbrev pub line_of_address : ℕ → ℕ
@@ -96,7 +97,7 @@ abbrev pub core_at_start : Versions → Key256 → ℕ → List ℕ → CoreStat
 core_at_start v machine boot ram = record {
   cells = all_empty;
   sessions = none_held;
-  stores = replicate 17 v.blank_store;
+  stores = replicate compartment_count v.blank_store;
   pages = nothing_mapped;
   ways = no_ways;
   pointers = first_pointers;

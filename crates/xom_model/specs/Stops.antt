@@ -8,6 +8,7 @@ use Rattle.xom_base.specs.declared.event.Rule.{Rule}
 use Rattle.xom_base.specs.declared.key.ImageId.{ImageId}
 use Rattle.xom_base.specs.declared.key.Key256.{Key256}
 use Rattle.xom_base.specs.declared.step.StepEnd.TheVariants as ended
+use Rattle.xom_base.specs.Sizes.{compartment_count}
 use Rattle.xom_seal.specs.declared.names.LineName.TheVariants.{Image, Run}
 use Rattle.xom_seal.specs.declared.names.RegName.{RegName}
 use Rattle.xom_seal.specs.Messages.{envelope_message, line_message, register_message}
@@ -72,7 +73,7 @@ pub record StopsHold (core : CoreState) : Type 0 where
   pub clean : (place : ℕ) → (way_at core.ways place).slot ≡ 0
       → (way_at core.ways place).dirty ≡ false
   -- there is a place for each compartment, and the null compartment holds no guest
-  pub places : length core.sessions ≡ 17
+  pub places : length core.sessions ≡ compartment_count
   pub null : is_live (session_of core 0).state ≡ false
 
 -- so it is at power-on, whatever stands in RAM

@@ -1,6 +1,7 @@
 -- The core in code as the record that the model speaks of, and what its type keeps.
 use Rattle.std.specs.Prelude.{◌≡◌, ◌≢◌, ℕ, true, false, List, Option, Some, None, Result, Ok, Err, length, replicate, slice_index_or}
 use Rattle.xom_base.specs.declared.event.Rule.{Rule}
+use Rattle.xom_base.specs.Sizes.{compartment_count}
 use Rattle.line_cache.specs.declared.way.Way.{Way}
 use Rattle.line_cache.specs.Ways.{way_at}
 use Rattle.page_map.specs.Pages.{Pages, frame_of}
@@ -20,7 +21,7 @@ pub record Whole : Type 0 where
 
 -- a blank store in each place
 abbrev pub blank_stores : Versions → List Store
-blank_stores v = replicate 17 v.blank_store
+blank_stores v = replicate compartment_count v.blank_store
 
 -- the version store of a slot
 abbrev pub store_at : List Store → ℕ → Store

@@ -5,6 +5,7 @@ use Rattle.std.specs.Str.{IsUtf8}
 use Rattle.xom_base.specs.Options.{◌>>=◌, where_holds}
 use Rattle.xom_base.specs.Hex.{IsHex, hex_of}
 use Rattle.xom_base.specs.Numbers.{IsNumber, WritesBelow, number_below_of, number_of_word}
+use Rattle.xom_base.specs.Sizes.{id_size}
 use Rattle.xom_base.specs.declared.schedule.Interrupts.{Interrupts}
 use Rattle.xom_base.specs.declared.schedule.Interrupts.TheVariants as interrupts
 use Rattle.xom_script.specs.Fields.{Writes32, WritesBytes, name_of_word, row_by_name, write_bytes_of}
@@ -49,7 +50,7 @@ IsRunLine words (line.Budget budget) =
     (n : List ℕ) × (words ≡ codes "budget" ∷ n ∷ []) × WritesBelow 1048577 n budget
 IsRunLine words (line.Owner owner) =
     (k i : List ℕ) × (words ≡ codes "owner" ∷ owner.plain ∷ k ∷ i ∷ [])
-    × IsUtf8 owner.plain × IsHex 32 k owner.key.0 × IsHex 16 i owner.id.0
+    × IsUtf8 owner.plain × IsHex 32 k owner.key.0 × IsHex id_size i owner.id.0
 IsRunLine words (line.Guest sealed None) = (words ≡ codes "guest" ∷ sealed ∷ []) × IsUtf8 sealed
 IsRunLine words (line.Guest sealed (Some input)) =
     (words ≡ codes "guest" ∷ sealed ∷ input ∷ []) × IsUtf8 sealed × IsUtf8 input
@@ -96,7 +97,7 @@ unfoldable pub owner_line : List (List ℕ) → Option RunLine
 owner_line (plain ∷ key ∷ id ∷ []) = do
   plain ← name_of_word plain
   key ← hex_of 32 key
-  id ← hex_of 16 id
+  id ← hex_of id_size id
   Some (line.Owner (record { plain = plain; key = record { 0 = key }; id = record { 0 = id } }))
 owner_line _ = None
 

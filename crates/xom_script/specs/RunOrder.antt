@@ -8,6 +8,8 @@ use Rattle.xom_base.specs.declared.key.Key256.{Key256}
 use Rattle.xom_base.specs.declared.schedule.Interrupts.{Interrupts}
 use Rattle.xom_base.specs.declared.schedule.Poke.{Poke}
 use Rattle.xom_base.specs.Options.{where_holds}
+use Rattle.xom_base.specs.Sizes.{slot_limit}
+use Rattle.xom_base.specs.Frames.{frame_size}
 use Rattle.xom_script.specs.declared.run_file.OwnerFile.{OwnerFile}
 use Rattle.xom_script.specs.declared.run_file.GuestFile.{GuestFile}
 use Rattle.xom_script.specs.declared.run_file.KernelLine.{KernelLine}
@@ -18,6 +20,10 @@ use Rattle.xom_script.specs.declared.run_line.RunLine.TheVariants as line
 use Rattle.xom_script.specs.declared.progress.Draft.{Draft}
 use Rattle.xom_script.specs.declared.progress.Progress.{Progress}
 use Rattle.xom_script.specs.declared.progress.Progress.TheVariants as progress
+
+-- at most so many owners are in a run file
+abbrev pub owner_limit : ℕ
+owner_limit = 16
 
 -- no earlier owner has this id
 abbrev pub IsNewId : ImageId → List OwnerFile → Type 0
@@ -36,7 +42,7 @@ last_event pokes =
 
 -- the write lies inside a RAM of so many frames
 abbrev pub FitsRam : Poke → ℕ → Type 0
-FitsRam poke frames = poke.address + length poke.bytes ≤ frames * 8192
+FitsRam poke frames = poke.address + length poke.bytes ≤ frames * frame_size
 
 -- the run so far, before its files
 abbrev pub first_draft : Key256 → ℕ → ℕ → ℕ → Draft
@@ -101,10 +107,10 @@ Follows before n (line.Budget budget) after =
     × (after ≡ progress.Files (first_draft machine boot frames budget))
 Follows before n (line.Owner owner) after =
     (draft : Draft) × (before ≡ progress.Files draft)
-    × (draft.guests ≡ []) × (length draft.owners < 16) × IsNewId owner.id draft.owners
+    × (draft.guests ≡ []) × (length draft.owners < owner_limit) × IsNewId owner.id draft.owners
     × (after ≡ progress.Files (with_owner draft owner))
 Follows before n (line.Guest sealed input) after =
-    (draft : Draft) × (before ≡ progress.Files draft) × (length draft.guests < 16)
+    (draft : Draft) × (before ≡ progress.Files draft) × (length draft.guests < slot_limit)
     × (after ≡ progress.Files
     (draft_with_guest draft (record { line = n; sealed = sealed; input = input })))
 Follows before n (line.Kernel kernel) after =
@@ -139,7 +145,8 @@ has_id id owners = list_any (λ (owner : OwnerFile). bytes_eq owner.id.0 id.0) o
 -- whether an owner of this id may come: before the guests, at most 16, each of another id
 abbrev pub takes_owner : Draft → ImageId → Bool
 takes_owner draft id =
-    (length draft.guests == 0) && (nat_lt (length draft.owners) 16 && not (has_id id draft.owners))
+    (length draft.guests == 0)
+    && (nat_lt (length draft.owners) owner_limit && not (has_id id draft.owners))
 
 -- whether the built-in kernel has room for its guests and their pages in so many frames
 abbrev pub has_room : KernelLine → ℕ → ℕ → Bool
@@ -149,7 +156,7 @@ has_room (kernel.Xomos pages) frames guests = nat_le (guests * (52 + pages)) fra
 
 -- whether a write of the bus lies in RAM of so many frames
 abbrev pub fits_ram : Poke → ℕ → Bool
-fits_ram poke frames = nat_le (poke.address + length poke.bytes) (frames * 8192)
+fits_ram poke frames = nat_le (poke.address + length poke.bytes) (frames * frame_size)
 
 -- whether a write of the bus may come: behind the last one, and inside RAM
 abbrev pub takes_poke : RunFile → Poke → Bool
@@ -161,7 +168,7 @@ unfoldable pub after_files : Draft → ℕ → RunLine → Option Progress
 after_files draft n (line.Owner owner) =
     where_holds (takes_owner draft owner.id) (progress.Files (with_owner draft owner))
 after_files draft n (line.Guest sealed input) =
-    where_holds (nat_lt (length draft.guests) 16)
+    where_holds (nat_lt (length draft.guests) slot_limit)
     (progress.Files (draft_with_guest draft (record { line = n; sealed = sealed; input = input })))
 after_files draft n (line.Kernel kernel) =
     where_holds (has_room kernel draft.frames (length draft.guests))

@@ -4,8 +4,9 @@ use Rattle.std.specs.List.{AllByRecursion}
 use Rattle.xom_base.specs.declared.schedule.Interrupts.{Interrupts}
 use Rattle.xom_base.specs.declared.schedule.Interrupts.TheVariants as interrupts
 use Rattle.xom_base.specs.declared.schedule.Poke.{Poke}
+use Rattle.xom_base.specs.Sizes.{slot_limit}
 use Rattle.xom_script.specs.RunLines.{Ascends}
-use Rattle.xom_script.specs.RunOrder.{FitsRam, HasRoom, IsNewId}
+use Rattle.xom_script.specs.RunOrder.{FitsRam, HasRoom, IsNewId, owner_limit}
 use Rattle.xom_script.specs.declared.progress.Draft.{Draft}
 use Rattle.xom_script.specs.declared.run_file.OwnerFile.{OwnerFile}
 use Rattle.xom_script.specs.declared.run_file.RunFile.{RunFile}
@@ -31,9 +32,9 @@ pub record KeepsNumbers (boot frames budget : ℕ) : Type 0 where
 -- what is said before the kernel's line
 pub record KeepsDraft (draft : Draft) : Type 0 where
   pub numbers : KeepsNumbers draft.boot draft.frames draft.budget
-  pub owners : length draft.owners ≤ 16
+  pub owners : length draft.owners ≤ owner_limit
   pub ids : HasOwnIds draft.owners
-  pub guests : length draft.guests ≤ 16
+  pub guests : length draft.guests ≤ slot_limit
 
 -- what a run file says before the kernel's line
 abbrev pub draft_of : RunFile → Draft

@@ -6,6 +6,7 @@ use Rattle.std.specs.Str.{bytes_eq}
 use Rattle.aes_block.specs.Cipher.{aes128}
 use Rattle.keyed_mac.specs.Hmac.{hmac_sha256}
 use Rattle.xom_base.specs.declared.key.Key256.{Key256}
+use Rattle.xom_base.specs.Sizes.{id_size}
 use Rattle.xom_seal.specs.declared.envelope.Unwrapped.{Unwrapped}
 use Rattle.xom_seal.specs.Counters.{envelope_counter}
 use Rattle.xom_seal.specs.Keys.{envelope_aes_key}
@@ -21,11 +22,11 @@ envelope_fields id entry lines wrapped =
 
 -- the id that an envelope has
 abbrev pub id_in : List ℕ → List ℕ
-id_in envelope = take 16 envelope
+id_in envelope = take id_size envelope
 
 -- the entry that an envelope has
 abbrev pub entry_of_envelope : List ℕ → ℕ
-entry_of_envelope envelope = from_be_bytes w32 (take 4 (drop 16 envelope))
+entry_of_envelope envelope = from_be_bytes w32 (take 4 (drop id_size envelope))
 
 -- the number of lines that an envelope has
 abbrev pub lines_in : List ℕ → ℕ

@@ -4,6 +4,7 @@
 use Rattle.std.specs.Prelude.{ℕ, ◌≡◌, ◌≢◌, ◌^◌, ◌<◌, ◌==◌, ◌&&◌, false, List, length, Some, take}
 use Rattle.xom_base.specs.declared.key.ImageId.{ImageId}
 use Rattle.xom_base.specs.declared.key.Key256.{Key256}
+use Rattle.xom_base.specs.Sizes.{id_size}
 use Rattle.xom_seal.specs.declared.envelope.Unwrapped.{Unwrapped}
 use Rattle.xom_seal.specs.declared.keys.LineKeys.{LineKeys}
 use Rattle.xom_seal.specs.declared.keys.RegisterKeys.{RegisterKeys}
@@ -39,7 +40,7 @@ EnvelopeMessagesTell =
 abbrev pub EnvelopeFieldsTell : Type 0
 EnvelopeFieldsTell =
     (id id' : List ℕ) (entry entry' lines lines' : ℕ) (key key' : List ℕ)
-    → length id ≡ 16 → length id' ≡ 16 → entry < 2 ^ 32 → entry' < 2 ^ 32 → lines < 2 ^ 32
+    → length id ≡ id_size → length id' ≡ id_size → entry < 2 ^ 32 → entry' < 2 ^ 32 → lines < 2 ^ 32
     → lines' < 2 ^ 32
     → envelope_fields id entry lines key ≡ envelope_fields id' entry' lines' key'
     → (id ≡ id') × (entry ≡ entry') × (lines ≡ lines') × (key ≡ key')
@@ -57,7 +58,7 @@ pub record KindsDiffer : Type 0 where
 
 -- how many bytes the messages have
 pub record MessageLengths : Type 0 where
-  pub image_line : (id : ImageId) (line : ℕ) (ct : List ℕ) → length id.0 ≡ 16 → length ct ≡ 32
+  pub image_line : (id : ImageId) (line : ℕ) (ct : List ℕ) → length id.0 ≡ id_size → length ct ≡ 32
       → length (line_message (Image id line) ct) ≡ 53
   pub run_line : (boot install line version : ℕ) (ct : List ℕ) → length ct ≡ 32
       → length (line_message (Run boot install line version) ct) ≡ 61
@@ -146,7 +147,7 @@ RegistersOpen =
 
 -- the fields of what an envelope says are in their ranges, as they are in each value of the type
 pub record IsUnwrapped (plain : Unwrapped) : Type 0 where
-  pub id : length plain.id.0 ≡ 16
+  pub id : length plain.id.0 ≡ id_size
   pub entry : plain.entry < 2 ^ 32
   pub lines : plain.lines < 2 ^ 32
   pub key : length plain.key.0 ≡ 32

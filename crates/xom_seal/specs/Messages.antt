@@ -3,6 +3,7 @@
 use Rattle.std.specs.Prelude.{ℕ, ◌^◌, ◌<◌, ◌≡◌, ◌&&◌, Bool, List, [], ◌∷◌, ◌++◌, drop, length, take}
 use Rattle.std.specs.Int.{w32, w64, from_be_bytes, to_be_bytes}
 use Rattle.std.specs.Str.{bytes_eq}
+use Rattle.xom_base.specs.Sizes.{id_size}
 use Rattle.xom_seal.specs.declared.names.LineName.{LineName}
 use Rattle.xom_seal.specs.declared.names.LineName.TheVariants.{Image, Run}
 use Rattle.xom_seal.specs.declared.names.RegName.{RegName}
@@ -28,7 +29,7 @@ envelope_message envelope = 4 ∷ take 56 envelope
 
 -- the fields of a line's name are in their ranges, as they are in each value of the type
 abbrev pub IsLineName : LineName → Type 0
-IsLineName (Image id line) = (length id.0 ≡ 16) × (line < 2 ^ 32)
+IsLineName (Image id line) = (length id.0 ≡ id_size) × (line < 2 ^ 32)
 IsLineName (Run boot install line version) =
     (boot < 2 ^ 64) × (install < 2 ^ 64) × (line < 2 ^ 32) × (version < 2 ^ 64)
 
