@@ -20,6 +20,8 @@ use xom_versions::VersionStore;
 /// The room that one event may take of the journal, in bytes of spare.
 pub const EVENT_ROOM: u64 = 1_048_576;
 
+const _: () = prove!(EVENT_ROOM == 1_048_576);
+
 /// The parts of the processor that guests and operations change, with the RAM that it works on.
 #[derive(Drop)]
 pub struct Core<V: VersionStore> {
