@@ -1,7 +1,7 @@
 -- The owners of a run.
 use Rattle.std.specs.Prelude.{◌≡◌, ℕ, List, [], ◌∷◌, Some, Result, Ok, length, slice_get}
 use Rattle.xom_base.specs.declared.image.PlainImage.{PlainImage}
-use Rattle.xom_base.specs.Sizes.{id_size}
+use Rattle.xom_base.specs.Sizes.{id_size, key_size}
 use Rattle.xom_owners.specs.Owners.{AreDistinct}
 use Rattle.xom_owners.specs.declared.owner.Owner.{Owner}
 use Rattle.xom_script.specs.declared.run_file.OwnerFile.{OwnerFile}
@@ -31,5 +31,6 @@ AreOwnersOf (line ∷ lines) [] = ⊥
 -- what the machine wants of owners: their ids are distinct, and ids and keys have their lengths
 pub record AreWhole (owners : List Owner) : Type 0 where
   pub distinct : AreDistinct owners
-  pub keys : (i : ℕ) (owner : Owner) → slice_get owners i ≡ Some owner → length owner.key.0 ≡ 32
+  pub keys : (i : ℕ) (owner : Owner) → slice_get owners i ≡ Some owner
+      → length owner.key.0 ≡ key_size
   pub ids : (i : ℕ) (owner : Owner) → slice_get owners i ≡ Some owner → length owner.id.0 ≡ id_size

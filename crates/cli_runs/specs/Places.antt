@@ -2,11 +2,8 @@
 use Rattle.std.specs.Prelude.{ℕ, ◌+◌, ◌*◌, ◌/◌, ◌≤◌, ◌&&◌, nat_le, Bool, List, [], ◌∷◌, length}
 use Rattle.xom_base.specs.declared.image.PlainImage.{PlainImage}
 use Rattle.xom_base.specs.Frames.{frame_size}
+use Rattle.xom_base.specs.Sizes.{page_lines}
 use Rattle.cli_runs.specs.declared.guest_image.GuestImage.{GuestImage}
-
--- how many lines a page has
-abbrev pub page_lines : ℕ
-page_lines = 128
 
 -- ---- Guests
 

@@ -1,7 +1,7 @@
 -- The run file of a run.
 use Rattle.std.specs.Prelude.{◌≡◌, ℕ, ◌^◌, ◌<◌, ◌≤◌, Bool, true, false, List, length, Result, Ok, Err, if◌then◌else◌}
 use Rattle.std.specs.List.{AllByRecursion}
-use Rattle.xom_base.specs.Sizes.{id_size, slot_limit}
+use Rattle.xom_base.specs.Sizes.{id_size, key_size, slot_limit}
 use Rattle.xom_script.specs.RunFiles.{run_file_at}
 use Rattle.xom_script.specs.RunOrder.{owner_limit}
 use Rattle.xom_script.specs.RunRules.{HasOwnIds}
@@ -45,7 +45,7 @@ built_run_of held run = do
 
 -- the key and the id of an owner's line have their lengths
 pub record IsOwnerLine (line : OwnerFile) : Type 0 where
-  pub key : length line.key.0 ≡ 32
+  pub key : length line.key.0 ≡ key_size
   pub id : length line.id.0 ≡ id_size
 
 -- what the machine wants of a run file: its numbers are in their ranges, no two owners have one id,

@@ -3,7 +3,7 @@
 use Rattle.std.specs.Prelude.{ℕ, ◌≡◌, List, ◌∷◌, Some, length, map, slice_get}
 use Rattle.keyed_mac.specs.Hmac.{hmac_sha256}
 use Rattle.xom_base.specs.declared.key.Key256.{Key256}
-use Rattle.xom_base.specs.Sizes.{id_size}
+use Rattle.xom_base.specs.Sizes.{id_size, key_size}
 use Rattle.xom_seal.specs.declared.line.SealedLine.{SealedLine}
 use Rattle.xom_seal.specs.declared.names.LineName.TheVariants.{Image}
 use Rattle.xom_seal.specs.Envelopes.{envelope_contents, tag_in}
@@ -16,7 +16,7 @@ use Rattle.image_sealer.specs.Sealing.{IsSealedFor, contents_for_owner, lines_of
 -- the id has 16 bytes and the key 32, as they have in each value of the types
 pub record IsOwner (owner : Owner) : Type 0 where
   pub id : length owner.id.0 ≡ id_size
-  pub key : length owner.key.0 ≡ 32
+  pub key : length owner.key.0 ≡ key_size
 
 -- the envelope opens to the image's id, entry, number of lines and key
 abbrev pub OwnersEnvelopesOpen : Type 0

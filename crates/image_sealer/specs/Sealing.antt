@@ -3,6 +3,7 @@
 use Rattle.std.specs.Prelude.{ℕ, ◌≡◌, ◌+◌, ◌*◌, ◌/◌, List, ◌∷◌, drop, length, map, take}
 use Rattle.std.specs.List.{range_with_len}
 use Rattle.xom_base.specs.Padded.{padded_block}
+use Rattle.xom_base.specs.Sizes.{line_size}
 use Rattle.xom_base.specs.declared.key.Key256.{Key256}
 use Rattle.xom_seal.specs.declared.envelope.Unwrapped.{Unwrapped}
 use Rattle.xom_seal.specs.declared.line.SealedLine.{SealedLine}
@@ -18,11 +19,11 @@ use Rattle.xom_owners.specs.declared.owner.Owner.{Owner}
 
 -- how many lines of 32 bytes these bytes have
 abbrev pub line_count : List ℕ → ℕ
-line_count bytes = (length bytes + 31) / 32
+line_count bytes = (length bytes + 31) / line_size
 
 -- one of their lines, by its number from 0; the last is filled up with zeros
 abbrev pub line_of_image : List ℕ → ℕ → List ℕ
-line_of_image bytes line = padded_block 32 (take 32 (drop (32 * line) bytes))
+line_of_image bytes line = padded_block line_size (take line_size (drop (line_size * line) bytes))
 
 -- all their lines
 abbrev pub lines_of_image : List ℕ → List (List ℕ)

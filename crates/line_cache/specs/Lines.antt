@@ -1,9 +1,9 @@
 -- The cache as a map from lines of slots to what is cached of them.
 use Rattle.std.specs.Prelude.{ℕ, ◌+◌, ◌/◌, ◌%◌, ◌^◌, ◌≡◌, ◌≢◌, ◌≤◌, ◌<◌, ◌==◌, ◌&&◌, Bool, true, false, List, Option, Some, None, length, IfSome}
-use Rattle.xom_base.specs.Sizes.{slot_limit}
+use Rattle.xom_base.specs.Sizes.{page_lines, slot_limit}
 use Rattle.line_cache.specs.declared.way.Way.{Way}
 use Rattle.line_cache.specs.declared.way.Victim.{Victim}
-use Rattle.line_cache.specs.Ways.{Cache, cache_with_way, first_place, free_way, new_way, place_of_line, victim_of, way_at, way_with_bytes}
+use Rattle.line_cache.specs.Ways.{Cache, cache_places, cache_sets, cache_with_way, first_place, free_way, new_way, place_of_line, victim_of, way_at, way_with_bytes}
 
 -- the way holds this line of this slot
 pub record Holds (way : Way) (slot line : ℕ) : Type 0 where
@@ -16,10 +16,10 @@ IsFilled ways place = (way_at ways place).slot ≢ 0
 
 -- a filled way stands in its line's set, and no line stands in two places
 pub record IsCache (cache : Cache) : Type 0 where
-  pub places : length cache.ways ≡ 128
-  pub sets : length cache.pointers ≡ 32
+  pub places : length cache.ways ≡ cache_places
+  pub sets : length cache.pointers ≡ cache_sets
   pub in_set : (place : ℕ) → IsFilled cache.ways place
-      → place / 4 ≡ (way_at cache.ways place).line % 32
+      → place / 4 ≡ (way_at cache.ways place).line % cache_sets
   pub once : (place other : ℕ) → IsFilled cache.ways place
       → Holds (way_at cache.ways other) (way_at cache.ways place).slot
       (way_at cache.ways place).line
@@ -68,7 +68,7 @@ pub record BringsIn (old new : List Way) (slot line : ℕ) (bytes : List ℕ)
 
 -- the way holds a line of a page of 128 lines
 abbrev pub is_in_page : ℕ → ℕ → Way → Bool
-is_in_page slot page way = (way.slot == slot) && (way.line / 128 == page)
+is_in_page slot page way = (way.slot == slot) && (way.line / page_lines == page)
 
 -- of the first places, this one holds the least line of the page
 pub record HoldsLeast (ways : List Way) (slot page count place : ℕ) : Type 0 where
@@ -85,14 +85,16 @@ IsLeastAmong ways slot page count None =
 
 -- no line of the page is cached
 abbrev pub HasNoLine : List Way → ℕ → ℕ → Type 0
-HasNoLine ways slot page = (line : ℕ) → line / 128 ≡ page → place_of_line ways slot line ≡ None
+HasNoLine ways slot page =
+    (line : ℕ) → line / page_lines ≡ page → place_of_line ways slot line ≡ None
 
 -- the least line of the page is handed out, and every other line is as before
 pub record TakesLeast (old new : Cache) (slot page : ℕ) (victim : Victim) : Type 0 where
   pub range : IsLine victim
   pub slot_is : victim.slot ≡ slot
-  pub page_is : victim.line / 128 ≡ page
-  pub least : (line : ℕ) → line < victim.line → line / 128 ≡ page → place_of_line old.ways slot line ≡ None
+  pub page_is : victim.line / page_lines ≡ page
+  pub least : (line : ℕ) → line < victim.line → line / page_lines ≡ page
+      → place_of_line old.ways slot line ≡ None
   pub place : ℕ
   pub place_is : place_of_line old.ways slot victim.line ≡ Some place
   pub whole : victim ≡ victim_of (way_at old.ways place)

@@ -1,12 +1,21 @@
 -- The cache of private lines: 128 places in 32 sets of 4 ways, where way w of set s is place
 -- 4 s + w, and for each set a pointer to the way that is taken next once the set is full.
 use Rattle.std.specs.Prelude.{ℕ, ◌+◌, ◌*◌, ◌%◌, ◌==◌, ◌&&◌, Bool, true, false, List, Option, Some, None, map, position, replicate, slice_index_or, slice_range, slice_set, if◌then◌else◌}
+use Rattle.xom_base.specs.Sizes.{line_size}
 use Rattle.line_cache.specs.declared.way.Way.{Way}
 use Rattle.line_cache.specs.declared.way.Victim.{Victim}
 
+-- how many sets the cache has
+abbrev pub cache_sets : ℕ
+cache_sets = 32
+
+-- how many places it has, four in each set
+abbrev pub cache_places : ℕ
+cache_places = 128
+
 -- a way of slot 0 holds no line
 abbrev pub free_way : Way
-free_way = record { slot = 0; line = 0; bytes = replicate 32 0; dirty = false }
+free_way = record { slot = 0; line = 0; bytes = replicate line_size 0; dirty = false }
 
 -- the ways in the order of their places, and the pointers in the order of the sets
 pub record Cache : Type 0 where
@@ -15,11 +24,11 @@ pub record Cache : Type 0 where
 
 -- all ways free
 unfoldable pub no_ways : List Way
-no_ways = replicate 128 free_way
+no_ways = replicate cache_places free_way
 
 -- every set's pointer names its first way
 unfoldable pub first_pointers : List ℕ
-first_pointers = replicate 32 0
+first_pointers = replicate cache_sets 0
 
 -- the cache in which nothing is held
 abbrev pub empty_cache : Cache
@@ -41,7 +50,7 @@ place_of_line ways slot line = position (is_of slot line) ways
 
 -- the set of a line is its number modulo 32
 abbrev pub first_place : ℕ → ℕ
-first_place line = 4 * (line % 32)
+first_place line = 4 * (line % cache_sets)
 
 -- the four ways in which a line may stand
 abbrev pub set_of : List Way → ℕ → List Way
@@ -57,7 +66,7 @@ free_in_set ways line = position is_free (set_of ways line)
 
 -- the way that the pointer of a line's set names
 abbrev pub way_of_pointer : List ℕ → ℕ → ℕ
-way_of_pointer pointers line = slice_index_or pointers (line % 32) 0 % 4
+way_of_pointer pointers line = slice_index_or pointers (line % cache_sets) 0 % 4
 
 -- ---- A new line
 
@@ -76,7 +85,7 @@ place_for ways pointers line =
 abbrev pub moved_on : Option ℕ → List ℕ → ℕ → List ℕ
 moved_on (Some free) pointers line = pointers
 moved_on None pointers line =
-    slice_set pointers (line % 32) ((way_of_pointer pointers line + 1) % 4)
+    slice_set pointers (line % cache_sets) ((way_of_pointer pointers line + 1) % 4)
 
 -- the pointer of a full set moves to the next way, and from the last to the first
 abbrev pub pointers_after : List Way → List ℕ → ℕ → List ℕ

@@ -1,14 +1,11 @@
 -- RAM as a list of bytes, its ranges, and where a sealed line lies in a frame.
 use Rattle.std.specs.Prelude.{ℕ, ◌+◌, ◌*◌, ◌≤◌, List, ◌++◌, length, take, drop}
 use Rattle.xom_base.specs.Frames.{frame_size}
+use Rattle.xom_base.specs.Sizes.{line_size, page_lines}
 
--- how many bytes a line has
-abbrev pub line_size : ℕ
-line_size = 32
-
--- how many lines a frame has
+-- how many lines a frame has: those of one page
 abbrev pub frame_lines : ℕ
-frame_lines = 128
+frame_lines = page_lines
 
 -- where a frame has its tags, behind its ciphertexts
 abbrev pub tags_offset : ℕ

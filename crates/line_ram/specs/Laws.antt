@@ -1,7 +1,8 @@
 -- What whoever writes ranges may know of the bytes that are there afterwards.
 use Rattle.std.specs.Prelude.{◌≡◌, ◌⊎◌, ℕ, ◌+◌, ◌*◌, ◌≤◌, ◌<◌, List, length}
 use Rattle.xom_base.specs.Frames.{frame_size}
-use Rattle.line_ram.specs.Bytes.{HoldsFrame, HoldsRange, bytes_at, frame_lines, line_size, ram_with_bytes, ram_with_line, tags_offset}
+use Rattle.line_ram.specs.Bytes.{HoldsFrame, HoldsRange, bytes_at, frame_lines, ram_with_bytes, ram_with_line, tags_offset}
+use Rattle.xom_base.specs.Sizes.{line_size}
 use Rattle.line_ram.specs.Lending.{stored_through}
 
 -- the first range ends before the second begins, or behind it

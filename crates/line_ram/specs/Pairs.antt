@@ -1,7 +1,8 @@
 -- Two ranges of the size of a line that are lent at once.
 use Rattle.std.specs.Prelude.{ℕ, ◌+◌, ◌≤◌, List}
 use Rattle.std.specs.Borrow.{Array, Fml, LendsBoth, MutBor, u8}
-use Rattle.line_ram.specs.Bytes.{HoldsRange, line_size, ram_with_bytes}
+use Rattle.line_ram.specs.Bytes.{HoldsRange, ram_with_bytes}
+use Rattle.xom_base.specs.Sizes.{line_size}
 
 -- both places have the bytes of a line, the first ones before the second
 abbrev pub IsPair : List ℕ → ℕ → ℕ → Type 0

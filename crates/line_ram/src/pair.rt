@@ -1,7 +1,8 @@
 ghost use Rattle.std.specs.Prelude.{◌≡◌, ◌<◌, ◌+◌, ◌*◌, length};
 ghost use Rattle.std.specs.Borrow.{sem};
 ghost use Rattle.xom_base.specs.Frames.{frame_size};
-ghost use Rattle.line_ram.specs.Bytes.{bytes_at, frame_lines, line_size, tags_offset};
+ghost use Rattle.line_ram.specs.Bytes.{bytes_at, frame_lines, tags_offset};
+ghost use Rattle.xom_base.specs.Sizes.{line_size};
 ghost use Rattle.line_ram.specs.Pairs.{IsPair, LendsPair};
 
 /// How many bytes a line has, and as many its tag.

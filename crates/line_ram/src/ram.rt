@@ -1,7 +1,8 @@
 ghost use Rattle.std.specs.Prelude.{◌≡◌, ◌≤◌, ◌<◌, ◌+◌, ◌-◌, ◌*◌, ◌^◌, ◌++◌, ◌↔◌, List, ℕ, IfOk, IsTrue, drop, length, replicate, take, vec_capacity, vec_len};
 ghost use Rattle.std.specs.Borrow.{sem};
 ghost use Rattle.xom_base.specs.Frames.{frame_size};
-ghost use Rattle.line_ram.specs.Bytes.{HoldsFrame, HoldsRange, bytes_at, ciphertext_place, frame_lines, line_size, ram_with_bytes, ram_with_line, tag_place};
+ghost use Rattle.line_ram.specs.Bytes.{HoldsFrame, HoldsRange, bytes_at, ciphertext_place, frame_lines, ram_with_bytes, ram_with_line, tag_place};
+ghost use Rattle.xom_base.specs.Sizes.{line_size};
 ghost use Rattle.line_ram.specs.Lending.{LendsRange, stored_through};
 
 use std::alloc::Global;

@@ -5,7 +5,8 @@ use Rattle.std.proofs.lemmas.List.{length-replicate}
 use Rattle.std.proofs.lemmas.Option.{slice_get_within}
 use Rattle.std.specs.Prelude.{All, nat_lt, slice_get}
 use Rattle.xom_seal.specs.declared.line.SealedLine.{SealedLine}
-use Rattle.line_ram.specs.Bytes.{HoldsRange, bytes_at, ciphertext_place, frame_lines, line_size, ram_with_bytes, ram_with_line, tag_place}
+use Rattle.line_ram.specs.Bytes.{HoldsRange, bytes_at, ciphertext_place, frame_lines, ram_with_bytes, ram_with_line, tag_place}
+use Rattle.xom_base.specs.Sizes.{line_size}
 use Rattle.line_ram.specs.Laws.{AreApart}
 use Rattle.line_ram.proofs.Ranges.{bytes-stored_apart, bytes-stored_same, length-stored}
 use Rattle.xom_base.specs.declared.image.PlainImage.{PlainImage}

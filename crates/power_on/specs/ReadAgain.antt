@@ -4,7 +4,8 @@ use Rattle.xom_base.specs.declared.image.PlainImage.{PlainImage}
 use Rattle.xom_base.specs.Frames.{frame_size}
 use Rattle.xom_model.specs.Operation.{envelope_size}
 use Rattle.xom_seal.specs.declared.line.SealedLine.{SealedLine}
-use Rattle.line_ram.specs.Bytes.{bytes_at, ciphertext_place, frame_lines, line_size, tag_place}
+use Rattle.line_ram.specs.Bytes.{bytes_at, ciphertext_place, frame_lines, tag_place}
+use Rattle.xom_base.specs.Sizes.{line_size}
 use Rattle.cli_runs.specs.Places.{FitsAll, first_frame, frame_behind, kernel_limit}
 use Rattle.cli_runs.specs.declared.guest_image.GuestImage.{GuestImage}
 use Rattle.power_on.specs.Start.{kernel_bytes, ram_at_start}

@@ -3,7 +3,7 @@
 use Rattle.std.specs.Prelude.{ℕ, ◌+◌, ◌%◌, ◌^◌, Bool, true, false, List, Option, None, length, position, replicate, slice_index_or, slice_set, ◌≡◌}
 use Rattle.xom_base.specs.declared.key.ImageId.{ImageId}
 use Rattle.xom_base.specs.declared.key.Key256.{Key256}
-use Rattle.xom_base.specs.Sizes.{compartment_count, id_size}
+use Rattle.xom_base.specs.Sizes.{compartment_count, id_size, key_size}
 use Rattle.session_table.specs.declared.session.Session.{Session}
 use Rattle.session_table.specs.declared.session.SlotState.{SlotState}
 use Rattle.session_table.specs.declared.session.SlotState.TheVariants as state
@@ -19,7 +19,7 @@ free = record {
   install = 0;
   id = record { 0 = replicate id_size 0 };
   key =
-      record { 0 = replicate 32 0 };
+      record { 0 = replicate key_size 0 };
   entry = 0;
   lines = 0;
   pc = 0;

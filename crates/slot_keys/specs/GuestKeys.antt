@@ -3,7 +3,7 @@
 use Rattle.std.specs.Prelude.{ℕ, List, ◌≡◌, ◌≢◌, length, replicate, slice_index_or}
 use Rattle.xom_base.specs.declared.key.ImageId.{ImageId}
 use Rattle.xom_base.specs.declared.key.Key256.{Key256}
-use Rattle.xom_base.specs.Sizes.{compartment_count, id_size}
+use Rattle.xom_base.specs.Sizes.{compartment_count, id_size, key_size}
 use Rattle.xom_seal.specs.declared.keys.LineKeys.{LineKeys}
 use Rattle.xom_seal.specs.declared.keys.RegisterKeys.{RegisterKeys}
 use Rattle.xom_seal.specs.Keys.{image_keys, register_keys, run_keys}
@@ -28,7 +28,8 @@ with_registers keys registers = record keys { registers = registers }
 
 -- what stands where there is no guest: the keys of a key and an id of zeros
 abbrev pub no_keys : GuestKeys
-no_keys = keys_of_install (record { 0 = replicate 32 0 }) (record { 0 = replicate id_size 0 }) 0 0 0
+no_keys =
+    keys_of_install (record { 0 = replicate key_size 0 }) (record { 0 = replicate id_size 0 }) 0 0 0
 
 -- no slot has the keys of a guest
 unfoldable pub none_ready : List GuestKeys

@@ -25,3 +25,19 @@ page_count = 256
 -- how many bytes an owner's id has
 abbrev pub id_size : ℕ
 id_size = 16
+
+-- how many bytes a key of the machine, of an owner or of a guest has
+abbrev pub key_size : ℕ
+key_size = 32
+
+-- how many bytes a line of private memory has, sealed or not
+abbrev pub line_size : ℕ
+line_size = 32
+
+-- how many bytes the tag of a message has
+abbrev pub tag_size : ℕ
+tag_size = 32
+
+-- how many lines a page has
+abbrev pub page_lines : ℕ
+page_lines = 128

@@ -6,7 +6,7 @@ use Rattle.xom_base.specs.Numbers.{number_below_of}
 use Rattle.xom_base.specs.declared.key.ImageId.{ImageId}
 use Rattle.xom_base.specs.declared.key.Key256.{Key256}
 use Rattle.xom_base.specs.Options.{◌>>=◌}
-use Rattle.xom_base.specs.Sizes.{id_size}
+use Rattle.xom_base.specs.Sizes.{id_size, key_size}
 
 -- a command with what its words say
 pub data Row : Type 0 where
@@ -41,9 +41,9 @@ plain_row image steps received =
 -- the row of `seal`, where the words for its keys and its id are their digits
 unfoldable pub seal_row : List ℕ → List ℕ → List ℕ → List ℕ → List ℕ → Option Row
 seal_row image key id machine sealed = do
-  key ← hex_of 32 key
+  key ← hex_of key_size key
   id ← hex_of id_size id
-  machine ← hex_of 32 machine
+  machine ← hex_of key_size machine
   Some (Seal image (record { 0 = key }) (record { 0 = id }) (record { 0 = machine }) sealed)
 
 -- the row of a command with one word behind it

@@ -2,9 +2,10 @@
 use Rattle.std.specs.Prelude.{◌≡◌, ℕ, ◌+◌, ◌%◌, ◌≤◌, ◌<◌, List, Option, Some, None, length}
 use Rattle.xom_base.specs.declared.step.Stored.{Stored}
 use Rattle.xom_base.specs.declared.step.Stored.TheVariants as stored
+use Rattle.xom_base.specs.Sizes.{line_size}
 use Rattle.line_cache.specs.declared.way.Way.{Way}
 use Rattle.line_cache.specs.Lines.{IsFilled}
-use Rattle.line_cache.specs.Ways.{way_at}
+use Rattle.line_cache.specs.Ways.{cache_places, way_at}
 use Rattle.xom_model.specs.declared.reach.Reach.{Reach}
 use Rattle.xom_model.specs.declared.reach.Reach.TheVariants as reach
 use Rattle.xom_model.specs.Holds.{IsRunning}
@@ -12,7 +13,7 @@ use Rattle.xom_model.specs.State.{CoreState, session_of}
 
 -- the place is one of the cache, and holds a line of the slot where the cache has all its places
 pub record IsPlaceOf (ways : List Way) (slot place : ℕ) : Type 0 where
-  pub low : place < 128
+  pub low : place < cache_places
   pub own : place < length ways → (way_at ways place).slot ≡ slot
 
 -- the same of the line that holds an address, if there is one
@@ -24,13 +25,14 @@ IsPlaceFor ways slot place (Some address) = IsPlaceOf ways slot place
 abbrev pub StoresIn : List Way → ℕ → ℕ → Stored → Type 0
 StoresIn ways slot place stored.Nothing = Unit {0}
 StoresIn ways slot place (stored.Bytes address count value) =
-    IsPlaceOf ways slot place × (1 ≤ count) × (count ≤ 4) × (address % 32 + count ≤ 32)
+    IsPlaceOf ways slot place × (1 ≤ count) × (count ≤ 4)
+    × (address % line_size + count ≤ line_size)
 
 -- the place is filled and takes what is stored
 abbrev pub CanStore : List Way → ℕ → Stored → Type 0
 CanStore ways place stored.Nothing = Unit {0}
 CanStore ways place (stored.Bytes address count value) =
-    IsFilled ways place × (1 ≤ count) × (count ≤ 4) × (address % 32 + count ≤ 32)
+    IsFilled ways place × (1 ≤ count) × (count ≤ 4) × (address % line_size + count ≤ line_size)
 
 -- the slot's guest runs on in another core, under the same epoch
 pub record RunsOn (core new : CoreState) (slot : ℕ) : Type 0 where

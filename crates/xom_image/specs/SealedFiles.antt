@@ -3,6 +3,7 @@
 use Rattle.std.specs.Prelude.{ℕ, ◌≡◌, ◌+◌, ◌*◌, ◌^◌, List, [], ◌∷◌, ◌++◌, Result, Ok, codes, drop, map, take}
 use Rattle.std.specs.List.{flat_map, range_with_len}
 use Rattle.xom_base.specs.Results.{◌>>=◌}
+use Rattle.xom_base.specs.Sizes.{line_size, tag_size}
 use Rattle.xom_seal.specs.declared.line.SealedLine.{SealedLine}
 use Rattle.xom_image.specs.declared.fault.ImageFault.{ImageFault}
 use Rattle.xom_image.specs.declared.fields.Format.{Format}
@@ -43,8 +44,8 @@ IsFirstBadSealed file n = IsFirstBadOf sealed_format file n
 -- the line whose bytes begin here
 abbrev pub sealed_line_at : List ℕ → ℕ → SealedLine
 sealed_line_at file place = record {
-  ct = take 32 (drop place file);
-  tag = take 32 (drop (place + 32) file);
+  ct = take line_size (drop place file);
+  tag = take tag_size (drop (place + line_size) file);
 }
 
 -- the first lines of a file

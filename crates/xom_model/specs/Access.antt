@@ -12,7 +12,7 @@ use Rattle.xom_model.specs.declared.reach.Reach.{Reach}
 use Rattle.xom_model.specs.declared.reach.Reach.TheVariants as reach
 use Rattle.xom_versions.specs.declared.store.Torn.{Torn}
 use Rattle.xom_versions.specs.Versions.{Versions}
-use Rattle.line_ram.specs.Bytes.{line_size}
+use Rattle.xom_base.specs.Sizes.{line_size}
 use Rattle.page_map.specs.Pages.{frame_of, without_pages}
 use Rattle.line_cache.specs.declared.way.Way.{Way}
 use Rattle.line_cache.specs.Ways.{free_way, new_way, place_for, place_of_line, pointers_after, way_at, without_slot}

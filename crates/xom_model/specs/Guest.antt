@@ -24,7 +24,8 @@ use Rattle.mips_effect.specs.declared.wish.Wish.{Wish}
 use Rattle.mips_effect.specs.declared.wish.Wish.TheVariants as wish
 use Rattle.mips_plain.specs.Instruction.{effect_at, handler_after, instruction_or_fault, is_code, kept_after, signal_step, step_made}
 use Rattle.mips_plain.specs.Memory.{low_bytes, word_at_address, written_at}
-use Rattle.line_ram.specs.Bytes.{line_size, ram_with_bytes as stored_in_ram}
+use Rattle.line_ram.specs.Bytes.{ram_with_bytes as stored_in_ram}
+use Rattle.xom_base.specs.Sizes.{line_size}
 use Rattle.tag_regs.specs.declared.cell.Cell.{Cell}
 use Rattle.tag_regs.specs.TaggedCells.{cell_at, with_cell as written_cell}
 use Rattle.session_table.specs.declared.session.Session.{Session}

@@ -5,7 +5,7 @@
 use Rattle.std.specs.Prelude.{◌≡◌, ◌≢◌, ℕ, ◌*◌, ◌<◌, ◌≤◌, ◌^◌, Bool, true, false, List, [], ◌∷◌, ◌⊎◌, Some, length, replicate}
 use Rattle.std.specs.Int.{bit_at}
 use Rattle.xom_base.specs.Entries.{steps_of}
-use Rattle.xom_base.specs.Sizes.{compartment_count, id_size, register_places}
+use Rattle.xom_base.specs.Sizes.{compartment_count, id_size, line_size, register_places}
 use Rattle.xom_base.specs.declared.entry.Entry.{Entry}
 use Rattle.xom_base.specs.declared.entry.Entry.TheVariants as entry
 use Rattle.xom_base.specs.declared.key.ImageId.{ImageId}
@@ -29,8 +29,8 @@ use Rattle.xom_model.specs.Honest.{Sealing, seals_of}
 use Rattle.xom_versions.specs.Store.{HoldsArea, line_limit}
 use Rattle.xom_model.specs.Versions.{StandsFor}
 use Rattle.line_cache.specs.declared.way.Way.{Way}
-use Rattle.line_cache.specs.Ways.{way_at}
-use Rattle.line_ram.specs.Bytes.{HoldsFrame, bytes_at, line_size}
+use Rattle.line_cache.specs.Ways.{cache_places, way_at}
+use Rattle.line_ram.specs.Bytes.{HoldsFrame, bytes_at}
 use Rattle.page_map.specs.Pages.{Pages, frame_of}
 use Rattle.xom_model.specs.State.{CoreState, lines_of_session, page_of, session_of, store_of}
 use Rattle.xom_model.specs.Lines.{Who, is_image_at, line_seals, run_pair, version_of_line, version_seals, who_of}
@@ -160,7 +160,7 @@ pub record Shape (core : CoreState) : Type 0 where
   pub count : core.installs ≤ length core.entries
   pub ids : (slot : ℕ) → length (session_of core slot).id.0 ≡ id_size
   -- lists have their lengths
-  pub way_places : length core.ways ≡ 128
+  pub way_places : length core.ways ≡ cache_places
   pub page_places : length core.pages ≡ compartment_count
   pub store_places : length core.stores ≡ compartment_count
 

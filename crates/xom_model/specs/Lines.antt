@@ -12,7 +12,8 @@ use Rattle.xom_seal.specs.declared.names.LineName.TheVariants.{Image, Run}
 use Rattle.xom_seal.specs.Keys.{image_keys, run_keys}
 use Rattle.xom_seal.specs.Messages.{line_message, names_run_line, version_of_message}
 use Rattle.xom_seal.specs.Sealing.{line_masked, sealed_line}
-use Rattle.line_ram.specs.Bytes.{bytes_at, ciphertext_place, frame_lines, line_size, ram_with_line, tag_place}
+use Rattle.line_ram.specs.Bytes.{bytes_at, ciphertext_place, frame_lines, ram_with_line, tag_place}
+use Rattle.xom_base.specs.Sizes.{line_size}
 use Rattle.session_table.specs.declared.session.Session.{Session}
 use Rattle.xom_versions.specs.Versions.{start_version}
 use Rattle.xom_model.specs.Honest.{Sealing}

@@ -5,7 +5,7 @@ use Rattle.std.specs.Int.{w32, to_be_bytes}
 use Rattle.std.specs.Str.{bytes_eq}
 use Rattle.xom_base.specs.declared.entry.Entry.{Entry}
 use Rattle.xom_base.specs.declared.entry.Entry.TheVariants as entry
-use Rattle.xom_base.specs.Sizes.{register_places}
+use Rattle.xom_base.specs.Sizes.{register_places, tag_size}
 use Rattle.xom_seal.specs.declared.keys.RegisterKeys.{RegisterKeys}
 use Rattle.xom_seal.specs.declared.names.RegName.{RegName}
 use Rattle.xom_seal.specs.declared.register.SealedReg.{SealedReg}
@@ -61,7 +61,8 @@ saved_size = 36
 
 -- the saved register that RAM has at an address
 abbrev pub saved_at : List ℕ → ℕ → SealedReg
-saved_at ram address = record { ct = bytes_at ram address 4; tag = bytes_at ram (address + 4) 32 }
+saved_at ram address =
+    record { ct = bytes_at ram address 4; tag = bytes_at ram (address + 4) tag_size }
 
 -- RAM with a saved register at an address
 abbrev pub with_saved : List ℕ → ℕ → SealedReg → List ℕ

@@ -4,9 +4,9 @@ use Rattle.xom_base.specs.declared.entry.Entry.{Entry}
 use Rattle.xom_base.specs.declared.event.Cause.{Cause}
 use Rattle.xom_base.specs.declared.event.Cause.TheVariants as cause
 use Rattle.xom_base.specs.declared.key.Key256.{Key256}
-use Rattle.xom_base.specs.Sizes.{compartment_count, page_count}
+use Rattle.xom_base.specs.Sizes.{compartment_count, line_size, page_count}
 use Rattle.mips_effect.specs.Effects.{private_bytes}
-use Rattle.line_ram.specs.Bytes.{frame_lines, line_size}
+use Rattle.line_ram.specs.Bytes.{frame_lines}
 use Rattle.page_map.specs.Pages.{Pages, nothing_mapped}
 use Rattle.line_cache.specs.declared.way.Way.{Way}
 use Rattle.line_cache.specs.Ways.{first_pointers, no_ways}

@@ -3,7 +3,7 @@ use Rattle.std.specs.Prelude.{◌≡◌, ◌≢◌, ℕ, true, false, List, Opti
 use Rattle.xom_base.specs.declared.event.Rule.{Rule}
 use Rattle.xom_base.specs.Sizes.{compartment_count}
 use Rattle.line_cache.specs.declared.way.Way.{Way}
-use Rattle.line_cache.specs.Ways.{way_at}
+use Rattle.line_cache.specs.Ways.{cache_places, way_at}
 use Rattle.page_map.specs.Pages.{Pages, frame_of}
 use Rattle.session_table.specs.declared.session.Session.{Session}
 use Rattle.session_table.specs.Sessions.{IsLiveIn, is_live, session_at}
@@ -61,7 +61,7 @@ pub record Fits (sessions : List Session) (pages : Pages) (ways : List Way) (ram
       → IsMapped pages (way_at ways place).slot (page_of (way_at ways place).line)
   pub clean : FreeAreClean ways
   -- the cache has all its places
-  pub places : length ways ≡ 128
+  pub places : length ways ≡ cache_places
   -- RAM holds the area of each live slot's store
   pub areas : (slot : ℕ) → IsLiveIn sessions slot → HoldsArea ram (store_at stores slot)
   -- the keys of each live slot's guest are ready

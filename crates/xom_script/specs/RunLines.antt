@@ -5,7 +5,7 @@ use Rattle.std.specs.Str.{IsUtf8}
 use Rattle.xom_base.specs.Options.{◌>>=◌, where_holds}
 use Rattle.xom_base.specs.Hex.{IsHex, hex_of}
 use Rattle.xom_base.specs.Numbers.{IsNumber, WritesBelow, number_below_of, number_of_word}
-use Rattle.xom_base.specs.Sizes.{id_size}
+use Rattle.xom_base.specs.Sizes.{id_size, key_size}
 use Rattle.xom_base.specs.declared.schedule.Interrupts.{Interrupts}
 use Rattle.xom_base.specs.declared.schedule.Interrupts.TheVariants as interrupts
 use Rattle.xom_script.specs.Fields.{Writes32, WritesBytes, name_of_word, row_by_name, write_bytes_of}
@@ -41,7 +41,7 @@ IsInterrupts words (interrupts.At times) =
 -- the words write the line; file names are words in UTF-8
 abbrev pub IsRunLine : List (List ℕ) → RunLine → Type 0
 IsRunLine words (line.Machine key) =
-    (k : List ℕ) × (words ≡ codes "machine" ∷ k ∷ []) × IsHex 32 k key.0
+    (k : List ℕ) × (words ≡ codes "machine" ∷ k ∷ []) × IsHex key_size k key.0
 IsRunLine words (line.Boot boot) =
     (n : List ℕ) × (words ≡ codes "boot" ∷ n ∷ []) × WritesBelow (2 ^ 63) n boot
 IsRunLine words (line.Frames frames) =
@@ -50,7 +50,7 @@ IsRunLine words (line.Budget budget) =
     (n : List ℕ) × (words ≡ codes "budget" ∷ n ∷ []) × WritesBelow 1048577 n budget
 IsRunLine words (line.Owner owner) =
     (k i : List ℕ) × (words ≡ codes "owner" ∷ owner.plain ∷ k ∷ i ∷ [])
-    × IsUtf8 owner.plain × IsHex 32 k owner.key.0 × IsHex id_size i owner.id.0
+    × IsUtf8 owner.plain × IsHex key_size k owner.key.0 × IsHex id_size i owner.id.0
 IsRunLine words (line.Guest sealed None) = (words ≡ codes "guest" ∷ sealed ∷ []) × IsUtf8 sealed
 IsRunLine words (line.Guest sealed (Some input)) =
     (words ≡ codes "guest" ∷ sealed ∷ input ∷ []) × IsUtf8 sealed × IsUtf8 input
@@ -67,7 +67,7 @@ IsRunLine words (line.Poke poke) =
 -- the words behind `machine`: the machine's key
 unfoldable pub machine_line : List (List ℕ) → Option RunLine
 machine_line (key ∷ []) = do
-  key ← hex_of 32 key
+  key ← hex_of key_size key
   Some (line.Machine (record { 0 = key }))
 machine_line _ = None
 
@@ -96,7 +96,7 @@ budget_line _ = None
 unfoldable pub owner_line : List (List ℕ) → Option RunLine
 owner_line (plain ∷ key ∷ id ∷ []) = do
   plain ← name_of_word plain
-  key ← hex_of 32 key
+  key ← hex_of key_size key
   id ← hex_of id_size id
   Some (line.Owner (record { plain = plain; key = record { 0 = key }; id = record { 0 = id } }))
 owner_line _ = None

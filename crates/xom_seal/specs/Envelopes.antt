@@ -6,7 +6,7 @@ use Rattle.std.specs.Str.{bytes_eq}
 use Rattle.aes_block.specs.Cipher.{aes128}
 use Rattle.keyed_mac.specs.Hmac.{hmac_sha256}
 use Rattle.xom_base.specs.declared.key.Key256.{Key256}
-use Rattle.xom_base.specs.Sizes.{id_size}
+use Rattle.xom_base.specs.Sizes.{id_size, key_size, tag_size}
 use Rattle.xom_seal.specs.declared.envelope.Unwrapped.{Unwrapped}
 use Rattle.xom_seal.specs.Counters.{envelope_counter}
 use Rattle.xom_seal.specs.Keys.{envelope_aes_key}
@@ -34,11 +34,11 @@ lines_in envelope = from_be_bytes w32 (take 4 (drop 20 envelope))
 
 -- the wrapped key that an envelope has
 abbrev pub wrapped_in : List ℕ → List ℕ
-wrapped_in envelope = take 32 (drop 24 envelope)
+wrapped_in envelope = take key_size (drop 24 envelope)
 
 -- the tag that an envelope has
 abbrev pub tag_in : List ℕ → List ℕ
-tag_in envelope = take 32 (drop 56 envelope)
+tag_in envelope = take tag_size (drop 56 envelope)
 
 -- ---- Wrapping
 

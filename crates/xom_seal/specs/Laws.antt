@@ -4,7 +4,7 @@
 use Rattle.std.specs.Prelude.{ℕ, ◌≡◌, ◌≢◌, ◌^◌, ◌<◌, ◌==◌, ◌&&◌, false, List, length, Some, take}
 use Rattle.xom_base.specs.declared.key.ImageId.{ImageId}
 use Rattle.xom_base.specs.declared.key.Key256.{Key256}
-use Rattle.xom_base.specs.Sizes.{id_size}
+use Rattle.xom_base.specs.Sizes.{id_size, key_size, line_size, tag_size}
 use Rattle.xom_seal.specs.declared.envelope.Unwrapped.{Unwrapped}
 use Rattle.xom_seal.specs.declared.keys.LineKeys.{LineKeys}
 use Rattle.xom_seal.specs.declared.keys.RegisterKeys.{RegisterKeys}
@@ -58,9 +58,10 @@ pub record KindsDiffer : Type 0 where
 
 -- how many bytes the messages have
 pub record MessageLengths : Type 0 where
-  pub image_line : (id : ImageId) (line : ℕ) (ct : List ℕ) → length id.0 ≡ id_size → length ct ≡ 32
+  pub image_line : (id : ImageId) (line : ℕ) (ct : List ℕ) → length id.0 ≡ id_size
+      → length ct ≡ line_size
       → length (line_message (Image id line) ct) ≡ 53
-  pub run_line : (boot install line version : ℕ) (ct : List ℕ) → length ct ≡ 32
+  pub run_line : (boot install line version : ℕ) (ct : List ℕ) → length ct ≡ line_size
       → length (line_message (Run boot install line version) ct) ≡ 61
   pub register : (name : RegName) (ct : List ℕ) → length ct ≡ 4
       → length (register_message name ct) ≡ 30
@@ -129,14 +130,14 @@ pub record CounterKindsDiffer : Type 0 where
 -- a sealed line opens to its plain bytes
 abbrev pub LinesOpen : Type 0
 LinesOpen =
-    (name : LineName) (keys : LineKeys) (plain : List ℕ) → length plain ≡ 32
+    (name : LineName) (keys : LineKeys) (plain : List ℕ) → length plain ≡ line_size
     → unsealed_line name keys (sealed_line name keys plain) ≡ Some plain
 
 -- a line that opens is the sealing of its plain bytes
 abbrev pub LinesAreSealings : Type 0
 LinesAreSealings =
     (name : LineName) (keys : LineKeys) (sealed : SealedLine) (plain : List ℕ)
-    → length sealed.ct ≡ 32
+    → length sealed.ct ≡ line_size
     → unsealed_line name keys sealed ≡ Some plain → sealed ≡ sealed_line name keys plain
 
 -- a sealed register opens to its value
@@ -150,7 +151,7 @@ pub record IsUnwrapped (plain : Unwrapped) : Type 0 where
   pub id : length plain.id.0 ≡ id_size
   pub entry : plain.entry < 2 ^ 32
   pub lines : plain.lines < 2 ^ 32
-  pub key : length plain.key.0 ≡ 32
+  pub key : length plain.key.0 ≡ key_size
 
 -- an envelope opens to what was wrapped
 abbrev pub EnvelopesOpen : Type 0
@@ -173,6 +174,6 @@ EnvelopesShow =
 -- a sealed line has 32 bytes of ciphertext and 32 of tag
 abbrev pub SealedLinesHaveTheirLength : Type 0
 SealedLinesHaveTheirLength =
-    (name : LineName) (keys : LineKeys) (plain : List ℕ) → length plain ≡ 32
-    → (length (sealed_line name keys plain).ct ≡ 32)
-    × (length (sealed_line name keys plain).tag ≡ 32)
+    (name : LineName) (keys : LineKeys) (plain : List ℕ) → length plain ≡ line_size
+    → (length (sealed_line name keys plain).ct ≡ line_size)
+    × (length (sealed_line name keys plain).tag ≡ tag_size)
