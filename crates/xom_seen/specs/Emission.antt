@@ -24,6 +24,7 @@ pub data Names : Type 0 where
   NoCell Halves : Names
   OneCell : ℕ → Names
 
+-- the names of the cells that were written
 abbrev pub names_of : Writes → Names
 names_of writes.Nothing = NoCell
 names_of (writes.One reg value) = OneCell reg

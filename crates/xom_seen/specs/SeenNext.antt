@@ -38,6 +38,7 @@ pub record Sight : Type 0 where
   pub ram : List ℕ
   pub installs : ℕ
 
+-- the core's part of what is seen
 abbrev pub sight_in : Seen → Sight
 sight_in s = record {
   cells = s.view.cells;
@@ -49,6 +50,7 @@ sight_in s = record {
   installs = s.installs;
 }
 
+-- what is seen, with another core's part
 abbrev pub with_sight : Seen → Sight → Seen
 with_sight s new = record s {
   view = record s.view {
@@ -62,9 +64,11 @@ with_sight s new = record s {
   areas = new.areas;
 }
 
+-- what is seen of a slot; that of a free one where there is no such slot
 abbrev pub sight_slot : Sight → ℕ → SlotView
 sight_slot s slot = slice_index_or s.slots slot (shown_slot free)
 
+-- what is seen of the core, with another slot
 abbrev pub with_slot : Sight → ℕ → SlotView → Sight
 with_slot s slot new = record s { slots = slice_set s.slots slot new }
 
@@ -78,6 +82,7 @@ cells_named_for_slot slot cells NoCell = cells
 cells_named_for_slot slot cells (OneCell reg) = slice_set cells reg (hidden_cell slot)
 cells_named_for_slot slot cells Halves = slice_set (slice_set cells 32 (hidden_cell slot)) 33 (hidden_cell slot)
 
+-- the mask with the named cells
 abbrev pub mask_named : ℕ → Names → ℕ
 mask_named mask NoCell = mask
 mask_named mask (OneCell reg) = mask_with mask reg
@@ -111,6 +116,7 @@ left_seen s slot other = s
 abbrev pub running_seen : Seen → ℕ
 running_seen s = slot_or_none (position (λ (k : SlotView). is_running k.state) s.view.slots)
 
+-- why a guest left, and from which slot, is seen from then on
 abbrev pub seen_after_leaving : Seen → ℕ → Outcome → Seen
 seen_after_leaving s slot (outcome.Left why) = record s { view = record s.view { cause = why; who = slot } }
 seen_after_leaving s slot other = s
@@ -137,12 +143,15 @@ installed_slot install text = record {
 
 -- ---- Null code: it runs over what is seen, and sees no more than the kernel does
 
+-- what null code is told
 abbrev pub told_seen : Seen → Told
 told_seen s = record { status = s.view.status; cause = s.view.cause; who = s.view.who }
 
+-- what null code may change
 abbrev pub open_seen : Seen → Open
 open_seen s = record { cells = s.view.cells; ram = s.view.ram; pc = s.pc; npc = s.npc }
 
+-- what is seen once null code has changed that
 abbrev pub with_open_seen : Seen → Open → Seen
 with_open_seen s new = record s {
   view = record s.view { cells = new.cells; ram = new.ram };
@@ -153,10 +162,12 @@ with_open_seen s new = record s {
 
 -- ---- Writes and counts
 
+-- what is seen once these bytes were written to RAM; outside RAM nothing is
 abbrev pub poked_seen : Seen → ℕ → List ℕ → Seen
 poked_seen s address bytes =
     record s { view = record s.view { ram = ram_after_write s.view.ram address bytes } }
 
+-- what is seen once the event is counted, with this status
 abbrev pub counted_seen : Seen → ℕ → Seen
 counted_seen s status =
     record s { view = record s.view { status = status; events = s.view.events + 1 } }
@@ -192,6 +203,7 @@ module _ (v : Versions) (raised : Raised) where
   after_signal slot address s (Broke k why) =
       dropped_seen s k (record (sight_slot s k) { state = state.Stopped why })
 
+  -- after all the signals of an event, in their order
   abbrev pub after_signals : ℕ → ℕ → Sight → List Signal → Sight
   after_signals slot address s [] = s
   after_signals slot address s (first ∷ signals) =
@@ -199,6 +211,7 @@ module _ (v : Versions) (raised : Raised) where
 
   -- ---- Guests
 
+  -- what is seen after an event of the guest in a slot
   abbrev pub guest_seen : Seen → ℕ → Emission → Seen
   guest_seen s slot m =
       seen_after_leaving
@@ -237,14 +250,17 @@ module _ (v : Versions) (raised : Raised) where
 
   -- ---- Every event
 
+  -- what is seen after the operation that null code asked for, if it asked for one
   abbrev pub asked_seen : Seen → Result (Option Op) NullFault → Emission → Seen
   asked_seen s (Err why) m = s
   asked_seen s (Ok None) m = s
   asked_seen s (Ok (Some op)) m = with_sight s (operated_seen (sight_in s) op m)
 
+  -- what is seen after an instruction of null code, of what that left and asked for
   abbrev pub null_seen : Seen → Answer → Emission → Seen
   null_seen s answer m = asked_seen (with_open_seen s answer.0) answer.1 m
 
+  -- what is seen after an event, before it is counted
   abbrev pub turn_seen : Seen → Event → List ℕ → Emission → Seen
   turn_seen s (event.Do op) chunk m = with_sight s (operated_seen (sight_in s) op m)
   turn_seen s (event.Guest interrupt) chunk m = guest_seen s (running_seen s) m
