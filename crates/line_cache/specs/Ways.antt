@@ -9,7 +9,7 @@ use Rattle.line_cache.specs.declared.way.Victim.{Victim}
 abbrev pub cache_sets : ℕ
 cache_sets = 32
 
--- how many places it has, four in each set
+-- how many places the cache has, four in each set
 abbrev pub cache_places : ℕ
 cache_places = 128
 

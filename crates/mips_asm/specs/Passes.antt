@@ -68,7 +68,7 @@ meets a b =
     (nat_lt 0 a.size && nat_lt 0 b.size) && (nat_lt a.place (b.place + b.size) && nat_lt b.place
     (a.place + a.size))
 
--- it writes a byte that an earlier statement wrote
+-- the statement writes a byte that one of these wrote before
 abbrev pub overlaps : List Placed → Placed → Bool
 overlaps before placed = list_any (meets placed) before
 

@@ -16,12 +16,12 @@ use Rattle.mips_asm.specs.Images.{IsOver, IsWritten, PlacedBytes, byte_over}
 
 -- ---- the entry
 
--- it is an `.entry`
+-- it says the entry of the image: `.entry`
 abbrev pub entry_content : Content → Bool
 entry_content (Entry v) = true
 entry_content _ = false
 
--- the statement is an `.entry`
+-- the statement says the entry of the image
 abbrev pub is_entry_statement : Placed → Bool
 is_entry_statement placed = entry_content placed.part.content
 

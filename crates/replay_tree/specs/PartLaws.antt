@@ -88,11 +88,11 @@ bytes-joined part size (suc n) k whole low =
           n k (λ i few. whole i (omega arith)) below
     ]
 
--- the test of two numbers that differ
+-- the test of two numbers that differ is false
 pub apart : (i k : ℕ) → ¬ (i ≡ k) → (i == k) ≡ false
 apart i k differs = grind (arith, nat_tests)
 
--- the test of two numbers that are the same
+-- the test of two numbers that are the same is true
 pub alike : (i k : ℕ) → i ≡ k → (i == k) ≡ true
 alike i k is = grind (arith, nat_tests)
 

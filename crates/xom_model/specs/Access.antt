@@ -158,7 +158,7 @@ module _ (v : Versions) where
       brought (core_with_hashes core (v.texts_of_version (store_of core slot) line core.ram)) slot
       line frame (v.answer_of_version (store_of core slot) line core.ram)
 
-  -- a line of a page that isn't mapped can't be reached
+  -- a line in the frame of its page, or a page fault where the page isn't mapped
   abbrev pub reach_in_frame : CoreState → ℕ → ℕ → Option ℕ → CoreState × Reach
   reach_in_frame core slot line None = (core, reach.PageFault (page_of line))
   reach_in_frame core slot line (Some frame) =

@@ -33,7 +33,7 @@ fits r (event.Write address count) =
     not r.halted && (is_none (running_slot r) && nat_le count chunk_size)
 fits r (event.Poke address count) = not r.halted && nat_le count chunk_size
 
--- the operation is Halt
+-- whether the operation is Halt, which ends the run
 abbrev pub is_halt : Op → Bool
 is_halt Halt = true
 is_halt other = false
@@ -60,7 +60,7 @@ ran_on r slot (core, Some why) =
 abbrev pub told_in : Record → Told
 told_in r = record { status = r.status; cause = r.cause; who = r.who }
 
--- what null code may change: the cells, RAM and the null pair
+-- what null code may change of the record: the cells, RAM and the null pair
 abbrev pub open_in : Record → Open
 open_in r = record { cells = r.core.cells; ram = r.core.ram; pc = r.pc; npc = r.npc }
 

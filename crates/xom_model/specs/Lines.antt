@@ -27,11 +27,11 @@ pub record Who : Type 0 where
   pub key : Key256
   pub lines : ℕ
 
--- of the session of a guest, in a run of this boot number
+-- what the lines of a session's guest depend on, in a run of this boot number
 abbrev pub who_in : ℕ → Session → Who
 who_in boot s = record { boot = boot; install = s.install; id = s.id; key = s.key; lines = s.lines }
 
--- of the guest in a slot
+-- what the lines of a slot's guest depend on
 abbrev pub who_of : CoreState → ℕ → Who
 who_of core slot = who_in core.boot (session_of core slot)
 

@@ -27,7 +27,7 @@ names_install install message =
 abbrev pub is_its : ℕ → Sealing → Bool
 is_its install sealing = names_install install sealing.1
 
--- the Seals of an install
+-- those of the Seals that are of an install
 abbrev pub install_seals : ℕ → List Sealing → List Sealing
 install_seals install seals = filter (is_its install) seals
 

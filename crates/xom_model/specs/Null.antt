@@ -154,11 +154,11 @@ null_fault fault.Break = null.Break
 abbrev pub Answer : Type 0
 Answer = Open × Result (Option Op) NullFault
 
--- it is done
+-- the instruction is done, and asks for nothing
 abbrev pub done_answer : Open → Answer
 done_answer s = (s, Ok None)
 
--- it ends the run by a fault, and changes nothing
+-- the run ends by a fault, and nothing is changed
 abbrev pub stopped_by : Open → NullFault → Answer
 stopped_by s why = (s, Err why)
 

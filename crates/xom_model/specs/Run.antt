@@ -32,7 +32,7 @@ pub record IsPoke (poke : Poke) : Type 0 where
   pub some : 1 ≤ length poke.bytes
   pub few : length poke.bytes ≤ chunk_size
 
--- the number of the event that a write of the bus is
+-- the number of the event at which a write of the bus comes
 abbrev pub event_number : Poke → ℕ
 event_number poke = poke.event
 

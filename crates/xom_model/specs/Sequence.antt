@@ -52,7 +52,7 @@ pub record RunHolds (v : Versions) (Stands : StandsFor) (owners : List Owner) (r
   pub holds : Holds Stands owners r.core
   pub once : IsOnce (seals_of r.core.entries)
 
--- This is so of every run, where the version store keeps its law.
+-- The law of runs: this is so of every run, where the version store keeps the law of versions.
 abbrev pub RunsHold : Versions → StandsFor → Type 0
 RunsHold v Stands = VersionLaw v Stands
     → (owners : List Owner) → AreOwners owners

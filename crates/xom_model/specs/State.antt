@@ -52,15 +52,15 @@ pub record Record : Type 0 where
 
 -- ---- How much private memory a guest has
 
--- its window in bytes, from address 0 on
+-- how many bytes a guest's window has, from address 0 on
 abbrev pub window_of : Session → ℕ
 window_of s = private_bytes
 
--- how many lines of 32 bytes that is
+-- how many lines a guest's window has
 abbrev pub lines_of_session : Session → ℕ
 lines_of_session s = line_limit
 
--- how many pages of 128 lines a guest's window has
+-- how many pages a guest's window has
 abbrev pub pages_of_session : Session → ℕ
 pages_of_session s = page_count
 

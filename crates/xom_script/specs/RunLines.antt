@@ -85,7 +85,7 @@ frames_line (n ∷ []) = do
   where_holds (nat_le 4 frames) (line.Frames frames)
 frames_line _ = None
 
--- the word behind `budget`: at most so many events
+-- the word behind `budget`: at most so many events, up to 1,048,576
 unfoldable pub budget_line : List (List ℕ) → Option RunLine
 budget_line (n ∷ []) = do
   budget ← number_below_of 1048577 n

@@ -72,11 +72,11 @@ run_file draft kernel number interrupts = record {
   schedule = record { interrupts = interrupts; pokes = [] };
 }
 
--- with one more owner
+-- the run so far with one more owner
 abbrev pub with_owner : Draft → OwnerFile → Draft
 with_owner draft owner = record draft { owners = draft.owners ++ (owner ∷ []) }
 
--- with one more guest
+-- the run so far with one more guest
 abbrev pub draft_with_guest : Draft → GuestFile → Draft
 draft_with_guest draft guest = record draft { guests = draft.guests ++ (guest ∷ []) }
 

@@ -166,7 +166,7 @@ pub record Shows (envelope : List ℕ) (plain : Unwrapped) : Type 0 where
   pub entry : entry_of_envelope envelope ≡ plain.entry
   pub lines : lines_in envelope ≡ plain.lines
 
--- this is so of every image
+-- the envelope of every image shows these
 abbrev pub EnvelopesShow : Type 0
 EnvelopesShow =
     (machine : Key256) (plain : Unwrapped) → IsUnwrapped plain → Shows (wrapped_key_of machine plain) plain
