@@ -101,10 +101,8 @@ impl Journal {
     pub fn get(&self, i: u64) -> Option<Entry>
         ensures { result ≡ slice_get self.now.entries i }
     {
-        match self.records.get(i as usize) {
-            Some(record) => Some(entry_of(record, &self.bytes)),
-            None => None,
-        }
+        let record = self.records.get(i as usize)?;
+        Some(entry_of(record, &self.bytes))
     }
 
     /// The byte that the entry at a place wrote to the console, if it is an Out. It copies no payload.
