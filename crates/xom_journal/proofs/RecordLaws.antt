@@ -10,7 +10,7 @@ use Rattle.xom_base.specs.declared.entry.Entry.{Entry}
 use Rattle.xom_base.specs.declared.entry.Entry.TheVariants as entry
 use Rattle.xom_journal.specs.declared.record.Record.{Record}
 use Rattle.xom_journal.specs.declared.record.Record.TheVariants as record_
-use Rattle.xom_journal.specs.Log.{cost}
+use Rattle.xom_journal.specs.Log.{Log, cost, log_with_entry}
 use Rattle.xom_journal.specs.Records.{BlockExtends, HasTextAt, IsWithin, entry_at, part_of_block, payload, record_at}
 
 -- a payload within the bytes stays
@@ -202,3 +202,20 @@ text_found bytes text rs i at count digest all here same =
       within = omega arith;
       same = ap (λ n. part_of_block at n bytes) size ∙ same;
     }
+
+-- the journal with one more entry, whose payload stands in the block
+pub log_pushed : (old new : List ℕ) (rs ss : List Record) (r : Record) (e : Entry) (spare price : ℕ)
+    → All (IsWithin (length old)) rs → BlockExtends old new → ss ≡ rs ++ r ∷ [] → entry_at new r ≡ e
+    → price ≡ cost e
+    → record { entries = map (entry_at new) ss; spare = spare - price } ≡ log_with_entry
+    (record { entries = map (entry_at old) rs; spare = spare }) e
+log_pushed old new rs ss r e spare price all extends pushed is paid =
+    same_at_both (λ es n. record { entries = es; spare = n })
+    (ap (map (entry_at new)) pushed ∙ entries_pushed old new rs r e all extends is)
+    (ap (λ n. spare - n) paid)
+
+pub within_pushed_as : (old new : List ℕ) (rs ss : List Record) (r : Record)
+    → All (IsWithin (length old)) rs → BlockExtends old new → ss ≡ rs ++ r ∷ []
+    → IsWithin (length new) r → All (IsWithin (length new)) ss
+within_pushed_as old new rs ss r all extends pushed one =
+    subst (All (IsWithin (length new))) (sym pushed) (within_pushed old new rs r all extends one)

@@ -1,10 +1,11 @@
-ghost use Rattle.std.specs.Prelude.{◌≡◌, ◌≤◌, ◌<◌, ◌+◌, IsOk, OnOk, OnErr, length, option_and_then, slice_get, max, [], ◌∷◌, ◌++◌, ◌==◌};
+ghost use Rattle.std.specs.Prelude.{◌≡◌, ◌≤◌, ◌<◌, ◌+◌, IsOk, OnOk, OnErr, length, option_and_then, slice_get, max, [], ◌∷◌, ◌++◌, ◌==◌, vec_len, vec_capacity};
+ghost use Rattle.xom_base.specs.declared.entry.Entry.TheVariants as entry;
 ghost use Rattle.xom_journal.specs.EntryParts.{byte_in, stop_rule_in};
 ghost use Rattle.xom_journal.specs.Log.{Log, cost as cost_of, log_with_entry};
 
-use crate::payloads::record_in;
+use crate::payloads::{add_payload, text_in};
 use crate::recent::RecentHashes;
-use crate::record::{ENTRY_COST, Record, cost, entry_of};
+use crate::record::{ENTRY_COST, Record, cost, entry_of, record_of};
 use std::alloc::Global;
 use std::marker::Model;
 use xom_base::{Entry, NoMemory, Rule};
@@ -69,17 +70,45 @@ impl Journal {
     }
 
     /// Adds an entry at the end. It takes no memory, and time linear in the payload.
-    #[tactic(auto, using(crate::proofs::RecordLaws::entries_pushed))]
     pub fn push(&mut self, entry: &Entry)
         requires { cost_of entry.now ≤ self.old.spare }
         ensures { self.new ≡ log_with_entry self.old entry.now }
     {
-        let price = cost(entry);
-        let record = record_in(entry, self.records.as_slice(), &mut self.bytes, &mut self.recent);
-        match self.records.push(record) {
-            Ok(()) => self.spare -= price,
-            Err(_) => unreachable!(),
+        match entry {
+            Entry::Hash { preimage, digest } => {
+                let _size = preimage.len();
+                self.push_hash(preimage.bytes(), digest);
+            }
+            _ => self.push_new(entry),
         }
+    }
+
+    /// Adds a Hash of this text at the end. It takes no memory, and time linear in the text.
+    pub fn push_hash(&mut self, text: &[u8], digest: &[u8; 32])
+        requires size { length text.now ≤ 260 }
+        requires room { 80 + length text.now ≤ self.old.spare }
+        ensures { self.new ≡ log_with_entry self.old (entry.Hash text.now digest.now) }
+    {
+        let records = self.records.as_slice();
+        let at = text_in(text, digest, records, &mut self.bytes, &mut self.recent);
+        let record = Record::Hash {
+            at,
+            preimage: text.len() as u16,
+            digest: *digest,
+        };
+        add_record(&mut self.records, record);
+        self.spare -= ENTRY_COST + 32 + text.len() as u64;
+    }
+
+    /// Adds an entry at the end, and its payload at the end of the block.
+    fn push_new(&mut self, entry: &Entry)
+        requires { cost_of entry.now ≤ self.old.spare }
+        ensures { self.new ≡ log_with_entry self.old entry.now }
+    {
+        let at = self.bytes.len() as u64;
+        add_payload(&mut self.bytes, entry);
+        add_record(&mut self.records, record_of(entry, at));
+        self.spare -= cost(entry);
     }
 
     /// How many entries there are.
@@ -135,5 +164,18 @@ impl Journal {
         ensures { result ≡ self.now.spare }
     {
         self.spare
+    }
+}
+
+/// Adds a record where there is room.
+fn add_record(records: &mut Vec<Record>, added: Record)
+    requires { vec_len records.old < vec_capacity records.old }
+    ensures items { records.new.items ≡ records.old.items ++ added ∷ [] }
+    ensures len { vec_len records.new ≡ vec_len records.old + 1 }
+    ensures capacity { vec_capacity records.old ≤ vec_capacity records.new }
+{
+    match records.push(added) {
+        Ok(()) => {}
+        Err(_) => unreachable!(),
     }
 }

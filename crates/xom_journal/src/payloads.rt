@@ -1,44 +1,13 @@
 ghost use Rattle.std.specs.Prelude.{◌≡◌, ◌≤◌, ◌+◌, ◌++◌, All, IfSome, length, vec_len, vec_capacity};
-ghost use Rattle.xom_journal.specs.Records.{BlockExtends, IsWithin, HasTextAt, entry_at, payload};
+ghost use Rattle.xom_journal.specs.Records.{BlockExtends, HasTextAt, IsWithin, payload};
 
 use crate::recent::RecentHashes;
-use crate::record::{Record, part, record_of};
+use crate::record::{Record, part};
 use xom_base::Entry;
-
-/// The record of an entry, whose payload is added to the block, where there is room. A hashed text that
-/// stands there already, by the record of a recent Hash, isn't added again.
-#[tactic(auto, using(crate::proofs::RecordLaws::value_added, crate::proofs::RecordLaws::within_added, crate::proofs::RecordLaws::hash_of_text, crate::proofs::RecordLaws::hash_within))]
-pub fn record_in(
-    entry: &Entry,
-    records: &[Record],
-    bytes: &mut Vec<u8>,
-    recent: &mut RecentHashes,
-) -> Record
-    requires within { All (IsWithin (length bytes.old.items)) records.now }
-    requires room { vec_len bytes.old + length (payload entry.now) ≤ vec_capacity bytes.old }
-    ensures value { entry_at bytes.new.items result ≡ entry.now }
-    ensures within { IsWithin (length bytes.new.items) result }
-    ensures items { BlockExtends bytes.old.items bytes.new.items }
-    ensures len { vec_len bytes.new ≤ vec_len bytes.old + length (payload entry.now) }
-    ensures capacity { vec_capacity bytes.old ≤ vec_capacity bytes.new }
-{
-    match entry {
-        Entry::Hash { preimage, digest } => Record::Hash {
-            at: text_in(preimage.bytes(), digest, records, bytes, recent),
-            preimage: preimage.len() as u16,
-            digest: *digest,
-        },
-        _ => {
-            let at = bytes.len() as u64;
-            add_payload(bytes, entry);
-            record_of(entry, at)
-        }
-    }
-}
 
 /// Where the text of this digest stands in the block. It is added, unless it is that of a recent Hash.
 #[tactic(auto, using(crate::proofs::RecordLaws::text_added))]
-fn text_in(
+pub fn text_in(
     text: &[u8],
     digest: &[u8; 32],
     records: &[Record],
@@ -81,7 +50,7 @@ fn text_of(records: &[Record], number: u64, bytes: &[u8], text: &[u8]) -> Option
 }
 
 /// Adds the payload of an entry to the bytes, where there is room.
-fn add_payload(bytes: &mut Vec<u8>, entry: &Entry)
+pub fn add_payload(bytes: &mut Vec<u8>, entry: &Entry)
     requires { vec_len bytes.old + length (payload entry.now) ≤ vec_capacity bytes.old }
     ensures items { bytes.new.items ≡ bytes.old.items ++ payload entry.now }
     ensures len { vec_len bytes.new ≡ vec_len bytes.old + length (payload entry.now) }
