@@ -9,7 +9,6 @@ ghost use Rattle.replay_tree.specs.Calls.{top_level};
 use crate::place::{BLOCK, block_at, block_size};
 use keyed_mac::digest;
 use line_ram::LineRam;
-use xom_base::{Block, Entry};
 use xom_journal::Journal;
 
 /// The digest of a block at a level, which becomes an entry of the journal.
@@ -19,12 +18,12 @@ pub fn hash(level: u8, block: &[u8], journal: &mut Journal) -> [u8; 32]
     ensures digest { result ≡ digest_of level block.now }
     ensures entry { journal.new ≡ log_with_entry journal.old (hash_entry (block_text level block.now)) }
 {
-    let mut text = [0u8; BLOCK + 1];
-    text[0] = level;
-    text[1..=block.len()].copy_from_slice(block);
-    let preimage = Block::new(&text[..=block.len()]);
-    let digest = digest(preimage.bytes());
-    journal.push(&Entry::Hash { preimage, digest });
+    let mut buffer = [0u8; BLOCK + 1];
+    buffer[0] = level;
+    buffer[1..=block.len()].copy_from_slice(block);
+    let text = &buffer[..=block.len()];
+    let digest = digest(text);
+    journal.push_hash(text, &digest);
     digest
 }
 

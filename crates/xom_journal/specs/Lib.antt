@@ -1,2 +1,3 @@
+pub mod EntryParts
 pub mod Log
 pub mod Records

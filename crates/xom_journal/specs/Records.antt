@@ -1,5 +1,5 @@
 -- Entries as records of fixed size beside one block of payload bytes: keys, messages and preimages.
-use Rattle.std.specs.Prelude.{ℕ, ◌+◌, ◌≤◌, List, [], ◌++◌, length, take, drop}
+use Rattle.std.specs.Prelude.{ℕ, ◌≡◌, ◌+◌, ◌≤◌, List, [], ◌++◌, length, take, drop}
 use Rattle.xom_base.specs.declared.entry.Entry.{Entry}
 use Rattle.xom_base.specs.declared.entry.Entry.TheVariants as entry
 use Rattle.xom_journal.specs.declared.record.Record.{Record}
@@ -63,3 +63,13 @@ IsWithin size (record_.Hash at preimage digest) = (at + preimage ≤ size) × (p
 IsWithin size (record_.Stop n rule) = Unit {0}
 IsWithin size (record_.Kill n) = Unit {0}
 IsWithin size (record_.Out byte) = Unit {0}
+
+-- the block, with more bytes behind or as it was
+pub record BlockExtends (old new : List ℕ) : Type 0 where
+  pub more : List ℕ
+  pub items : new ≡ old ++ more
+
+-- this text stands in the block from this place on
+pub record HasTextAt (at : ℕ) (text bytes : List ℕ) : Type 0 where
+  pub within : at + length text ≤ length bytes
+  pub same : part_of_block at (length text) bytes ≡ text

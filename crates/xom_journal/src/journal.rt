@@ -1,19 +1,23 @@
-ghost use Rattle.std.specs.Prelude.{◌≡◌, ◌≤◌, ◌<◌, ◌+◌, IsOk, OnOk, OnErr, length, slice_get, max, [], ◌∷◌, ◌++◌, ◌==◌, vec_len, vec_capacity};
+ghost use Rattle.std.specs.Prelude.{◌≡◌, ◌≤◌, ◌<◌, ◌+◌, IsOk, OnOk, OnErr, length, option_and_then, slice_get, max, [], ◌∷◌, ◌++◌, ◌==◌, vec_len, vec_capacity};
+ghost use Rattle.xom_base.specs.declared.entry.Entry.TheVariants as entry;
+ghost use Rattle.xom_journal.specs.EntryParts.{byte_in, stop_rule_in};
 ghost use Rattle.xom_journal.specs.Log.{Log, cost as cost_of, log_with_entry};
-ghost use Rattle.xom_journal.specs.Records.{payload};
 
+use crate::payloads::{add_payload, text_in};
+use crate::recent::RecentHashes;
 use crate::record::{ENTRY_COST, Record, cost, entry_of, record_of};
 use std::alloc::Global;
 use std::marker::Model;
-use xom_base::{Entry, NoMemory};
+use xom_base::{Entry, NoMemory, Rule};
 
-/// A list of entries that only grows. A step takes about 80 bytes of memory, and a seal, an accept or
-/// a hash as much and its payload.
+/// A list of entries that only grows. A step takes about 80 bytes of memory, and a seal or an accept as
+/// much and its payload. So does a hash, unless its text was hashed lately: then it takes no payload.
 #[derive(Drop)]
 pub struct Journal {
     records: Vec<Record>,
     bytes: Vec<u8>,
     spare: u64,
+    recent: RecentHashes,
 }
 
 impl Model for Journal {
@@ -38,6 +42,7 @@ impl Journal {
             records: Vec::new(alloc),
             bytes: Vec::new(alloc),
             spare: 0,
+            recent: RecentHashes::new(),
         }
     }
 
@@ -65,18 +70,45 @@ impl Journal {
     }
 
     /// Adds an entry at the end. It takes no memory, and time linear in the payload.
-    #[tactic(auto, using(crate::proofs::RecordLaws::entries_pushed, crate::proofs::RecordLaws::within_pushed))]
     pub fn push(&mut self, entry: &Entry)
         requires { cost_of entry.now ≤ self.old.spare }
         ensures { self.new ≡ log_with_entry self.old entry.now }
     {
-        let price = cost(entry);
-        let record = record_of(entry, self.bytes.len() as u64);
-        add_payload(&mut self.bytes, entry);
-        match self.records.push(record) {
-            Ok(()) => self.spare -= price,
-            Err(_) => unreachable!(),
+        match entry {
+            Entry::Hash { preimage, digest } => {
+                let _size = preimage.len();
+                self.push_hash(preimage.bytes(), digest);
+            }
+            _ => self.push_new(entry),
         }
+    }
+
+    /// Adds a Hash of this text at the end. It takes no memory, and time linear in the text.
+    pub fn push_hash(&mut self, text: &[u8], digest: &[u8; 32])
+        requires size { length text.now ≤ 260 }
+        requires room { 80 + length text.now ≤ self.old.spare }
+        ensures { self.new ≡ log_with_entry self.old (entry.Hash text.now digest.now) }
+    {
+        let records = self.records.as_slice();
+        let at = text_in(text, digest, records, &mut self.bytes, &mut self.recent);
+        let record = Record::Hash {
+            at,
+            preimage: text.len() as u16,
+            digest: *digest,
+        };
+        add_record(&mut self.records, record);
+        self.spare -= ENTRY_COST + 32 + text.len() as u64;
+    }
+
+    /// Adds an entry at the end, and its payload at the end of the block.
+    fn push_new(&mut self, entry: &Entry)
+        requires { cost_of entry.now ≤ self.old.spare }
+        ensures { self.new ≡ log_with_entry self.old entry.now }
+    {
+        let at = self.bytes.len() as u64;
+        add_payload(&mut self.bytes, entry);
+        add_record(&mut self.records, record_of(entry, at));
+        self.spare -= cost(entry);
     }
 
     /// How many entries there are.
@@ -98,9 +130,32 @@ impl Journal {
     pub fn get(&self, i: u64) -> Option<Entry>
         ensures { result ≡ slice_get self.now.entries i }
     {
+        let record = self.records.get(i as usize)?;
+        Some(entry_of(record, &self.bytes))
+    }
+
+    /// The byte that the entry at a place wrote to the console, if it is an Out. It copies no payload.
+    #[tactic(auto, using(crate::proofs::RecordLaws::get_entries))]
+    pub fn byte_at(&self, i: u64) -> Option<u8>
+        ensures { result ≡ option_and_then byte_in (slice_get self.now.entries i) }
+    {
         match self.records.get(i as usize) {
-            Some(record) => Some(entry_of(record, &self.bytes)),
-            None => None,
+            Some(Record::Out { byte }) => Some(*byte),
+            _ => None,
+        }
+    }
+
+    /// The rule by which the entry at a place stopped a guest, if it is a Stop. It copies no payload.
+    #[tactic(auto, using(crate::proofs::RecordLaws::get_entries))]
+    pub fn stop_rule_at(&self, i: u64) -> Option<Rule>
+        ensures { result ≡ option_and_then stop_rule_in (slice_get self.now.entries i) }
+    {
+        match self.records.get(i as usize) {
+            Some(Record::Stop {
+                install: _install,
+                rule,
+            }) => Some(*rule),
+            _ => None,
         }
     }
 
@@ -112,52 +167,14 @@ impl Journal {
     }
 }
 
-/// Adds the payload of an entry to the bytes, where there is room.
-fn add_payload(bytes: &mut Vec<u8>, entry: &Entry)
-    requires { vec_len bytes.old + length (payload entry.now) ≤ vec_capacity bytes.old }
-    ensures items { bytes.new.items ≡ bytes.old.items ++ payload entry.now }
-    ensures len { vec_len bytes.new ≡ vec_len bytes.old + length (payload entry.now) }
-    ensures capacity { vec_capacity bytes.old ≤ vec_capacity bytes.new }
+/// Adds a record where there is room.
+fn add_record(records: &mut Vec<Record>, added: Record)
+    requires { vec_len records.old < vec_capacity records.old }
+    ensures items { records.new.items ≡ records.old.items ++ added ∷ [] }
+    ensures len { vec_len records.new ≡ vec_len records.old + 1 }
+    ensures capacity { vec_capacity records.old ≤ vec_capacity records.new }
 {
-    match entry {
-        Entry::Seal { key, message } => add_two(bytes, key.bytes(), message.bytes()),
-        Entry::Accept {
-            key,
-            message,
-            place: _place,
-        } => add_two(bytes, key.bytes(), message.bytes()),
-        Entry::Hash {
-            preimage,
-            digest: _digest,
-        } => add(bytes, preimage.bytes()),
-        Entry::Install { .. }
-        | Entry::Step { .. }
-        | Entry::Trap { .. }
-        | Entry::Stop { .. }
-        | Entry::Kill { .. }
-        | Entry::Out { .. } => {}
-    }
-}
-
-/// Adds two texts where there is room.
-fn add_two(bytes: &mut Vec<u8>, first: &[u8], second: &[u8])
-    requires { vec_len bytes.old + length (first.now ++ second.now) ≤ vec_capacity bytes.old }
-    ensures items { bytes.new.items ≡ bytes.old.items ++ (first.now ++ second.now) }
-    ensures len { vec_len bytes.new ≡ vec_len bytes.old + length (first.now ++ second.now) }
-    ensures capacity { vec_capacity bytes.old ≤ vec_capacity bytes.new }
-{
-    add(bytes, first);
-    add(bytes, second);
-}
-
-/// Adds a text where there is room.
-fn add(bytes: &mut Vec<u8>, text: &[u8])
-    requires { vec_len bytes.old + length text.now ≤ vec_capacity bytes.old }
-    ensures items { bytes.new.items ≡ bytes.old.items ++ text.now }
-    ensures len { vec_len bytes.new ≡ vec_len bytes.old + length text.now }
-    ensures capacity { vec_capacity bytes.old ≤ vec_capacity bytes.new }
-{
-    match bytes.extend_from_slice(text) {
+    match records.push(added) {
         Ok(()) => {}
         Err(_) => unreachable!(),
     }

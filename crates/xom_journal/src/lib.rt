@@ -2,10 +2,12 @@
 //!
 //! Contracts see a list of entries and a number of spare bytes. Room is made by `reserve`, which
 //! may want memory; `push` then can't fail. In memory an entry is a record of fixed size, beside one
-//! block of the payload bytes of all entries.
+//! block of the payload bytes of all entries, in which a text that is hashed again and again stands once.
 #![tactic(auto)]
 
 mod journal;
+mod payloads;
+mod recent;
 mod record;
 
 pub use journal::Journal;

@@ -75,7 +75,7 @@ pub fn cost(entry: &Entry) -> u64
 }
 
 /// So many bytes of the block, from a place on.
-fn part(bytes: &[u8], at: u64, count: usize) -> &[u8]
+pub fn part(bytes: &[u8], at: u64, count: usize) -> &[u8]
     requires { at + count ≤ length bytes.now }
     ensures { result.now ≡ part_of at count bytes.now }
 {
