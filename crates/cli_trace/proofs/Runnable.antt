@@ -12,13 +12,29 @@ use Rattle.xom_model.specs.Laws.{AreOwners}
 use Rattle.xom_model.specs.Run.{AreInterrupts, IsPoke, IsSchedule}
 use Rattle.xom_script.specs.RunLines.{Ascends}
 use Rattle.xom_script.specs.RunRules.{KeepsInterrupts}
-use Rattle.xom_script.proofs.AscendLaws.{above_last, increasing}
 use Rattle.cli_runs.specs.OwnerImages.{AreWhole}
 use Rattle.cli_runs.specs.Schedules.{IsPokeOf, KeepsSchedule}
 
+-- numbers that ascend from a number are above it
+above : (last : ℕ) (ns : List ℕ) → Ascends last ns → (k : ℕ) → k < length ns → last < get_or ns k 0
+above last [] ascends k within = absurd (omega arith)
+above last (n ∷ ns) ascends zero within = ascends.0
+above last (n ∷ ns) ascends (suc k) within =
+    let low : last < n = ascends.0 in let high = above n ns ascends.1 k (omega arith) in omega arith
+
+-- and each is below the next
+strict : (last : ℕ) (ns : List ℕ) → Ascends last ns → (k : ℕ) → suc k < length ns
+    → get_or ns k 0 < get_or ns (suc k) 0
+strict last [] ascends k within = absurd (omega arith)
+strict last (n ∷ ns) ascends zero within = above n ns ascends.1 0 (omega arith)
+strict last (n ∷ ns) ascends (suc k) within = strict n ns ascends.1 k (omega arith)
+
+increasing : (ns : List ℕ) → Ascends 0 ns → IsStrictlyIncreasing ns
+increasing ns ascends k within = rw add-one (strict 0 ns ascends k (rw add-one at within))
+
 positive : (ns : List ℕ) → Ascends 0 ns → All (λ n. 1 ≤ n) ns
 positive ns ascends k d within =
-    let high = above_last 0 ns ascends k within in let same = get_or_default ns k d 0 within in
+    let high = above 0 ns ascends k within in let same = get_or_default ns k d 0 within in
     omega arith
 
 are_interrupts : (line : Interrupts) → KeepsInterrupts line → AreInterrupts line
