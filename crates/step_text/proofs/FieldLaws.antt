@@ -11,27 +11,15 @@ use Rattle.std.proofs.lemmas.List.{drop_at, length-append}
 use Rattle.std.proofs.lemmas.Option.{cond_some, none-some, option_and_then_some as steps, same_Some, some_pair_parts}
 use Rattle.std.proofs.lemmas.Slice.Eq.{bytes_eq-Decides, starts_is}
 use Rattle.xom_base.specs.Hex.{IsHex, hex_of}
-use Rattle.xom_base.specs.Numbers.{IsNumber, IsNumeral, WritesBelow, number_below_of}
+use Rattle.xom_base.specs.Numbers.{IsNumber, IsNumeral, WritesBelow, number_below_of, count_below_of}
 use Rattle.xom_base.specs.Words.{cut_of}
 use Rattle.xom_base.proofs.CutLaws.{cut_of-at, cut_of-whole, option_map_some}
 use Rattle.xom_base.proofs.HexLaws.{hex_of-exact}
-use Rattle.xom_base.proofs.NumberLaws.{number_below_of-exact}
-use Rattle.step_text.specs.StepFields.{IsCell, IsHex8, IsNamedHex8, IsNamedNumber, IsNamedPair, cell_of, count_below_of, hex8_of, named_hex8_of, named_number_of, named_pair_of, or_else, pair_of, text_after_name}
+use Rattle.xom_base.proofs.NumberLaws.{number_below_of-exact, count_below_of-exact}
+use Rattle.xom_base.proofs.ByteLaws.{same_bytes}
+use Rattle.step_text.specs.StepFields.{IsCell, IsHex8, IsNamedHex8, IsNamedNumber, IsNamedPair, cell_of, hex8_of, named_hex8_of, named_number_of, named_pair_of, or_else, pair_of, text_after_name}
 
 -- ---- words and bytes
-
--- the word is the one that it was compared with
-pub same_word : (word name : List ℕ) → bytes_eq word name ≡ true → word ≡ name
-same_word word name h = (bytes_eq-Decides word name).0 h
-
-pub is_word : (word name : List ℕ) → word ≡ name → bytes_eq word name ≡ true
-is_word word name h = (bytes_eq-Decides word name).1 h
-
--- a longer word is another one
-pub other_word : (word name : List ℕ) → length name < length word → bytes_eq word name ≡ false
-other_word word name longer =
-    false_from_ne_true (bytes_eq word name) (λ same. let e : length word ≡ length name =
-    ap length (same_word word name same) in omega arith)
 
 -- a byte that is no digit stands in no word of digits
 no_digit : (base at d : ℕ) → base ≤ digit_value at → digit_value d < base → eqb d at ≡ false
@@ -81,7 +69,7 @@ pub other_first : (a b : ℕ) (word name : List ℕ) → eqb a b ≡ false
     → bytes_eq (a ∷ word) (b ∷ name) ≡ false
 other_first a b word name other =
     false_from_ne_true (bytes_eq (a ∷ word) (b ∷ name)) (λ same.
-    let e : a ∷ word ≡ b ∷ name = same_word (a ∷ word) (b ∷ name) same in
+    let e : a ∷ word ≡ b ∷ name = same_bytes (a ∷ word) (b ∷ name) same in
     let first : a ≡ b = cc in
     both_ways (eqb a b) other (eq-eqb a b first))
 
@@ -193,23 +181,6 @@ named_pair_only name word first second w =
 
 -- ---- cells
 
-pub count_found : (bound : ℕ) (word : List ℕ) (n : ℕ) → count_below_of bound word ≡ Some n
-    → WritesBelow bound word n × (1 ≤ n)
-unfolding count_below_of
-count_found bound word n h =
-    steps _ (number_below_of bound word) n h (λ m read h.
-    let t = cond_some (leb 1 m) m n h in (
-      subst (WritesBelow bound word) t.1 ((number_below_of-exact bound word m).0 read),
-      subst (λ n. 1 ≤ n)
-          t.1 (leb-true 1 m t.0),
-    ))
-
-pub count_only : (bound : ℕ) (word : List ℕ) (n : ℕ) → WritesBelow bound word n → 1 ≤ n
-    → count_below_of bound word ≡ Some n
-unfolding count_below_of
-count_only bound word n w least =
-    rw ((number_below_of-exact bound word n).1 w, le-leb 1 n least) refl
-
 pub cell_found : (word : List ℕ) (reg value : ℕ) → cell_of word ≡ Some (reg, value)
     → IsCell word reg value
 unfolding cell_of
@@ -219,7 +190,7 @@ cell_found word reg value h =
     steps _ (count_below_of 34 parts.0) (reg, value) h (λ m read h.
     steps _ (hex8_of parts.1) (reg, value) h (λ n low h.
     let e = some_pair_parts m reg n value h in
-    let c = count_found 34 parts.0 m read in (
+    let c = (count_below_of-exact 34 parts.0 m).0 read in (
       parts.0,
       parts.1,
       behind_found (codes "r") word rest front ∙ ap (λ more. codes "r" ++ more)
@@ -235,7 +206,7 @@ unfolding cell_of
 cell_only word reg value w =
     rw (w.2, behind_name (codes "r") (w.0 ++ (61 ∷ w.1))) (
     rw (cut_of-at 61 w.0 w.1 (number_without 34 reg 61 w.0 (omega arith) refl refl w.3)) (
-    rw (count_only 34 w.0 reg w.3 w.4, hex8_only w.1 value w.5) refl))
+    rw ((count_below_of-exact 34 w.0 reg).1 (w.3, w.4), hex8_only w.1 value w.5) refl))
 
 -- ---- no value behind another name
 

@@ -6,7 +6,7 @@ use Rattle.std.proofs.lemmas.Bool.{cases_Bool}
 use Rattle.std.proofs.lemmas.List.{length-append}
 use Rattle.std.proofs.lemmas.Option.{none-some, option_and_then_some as steps, same_Some}
 use Rattle.xom_base.specs.Hex.{IsHex, hex_of}
-use Rattle.xom_base.specs.Numbers.{WritesBelow as WritesNumber}
+use Rattle.xom_base.specs.Numbers.{WritesBelow as WritesNumber, count_below_of}
 use Rattle.xom_base.specs.Words.{cut_of}
 use Rattle.xom_base.proofs.CutLaws.{cut_of-at, cut_of-whole, option_map_some}
 use Rattle.xom_base.proofs.HexLaws.{hex_of-exact}
@@ -23,10 +23,12 @@ use Rattle.xom_base.specs.declared.step.Released.TheVariants as released
 use Rattle.xom_base.specs.declared.step.StepEnd.{StepEnd}
 use Rattle.xom_base.specs.declared.step.StepEnd.TheVariants as ended
 use Rattle.xom_base.specs.declared.step.Step.{Step}
+use Rattle.xom_base.proofs.NumberLaws.{count_below_of-exact}
+use Rattle.xom_base.proofs.ByteLaws.{bytes_eq-longer, bytes_eq-same, same_bytes}
 use Rattle.step_text.specs.declared.reading.CellOrPair.{CellOrPair}
 use Rattle.step_text.specs.declared.reading.CellOrPair.TheVariants as form
-use Rattle.step_text.specs.StepFields.{IsCell, IsEnd, IsFault, IsHex8, IsNamedPair, IsReceivedWord, IsReleased, IsStep, IsStored, IsWrites, bytes_at_of, cell_of, cell_or_pair_of, count_below_of, end_of_word, fault_of, hex8_of, named_hex8_of, named_number_of, named_pair_of, number_of_bytes, or_else, received_word, released_by, released_of, step_of_words, stored_bytes_of, stored_of, text_after_name, writes_by, writes_of}
-use Rattle.step_text.proofs.FieldLaws.{behind_head, cell_found, cell_none, cell_only, count_found, count_only, hex8_of-exact, hex8_without, is_word, named_hex8_found, named_hex8_none, named_hex8_only, named_number_found, named_number_only, named_pair_found, named_pair_none, named_pair_only, number_without, or_else_some, other_head, other_word, same_word}
+use Rattle.step_text.specs.StepFields.{IsCell, IsEnd, IsFault, IsHex8, IsNamedPair, IsReceivedWord, IsReleased, IsStep, IsStored, IsWrites, bytes_at_of, cell_of, cell_or_pair_of, end_of_word, fault_of, hex8_of, named_hex8_of, named_number_of, named_pair_of, number_of_bytes, or_else, received_word, released_by, released_of, step_of_words, stored_bytes_of, stored_of, text_after_name, writes_by, writes_of}
+use Rattle.step_text.proofs.FieldLaws.{behind_head, cell_found, cell_none, cell_only, hex8_of-exact, hex8_without, named_hex8_found, named_hex8_none, named_hex8_only, named_number_found, named_number_only, named_pair_found, named_pair_none, named_pair_only, number_without, or_else_some, other_head}
 
 -- ---- a choice by a word
 
@@ -49,7 +51,7 @@ cell_or_pair_found : (name word : List ℕ) (c : CellOrPair) → cell_or_pair_of
 unfolding cell_or_pair_of
 cell_or_pair_found name word c h =
     elim (either (bytes_eq word (codes "-")) form.Nothing _ c h) [
-      | inl t ↦ subst (IsCellOrPair name word) t.1 (same_word word (codes "-") t.0)
+      | inl t ↦ subst (IsCellOrPair name word) t.1 (same_bytes word (codes "-") t.0)
       | inr t ↦ elim (or_else_some _ _ c t.1) [
         | inl first ↦
             let m = option_map_some (λ (cell : ℕ × ℕ). form.Cell cell.0 cell.1) (cell_of word) c
@@ -69,7 +71,7 @@ cell_or_pair_only : (head : ℕ) (rest word : List ℕ) (c : CellOrPair) → eqb
     → eqb head 114 ≡ false → IsCellOrPair (head ∷ rest) word c
     → cell_or_pair_of (head ∷ rest) word ≡ Some c
 unfolding cell_or_pair_of
-cell_or_pair_only head rest word form.Nothing dash cell is = rw (is_word word (codes "-") is) refl
+cell_or_pair_only head rest word form.Nothing dash cell is = rw (bytes_eq-same word (codes "-") is) refl
 cell_or_pair_only head rest word (form.Cell reg value) dash cell is =
     let away : bytes_eq word (codes "-") ≡ false = other_head 114 45 word _ _ is.2 refl in
     rw (away, cell_only word reg value is) refl
@@ -123,7 +125,7 @@ stored_bytes_found word s h =
     steps _ (cut_of 61 parts.1) s h (λ more cuts_more h.
     steps _ (count_below_of 5 more.0) s h (λ count read h.
     steps _ (hex_of count more.1) s h (λ bytes low h.
-    let c = count_found 5 more.0 count read in
+    let c = (count_below_of-exact 5 more.0 count).0 read in
     subst (IsStored word) (same_Some (stored.Bytes address count (number_of_bytes count bytes)) s h) (
       parts.0,
       more.0,
@@ -142,7 +144,7 @@ stored_found : (word : List ℕ) (s : Stored) → stored_of word ≡ Some s → 
 unfolding stored_of
 stored_found word s h =
     elim (either (bytes_eq word (codes "-")) stored.Nothing _ s h) [
-      | inl t ↦ subst (IsStored word) t.1 (same_word word (codes "-") t.0)
+      | inl t ↦ subst (IsStored word) t.1 (same_bytes word (codes "-") t.0)
       | inr t ↦ stored_bytes_found word s t.1
     ]
 
@@ -152,11 +154,11 @@ long_word : (a more word : List ℕ) (n : ℕ) → word ≡ a ++ more → IsHex8
 long_word a more word n is hex =
     let sized : length a ≡ 8 = hex.1.sized in
     let long : length word ≡ length a + length more = ap length is ∙ length-append a more in
-    other_word word (codes "-") (omega arith)
+    bytes_eq-longer word (codes "-") (omega arith)
 
 stored_only : (word : List ℕ) (s : Stored) → IsStored word s → stored_of word ≡ Some s
 unfolding stored_of stored_bytes_of bytes_at_of
-stored_only word stored.Nothing is = rw (is_word word (codes "-") is) refl
+stored_only word stored.Nothing is = rw (bytes_eq-same word (codes "-") is) refl
 stored_only word (stored.Bytes address count value) (
   a,
   c,
@@ -174,7 +176,7 @@ stored_only word (stored.Bytes address count value) (
     rw (cut_of-at 43 a (c ++ (61 ∷ h)) (hex8_without address 43 a (omega arith) high)) (
     rw ((hex8_of-exact a address).1 high) (
     rw (cut_of-at 61 c h (number_without 5 count 61 c (omega arith) refl refl counts)) (
-    rw (count_only 5 c count counts least, (hex_of-exact count h bytes).1 low) (
+    rw ((count_below_of-exact 5 c count).1 (counts, least), (hex_of-exact count h bytes).1 low) (
     ap (λ v. Some (stored.Bytes address count v)) (sym valued)))))))
 
 pub stored_of-exact : (word : List ℕ) (s : Stored) → (stored_of word ≡ Some s) ↔ IsStored word s
@@ -186,7 +188,7 @@ received_found : (word : List ℕ) (g : Received) → received_word word ≡ Som
 unfolding received_word
 received_found word g h =
     elim (either (bytes_eq word (codes "-")) received.Nothing _ g h) [
-      | inl t ↦ subst (IsReceivedWord word) t.1 (same_word word (codes "-") t.0)
+      | inl t ↦ subst (IsReceivedWord word) t.1 (same_bytes word (codes "-") t.0)
       | inr t ↦ elim (or_else_some _ _ g t.1) [
         | inl first ↦
             let m = option_map_some received.Cell (named_hex8_of (codes "cell=") word) g first in
@@ -209,7 +211,7 @@ received_found word g h =
 
 received_only : (word : List ℕ) (g : Received) → IsReceivedWord word g → received_word word ≡ Some g
 unfolding received_word
-received_only word received.Nothing is = rw (is_word word (codes "-") is) refl
+received_only word received.Nothing is = rw (bytes_eq-same word (codes "-") is) refl
 received_only word (received.Cell value) is =
     let away : bytes_eq word (codes "-") ≡ false = other_head 99 45 word _ _ is.1 refl in
     rw (away, named_hex8_only (codes "cell=") word value is) refl
@@ -265,9 +267,9 @@ end_found : (word : List ℕ) (e : StepEnd) → end_of_word word ≡ Some e → 
 unfolding end_of_word
 end_found word e h =
     elim (either (bytes_eq word (codes "goes")) ended.Goes _ e h) [
-      | inl t ↦ subst (IsEnd word) t.1 (same_word word (codes "goes") t.0)
+      | inl t ↦ subst (IsEnd word) t.1 (same_bytes word (codes "goes") t.0)
       | inr t ↦ elim (either (bytes_eq word (codes "exit")) ended.Exit _ e t.1) [
-        | inl u ↦ subst (IsEnd word) u.1 (same_word word (codes "exit") u.0)
+        | inl u ↦ subst (IsEnd word) u.1 (same_bytes word (codes "exit") u.0)
         | inr u ↦
             let m = option_map_some ended.Call (named_number_of (codes "call=") word) e u.1 in
             subst (IsEnd word) (same_Some (ended.Call m.0) e m.2)
@@ -277,7 +279,7 @@ end_found word e h =
 
 end_only : (word : List ℕ) (e : StepEnd) → IsEnd word e → end_of_word word ≡ Some e
 unfolding end_of_word
-end_only word ended.Goes is = rw (is_word word (codes "goes") is) refl
+end_only word ended.Goes is = rw (bytes_eq-same word (codes "goes") is) refl
 end_only word ended.Exit is = rw is refl
 end_only word (ended.Call code) is =
     let no_goes : bytes_eq word (codes "goes") ≡ false = other_head 99 103 word _ _ is.1 refl in
@@ -363,15 +365,15 @@ fault_found : (word : List ℕ) (kind : OwnFault) → fault_of word ≡ Some kin
 unfolding fault_of
 fault_found word kind h =
     elim (either (bytes_eq word (codes "Reserved")) fault.Reserved _ kind h) [
-      | inl t ↦ subst (IsFault word) t.1 (same_word word (codes "Reserved") t.0)
+      | inl t ↦ subst (IsFault word) t.1 (same_bytes word (codes "Reserved") t.0)
       | inr t ↦ elim (either (bytes_eq word (codes "Foreign")) fault.Foreign _ kind t.1) [
-        | inl t ↦ subst (IsFault word) t.1 (same_word word (codes "Foreign") t.0)
+        | inl t ↦ subst (IsFault word) t.1 (same_bytes word (codes "Foreign") t.0)
         | inr t ↦ elim (either (bytes_eq word (codes "Overflow")) fault.Overflow _ kind t.1) [
-          | inl t ↦ subst (IsFault word) t.1 (same_word word (codes "Overflow") t.0)
+          | inl t ↦ subst (IsFault word) t.1 (same_bytes word (codes "Overflow") t.0)
           | inr t ↦ elim (either (bytes_eq word (codes "Address")) fault.Address _ kind t.1) [
-            | inl t ↦ subst (IsFault word) t.1 (same_word word (codes "Address") t.0)
+            | inl t ↦ subst (IsFault word) t.1 (same_bytes word (codes "Address") t.0)
             | inr t ↦ elim (either (bytes_eq word (codes "Break")) fault.Break None kind t.1) [
-              | inl t ↦ subst (IsFault word) t.1 (same_word word (codes "Break") t.0)
+              | inl t ↦ subst (IsFault word) t.1 (same_bytes word (codes "Break") t.0)
               | inr t ↦ absurd (none-some kind t.1)
             ]
           ]

@@ -1,11 +1,11 @@
 -- The fields of a recorded step as words of a line: what each word writes. Hexadecimal digits are
 -- in either case, and numbers are those of all texts. This project's own format.
-use Rattle.std.specs.Prelude.{◌≡◌, ℕ, ◌+◌, ◌-◌, ◌^◌, ◌==◌, ◌≤◌, nat_eq, nat_le, if◌then◌else◌, List, [], ◌∷◌, ◌++◌, length, drop, replicate, codes, Option, Some, None, option_map}
+use Rattle.std.specs.Prelude.{◌≡◌, ℕ, ◌+◌, ◌-◌, ◌^◌, ◌==◌, ◌≤◌, nat_eq, if◌then◌else◌, List, [], ◌∷◌, ◌++◌, length, drop, replicate, codes, Option, Some, None, option_map}
 use Rattle.std.specs.Int.{w32, from_be_bytes}
 use Rattle.std.specs.List.{starts_with}
 use Rattle.std.specs.Str.{bytes_eq}
 use Rattle.xom_base.specs.Hex.{IsHex, hex_of}
-use Rattle.xom_base.specs.Numbers.{WritesBelow as WritesNumber, number_below_of}
+use Rattle.xom_base.specs.Numbers.{WritesBelow as WritesNumber, count_below_of, number_below_of}
 use Rattle.xom_base.specs.Options.{◌>>=◌}
 use Rattle.xom_base.specs.Words.{cut_of}
 use Rattle.xom_base.specs.Sizes.{register_places}
@@ -126,12 +126,6 @@ pair_of word = do
 -- two numbers of eight hexadecimal digits each behind a name
 unfoldable pub named_pair_of : List ℕ → List ℕ → Option (ℕ × ℕ)
 named_pair_of name word = text_after_name name word >>= pair_of
-
--- a number from 1 on, below the bound
-unfoldable pub count_below_of : ℕ → List ℕ → Option ℕ
-count_below_of bound word = do
-  n ← number_below_of bound word
-  if nat_le 1 n then Some n else None
 
 -- a register and its value: `rN=HEX8`
 unfoldable pub cell_of : List ℕ → Option (ℕ × ℕ)

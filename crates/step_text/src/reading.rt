@@ -1,11 +1,11 @@
 ghost use Rattle.std.specs.Prelude.{◌≡◌, ◌≤◌, ◌<◌, List, IfSome, map, option_map};
 ghost use Rattle.std.specs.Int.{w32, from_be_bytes};
 ghost use Rattle.xom_base.specs.Hex.{hex_of};
-ghost use Rattle.step_text.specs.StepFields.{bytes_at_of, cell_of, cell_or_pair_of, count_below_of, end_of_word, fault_of, hex8_of, named_hex8_of, named_number_of, named_pair_of, number_of_bytes, pair_of, received_word, released_by, released_of, step_of_words, stored_bytes_of, stored_of, text_after_name as behind_of, writes_by, writes_of};
+ghost use Rattle.step_text.specs.StepFields.{bytes_at_of, cell_of, cell_or_pair_of, end_of_word, fault_of, hex8_of, named_hex8_of, named_number_of, named_pair_of, number_of_bytes, pair_of, received_word, released_by, released_of, step_of_words, stored_bytes_of, stored_of, text_after_name as behind_of, writes_by, writes_of};
 
 use xom_base::{
-    OwnFault, Received, Released, Step, StepEnd, Stored, Writes, cut, hex_array, hex_fills,
-    number_below, number32,
+    OwnFault, Received, Released, Step, StepEnd, Stored, Writes, count_below, cut, hex_array,
+    hex_fills, number32,
 };
 
 /// What a word of the form that WRITES and RELEASED have in common says.
@@ -241,16 +241,6 @@ fn named_number_in(name: &[u8], word: &[u8]) -> Option<u32>
 {
     let rest = behind(name, word)?;
     number32(rest)
-}
-
-/// A number from 1 on, below a bound.
-#[tactic(auto, unfolding(crate::specs::StepFields::count_below_of))]
-fn count_below(word: &[u8], bound: u8) -> Option<u8>
-    ensures value { result ≡ count_below_of bound word.now }
-    ensures small { IfSome result (λ n. n < bound) }
-{
-    let n = number_below(word, u64::from(bound))?;
-    (1 <= n).then_some(n as u8)
 }
 
 #[tactic(auto, unfolding(crate::specs::StepFields::text_after_name))]

@@ -113,17 +113,19 @@ decoded_new word =
 
 -- ---- words of any even number of digits
 
-length-pairs : (count : ℕ) (word : List ℕ) → length word ≡ 2 * count → length (pairs word) ≡ count
+pub length-pairs : (count : ℕ) (word : List ℕ) → length word ≡ 2 * count → length (pairs word) ≡ count
 length-pairs count [] sized = omega arith
 length-pairs zero (high ∷ word) sized = absurd (omega arith)
 length-pairs (suc count) (high ∷ []) sized = absurd (omega arith)
 length-pairs (suc count) (high ∷ low ∷ word) sized = ap suc (length-pairs count word (omega arith))
 
+pub length-IsHex : (count : ℕ) (word bytes : List ℕ) → IsHex count word bytes → length bytes ≡ count
+length-IsHex count word bytes is = ap length is.written ∙ length-pairs count word is.sized
+
 pub length-hex_of : (count : ℕ) (word bytes : List ℕ) → hex_of count word ≡ Some bytes
     → length bytes ≡ count
 length-hex_of count word bytes h =
-    let w = (hex_of-exact count word bytes).0 h in
-    ap length w.written ∙ length-pairs count word w.sized
+    length-IsHex count word bytes ((hex_of-exact count word bytes).0 h)
 
 pub hex_within-exact : (most : ℕ) (word bytes : List ℕ)
     → (hex_within most word ≡ Some bytes) ↔ WritesHex most word bytes

@@ -71,7 +71,7 @@ with_front_err : {S X : Type 0} (front : List X) (read : Result (List X × S) �
 with_front_err front (Ok read) bad h = absurd (ok_err (front ++ read.0, read.1) bad h)
 with_front_err front (Err e) bad h = h
 
-with_front-nil : {S X : Type 0} (read : Result (List X × S) ℕ) → with_front [] read ≡ read
+pub with_front-nil : {S X : Type 0} (read : Result (List X × S) ℕ) → with_front [] read ≡ read
 with_front-nil (Ok read) = refl
 with_front-nil (Err bad) = refl
 

@@ -18,7 +18,7 @@ use Rattle.std.specs.List.{AllByRecursion, list_all, starts_with}
 use Rattle.std.specs.Result.{OkIff, result_ok}
 use Rattle.std.specs.Str.{IsAscii, IsUtf8, bytes_eq}
 use Rattle.std.specs.Str.Parse.{AllDigits, ParsesUnsigned, IsNumeral as IsStdNumeral, digits_value, digits_value_after}
-use Rattle.xom_base.specs.Numbers.{IsDecimal, IsNumber, IsNumeral, WritesBelow, WritesDecimal, decimal_below_of, if_below, is_numeral, number_below_of, number_of_word, numeral_of, value}
+use Rattle.xom_base.specs.Numbers.{IsDecimal, IsNumber, IsNumeral, WritesBelow, WritesCount, WritesDecimal, count_below_of, decimal_below_of, if_below, is_numeral, number_below_of, number_of_word, numeral_of, value}
 
 -- ---- values
 
@@ -242,6 +242,19 @@ pub number_below_of-exact : (bound : ℕ) (word : List ℕ) (n : ℕ)
 unfolding number_below_of
 number_below_of-exact bound word n =
     below-exact (IsNumber word) (number_of_word word) bound n (number_of-exact word)
+
+pub count_below_of-exact : (bound : ℕ) (word : List ℕ) (n : ℕ)
+    → (count_below_of bound word ≡ Some n) ↔ WritesCount bound word n
+unfolding count_below_of
+count_below_of-exact bound word n = (
+  λ h. option_and_then_some (λ m. cond (leb 1 m) (Some m) None) (number_below_of bound word) n h
+      (λ m read from.
+      let c = cond_some (leb 1 m) m n from in (
+        subst (WritesBelow bound word) c.1 ((number_below_of-exact bound word m).0 read),
+        subst (λ n. 1 ≤ n) c.1 (leb-true 1 m c.0),
+      )),
+  λ h. rw ((number_below_of-exact bound word n).1 h.0, le-leb 1 n h.1) refl,
+)
 
 pub decimal_below_of-exact : (bound : ℕ) (word : List ℕ) (n : ℕ)
     → (decimal_below_of bound word ≡ Some n) ↔ WritesDecimal bound word n

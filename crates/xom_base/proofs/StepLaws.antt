@@ -1,7 +1,6 @@
 -- The test of steps decides their equality.
-use Rattle.std.proofs.Common.{◌≡◌, Bool, true, false, ◌&&◌, refl, arith}
+use Rattle.std.proofs.Common.{◌≡◌, true, refl, arith}
 use Rattle.std.proofs.lemmas.Bool.Decides.{nat_tests}
-use Rattle.std.proofs.lemmas.Grind.{common_steps}
 use Rattle.xom_base.specs.declared.step.Writes.{Writes}
 use Rattle.xom_base.specs.declared.step.Writes.TheVariants as writes
 use Rattle.xom_base.specs.declared.step.Stored.{Stored}

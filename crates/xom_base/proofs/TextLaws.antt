@@ -1,9 +1,9 @@
 -- How the readers of formats answer, all by one law.
-use Rattle.std.proofs.Common.{◌≡◌, ℕ, ◌+◌, Bool, true, false, cond, List, [], length, Option, None, Some, Result, Ok, Err, inl, inr, refl, sym, ap, ◌∙◌}
+use Rattle.std.proofs.Common.{◌≡◌, ℕ, ◌+◌, Bool, true, List, [], length, Option, None, Some, Result, Ok, Err, inl, inr, refl, sym, ap, ◌∙◌}
 use Rattle.std.specs.Prelude.{◌↔◌, IfOk}
 use Rattle.std.proofs.lemmas.Bool.{cases_Bool, both_ways}
 use Rattle.xom_base.specs.Memory.{OrOut}
-use Rattle.xom_base.specs.Lines.{AnswersRead, AnswersText, EndsEarly, Format, IsFirstBad, IsFirstBadOf, IsRows, IsText, IsWholeText, LineStep, Reads, Rows, Tells, at_end, lines_of, made_of, read_from, rows_of, rows_step, whole_from}
+use Rattle.xom_base.specs.Lines.{AnswersRead, AnswersText, Format, IsFirstBad, IsFirstBadOf, IsRows, IsText, IsWholeText, LineStep, Reads, Rows, Tells, at_end, lines_of, made_of, read_from, rows_of, rows_step, whole_from}
 use Rattle.xom_base.proofs.LineLaws.{Tells-rows, bad_from, ok_err, only_reads, reads_from, same_Err, same_Ok}
 use Rattle.xom_base.specs.declared.lines.TextFault.{TextFault}
 use Rattle.xom_base.specs.declared.lines.TextFault.TheVariants as text_fault

@@ -34,6 +34,10 @@ WritesBelow bound word n = IsNumber word n × (n < bound)
 abbrev pub WritesDecimal : ℕ → List ℕ → ℕ → Type 0
 WritesDecimal bound word n = IsDecimal word n × (n < bound)
 
+-- the word is a number from 1 on, which is below the bound
+abbrev pub WritesCount : ℕ → List ℕ → ℕ → Type 0
+WritesCount bound word n = WritesBelow bound word n × (1 ≤ n)
+
 -- ---- the same as functions, for what reads words one after another
 
 -- whether the word is one digit of the base or more
@@ -60,6 +64,11 @@ if_below bound n = if nat_lt n bound then Some n else None
 -- the number of a word, where it is below the bound
 unfoldable pub number_below_of : ℕ → List ℕ → Option ℕ
 number_below_of bound word = option_and_then (if_below bound) (number_of_word word)
+
+-- the number of a word, where it is from 1 on and below the bound
+unfoldable pub count_below_of : ℕ → List ℕ → Option ℕ
+count_below_of bound word =
+    option_and_then (λ n. if nat_le 1 n then Some n else None) (number_below_of bound word)
 
 -- the number of a decimal word, where it is below the bound
 unfoldable pub decimal_below_of : ℕ → List ℕ → Option ℕ

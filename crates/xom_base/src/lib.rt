@@ -31,7 +31,7 @@ pub use lines::{
     LineFault, LineFormat, TextFault, WholeFormat, first_line, read_lines, read_whole, split_lines,
 };
 pub use list::{ByteList, List, NoMemory, NumberList};
-pub use numbers::{decimal, decimal_below, number, number_below, number32};
+pub use numbers::{count_below, decimal, decimal_below, number, number_below, number32};
 pub use payload::{Block, Payload, Short};
 pub use rows::{RowFormat, read_rows};
 pub use schedule::{Interrupts, Poke, PokeList, Schedule};

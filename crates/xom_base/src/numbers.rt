@@ -1,5 +1,5 @@
 ghost use Rattle.std.specs.Prelude.{◌≡◌, ◌↔◌, ◌<◌, ◌≤◌, ◌^◌, ℕ, IsNone, IfSome, Some};
-ghost use Rattle.xom_base.specs.Numbers.{IsDecimal, IsNumber, WritesBelow, WritesDecimal, decimal_below_of, number_below_of, number_of_word, numeral_of};
+ghost use Rattle.xom_base.specs.Numbers.{IsDecimal, IsNumber, WritesBelow, WritesCount, WritesDecimal, count_below_of, decimal_below_of, number_below_of, number_of_word, numeral_of};
 
 /// The number of a word: decimal digits, leading zeros allowed, below 2^64, or `0x` and 1 to 16
 /// hexadecimal digits in either case. None exactly where the word is no such number.
@@ -19,6 +19,25 @@ pub fn number_below(word: &[u8], bound: u64) -> Option<u64>
     ensures value { result ≡ number_below_of bound word.now }
 {
     below(word, bound)
+}
+
+/// The number of a word, where it is from 1 on and below a bound: of a register, a slot, or a count of
+/// few things.
+pub fn count_below(word: &[u8], bound: u8) -> Option<u8>
+    ensures exact { (n : ℕ) → (result ≡ Some n) ↔ WritesCount bound word.now n }
+    ensures small { IfSome result (λ n. n < bound) }
+    ensures none { IsNone result ↔ ((n : ℕ) → ¬ WritesCount bound word.now n) }
+    ensures value { result ≡ count_below_of bound word.now }
+{
+    count_in(word, bound)
+}
+
+#[tactic(auto, unfolding(crate::specs::Numbers::count_below_of))]
+fn count_in(word: &[u8], bound: u8) -> Option<u8>
+    ensures { result ≡ count_below_of bound word.now }
+{
+    let n = number_below(word, u64::from(bound))?;
+    (1 <= n).then_some(n as u8)
 }
 
 /// The number of a word, where it is below 2^32.

@@ -10,23 +10,10 @@ use Rattle.std.proofs.lemmas.Slice.Eq.{bytes_eq-Decides}
 use Rattle.std.proofs.lemmas.Str.{IsUtf8-from_is_utf8, is_utf8-from_IsUtf8}
 use Rattle.xom_base.specs.Hex.{hex_within}
 use Rattle.xom_base.proofs.HexLaws.{hex_within-exact}
+use Rattle.xom_base.proofs.ChoiceLaws.{cond-cases}
+use Rattle.xom_base.proofs.ByteLaws.{same_bytes}
+use Rattle.xom_base.proofs.NumberLaws.{cond_then}
 use Rattle.xom_script.specs.Fields.{WritesBytes, name_of_word, row_by_name, write_bytes_of}
-
--- a guarded value
-pub holds_some : {A : Type 0} (b : Bool) (x y : A) → cond b (Some x) None ≡ Some y
-    → (b ≡ true) × (Some x ≡ Some y)
-holds_some true x y h = (refl, h)
-holds_some false x y h = absurd (none-some y h)
-
--- a choice of two
-pub chosen : {A : Type 0} (b : Bool) (x y z : A) → cond b x y ≡ z
-    → ((b ≡ true) × (x ≡ z)) ⊎ ((b ≡ false) × (y ≡ z))
-chosen true x y z h = inl (refl, h)
-chosen false x y z h = inr (refl, h)
-
--- the word is the one that it was compared with
-pub same_word : (word name : List ℕ) → bytes_eq word name ≡ true → word ≡ name
-same_word word name h = (bytes_eq-Decides word name).0 h
 
 -- what holds of the value of each row holds of the value that was found
 pub row_found : {A : Type 0} (P : Type 0) (name : List ℕ) (value : A)
@@ -35,8 +22,8 @@ pub row_found : {A : Type 0} (P : Type 0) (name : List ℕ) (value : A)
     → AllByRecursion (λ row. name ≡ row.0 → row.1 ≡ Some value → P) rows → P
 row_found P name value [] h each = absurd (none-some value h)
 row_found P name value (row ∷ rows) h each =
-    elim (chosen (bytes_eq name row.0) row.1 (row_by_name rows name) (Some value) h) [
-      | inl t ↦ each.0 (same_word name row.0 t.0) t.1
+    elim (cond-cases (bytes_eq name row.0) row.1 (row_by_name rows name) (Some value) h) [
+      | inl t ↦ each.0 (same_bytes name row.0 t.0) t.1
       | inr t ↦ row_found P name value rows t.1 each.1
     ]
 
@@ -60,7 +47,7 @@ name_of-none word never =
 pub name_of-found : (word name : List ℕ) → name_of_word word ≡ Some name → (word ≡ name) × IsUtf8 name
 unfolding name_of_word
 name_of-found word name h =
-    let t = holds_some (is_utf8 word) word name h in
+    let t = cond_then (is_utf8 word) (Some word) name h in
     let same : word ≡ name = same_Some word name t.1 in
     (same, subst IsUtf8 same (IsUtf8-from_is_utf8 word t.0))
 
@@ -78,7 +65,7 @@ unfolding write_bytes_of
 write_bytes_of-exact word bytes = (
   λ h.
       steps _ (hex_within 8192 word) bytes h (λ read is h.
-      let t = holds_some (not (eqb (length read) 0)) read bytes h in
+      let t = cond_then (not (eqb (length read) 0)) (Some read) bytes h in
       subst (WritesBytes word) (same_Some read bytes t.1) (
         (hex_within-exact 8192 word read).0 is,
         some_bytes read t.0,

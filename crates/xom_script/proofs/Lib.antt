@@ -1,3 +1,4 @@
+pub mod AscendLaws
 pub mod FieldLaws
 pub mod RuleLaws
 pub mod RunLaws

@@ -8,6 +8,7 @@ use Rattle.xom_base.specs.declared.schedule.Interrupts.{Interrupts}
 use Rattle.xom_base.specs.declared.schedule.Interrupts.TheVariants as interrupts
 use Rattle.xom_base.specs.declared.schedule.Poke.{Poke}
 use Rattle.xom_base.specs.Words.{words_of}
+use Rattle.xom_base.proofs.FrontLaws.{all-snoc}
 use Rattle.xom_script.specs.RunFiles.{IsRunFile, RunFormat, run_file_at}
 use Rattle.xom_script.specs.RunLines.{IsInterrupts, IsRunLine}
 use Rattle.xom_script.specs.RunOrder.{Follows, HasRoom, IsNewId, draft_with_guest, with_owner}
@@ -34,11 +35,6 @@ Keeps (progress.Kernel draft kernel number) =
 Keeps (progress.Whole file) = KeepsRules file
 
 -- ---- one more of each
-
-all-snoc : {A : Type 0} (P : A → Type 0) (items : List A) (item : A) → AllByRecursion P items
-    → P item → AllByRecursion P (items ++ (item ∷ []))
-all-snoc P [] item all one = (one, tt)
-all-snoc P (first ∷ items) item all one = (all.0, all-snoc P items item all.1 one)
 
 ids-snoc : (owners : List OwnerFile) (owner : OwnerFile) → HasOwnIds owners
     → IsNewId owner.id owners → HasOwnIds (owners ++ (owner ∷ []))

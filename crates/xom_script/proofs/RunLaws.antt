@@ -10,6 +10,7 @@ use Rattle.xom_base.specs.declared.lines.TextFault.{TextFault}
 use Rattle.xom_base.specs.Lines.{AnswersRead, AnswersText, Reads, Tells, at_end, lines_of, read_from}
 use Rattle.xom_base.proofs.LineLaws.{Tells-words, bad_from, ok_err, only_bad, only_reads, reads_from, same_Err, same_Ok}
 use Rattle.xom_base.proofs.TextLaws.{AnswersText-exact}
+use Rattle.xom_base.proofs.NumberLaws.{cond_then}
 use Rattle.xom_script.specs.RunFiles.{IsBadRun, IsRunFile, IsRunRow, RunFormat, run_file_at, run_file_from, run_row_of, run_step, whole_file}
 use Rattle.xom_script.specs.RunLines.{run_line_of}
 use Rattle.xom_script.specs.RunOrder.{Follows, HasRoom, IsNewId, IsWhole, after_files, after_line, draft_with_guest, first_draft, fits_ram, has_id, has_room, is_whole, last_event, run_file, takes_owner, takes_poke, with_owner, with_poke}
@@ -23,7 +24,7 @@ use Rattle.xom_script.specs.declared.run_file.OwnerFile.{OwnerFile}
 use Rattle.xom_script.specs.declared.run_file.RunFile.{RunFile}
 use Rattle.xom_script.specs.declared.run_line.RunLine.{RunLine}
 use Rattle.xom_script.specs.declared.run_line.RunLine.TheVariants as line
-use Rattle.xom_script.proofs.FieldLaws.{holds_some, no_items}
+use Rattle.xom_script.proofs.FieldLaws.{no_items}
 use Rattle.xom_script.proofs.RunLineLaws.{run_line_of-exact}
 
 -- ---- rules on earlier lines
@@ -73,7 +74,7 @@ follows-files : (draft : Draft) (n : ℕ) (next : RunLine) (after : Progress)
     → after_files draft n next ≡ Some after → Follows (progress.Files draft) n next after
 unfolding after_files
 follows-files draft n (line.Owner owner) after h =
-    let t = holds_some (takes_owner draft owner.id) (progress.Files (with_owner draft owner)) after
+    let t = cond_then (takes_owner draft owner.id) (Some (progress.Files (with_owner draft owner))) after
     h in
     let p = and_parts (eqb (length draft.guests) 0) (ltb (length draft.owners) 16
     && not (has_id owner.id draft.owners)) t.0 in
@@ -87,7 +88,7 @@ follows-files draft n (line.Owner owner) after h =
     )
 follows-files draft n (line.Guest sealed input) after h =
     let guest : GuestFile = record { line = n; sealed = sealed; input = input } in
-    let t = holds_some (ltb (length draft.guests) 16) (progress.Files (draft_with_guest draft guest))
+    let t = cond_then (ltb (length draft.guests) 16) (Some (progress.Files (draft_with_guest draft guest)))
     after h in (
       draft,
       refl,
@@ -95,8 +96,8 @@ follows-files draft n (line.Guest sealed input) after h =
       sym (same_Some (progress.Files (draft_with_guest draft guest)) after t.1),
     )
 follows-files draft n (line.Kernel kernel) after h =
-    let t = holds_some (has_room kernel draft.frames (length draft.guests))
-    (progress.Kernel draft kernel n) after h in (
+    let t = cond_then (has_room kernel draft.frames (length draft.guests))
+    (Some (progress.Kernel draft kernel n)) after h in (
       draft,
       refl,
       true-has_room kernel draft.frames (length draft.guests) t.0,
@@ -129,7 +130,7 @@ follows (progress.Kernel draft kernel number) n (line.Interrupt interrupts) afte
   sym (same_Some (progress.Whole (run_file draft kernel number interrupts)) after h),
 )
 follows (progress.Whole file) n (line.Poke poke) after h =
-    let t = holds_some (takes_poke file poke) (progress.Whole (with_poke file poke)) after h in
+    let t = cond_then (takes_poke file poke) (Some (progress.Whole (with_poke file poke))) after h in
     let p = and_parts (ltb (last_event file.schedule.pokes) poke.event) (fits_ram poke file.frames)
     t.0 in (
       file,

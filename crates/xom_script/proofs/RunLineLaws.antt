@@ -11,7 +11,7 @@ use Rattle.xom_base.specs.Numbers.{IsNumber, WritesBelow, number_below_of, numbe
 use Rattle.xom_base.specs.Options.{◌>>=◌, where_holds}
 use Rattle.xom_base.proofs.CutLaws.{option_map_some}
 use Rattle.xom_base.proofs.HexLaws.{hex_of-exact}
-use Rattle.xom_base.proofs.NumberLaws.{number_below_of-exact, number_of-exact}
+use Rattle.xom_base.proofs.NumberLaws.{number_below_of-exact, number_of-exact, cond_then}
 use Rattle.xom_base.specs.declared.schedule.Interrupts.TheVariants as interrupts
 use Rattle.xom_script.specs.Fields.{name_of_word, write_bytes_of}
 use Rattle.xom_script.specs.RunLines.{Ascends, IsRunLine, at_line, boot_line, budget_line, every_line, frames_line, guest_and_input_line, guest_line, interrupt_line, interrupt_rows, kernel_choice, kernel_rows, machine_line, never_line, owner_line, pages_line, poke_line, run_line_of, run_rows, times_of}
@@ -19,7 +19,7 @@ use Rattle.xom_script.specs.declared.run_file.KernelLine.TheVariants as kernel
 use Rattle.xom_script.specs.declared.run_file.OwnerFile.{OwnerFile}
 use Rattle.xom_script.specs.declared.run_line.RunLine.{RunLine}
 use Rattle.xom_script.specs.declared.run_line.RunLine.TheVariants as line
-use Rattle.xom_script.proofs.FieldLaws.{holds_some, name_of-found, name_of-utf8, row_found, write_bytes_of-exact}
+use Rattle.xom_script.proofs.FieldLaws.{name_of-found, name_of-utf8, row_found, write_bytes_of-exact}
 
 -- what these words write is the line that was found
 given : (words : List (List ℕ)) (found value : RunLine) → IsRunLine words found
@@ -76,7 +76,7 @@ times_found last (word ∷ words) times h =
     steps _ (where_holds (ltb last n) n) times h (λ above guard h.
     steps _ (times_of n words) times h (λ more rest h.
     let behind = times_found n words more rest in
-    let t = holds_some (ltb last n) n above guard in
+    let t = cond_then (ltb last n) (Some n) above guard in
     subst (λ times. AllZip IsNumber (word ∷ words) times × Ascends last times)
     (same_Some (n ∷ more) times h)
     (((number_of-exact word n).0 read, behind.0), (ltb-true last n t.0, behind.1)))))
@@ -133,7 +133,7 @@ unfolding frames_line
 frames_found [] value h = absurd (none-some value h)
 frames_found (w ∷ []) value h =
     steps _ (number_below_of 8193 w) value h (λ n read same.
-    let t = holds_some (leb 4 n) (line.Frames n) value same in
+    let t = cond_then (leb 4 n) (Some (line.Frames n)) value same in
     given (codes "frames" ∷ w ∷ []) (line.Frames n) value
     (w, refl, (number_below_of-exact 8193 w n).0 read, leb-true 4 n t.0) t.1)
 frames_found (w ∷ l ∷ words) value h = absurd (none-some value h)
@@ -234,7 +234,7 @@ kernel_found (kind ∷ w ∷ []) value h =
         (
           λ is read.
               steps _ (number_below_of 257 w) value read (λ n number same.
-              let t = holds_some (leb 2 n) (line.Kernel (kernel.Xomos n)) value same in
+              let t = cond_then (leb 2 n) (Some (line.Kernel (kernel.Xomos n))) value same in
               given words (line.Kernel (kernel.Xomos n)) value (
                 kind ∷ w ∷ [],
                 refl,
@@ -265,7 +265,7 @@ unfolding every_line
 every_found kind [] value is h = absurd (none-some value h)
 every_found kind (w ∷ []) value is h =
     steps _ (number_of_word w) value h (λ n read same.
-    let t = holds_some (leb 1 n) (line.Interrupt (interrupts.Every n)) value same in
+    let t = cond_then (leb 1 n) (Some (line.Interrupt (interrupts.Every n))) value same in
     given (codes "interrupt" ∷ kind ∷ w ∷ []) (line.Interrupt (interrupts.Every n)) value (
       kind ∷ w ∷ [],
       refl,

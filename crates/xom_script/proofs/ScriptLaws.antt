@@ -8,17 +8,19 @@ use Rattle.xom_base.specs.Lines.{AnswersRead, AnswersText, LineStep, Rows, Tells
 use Rattle.xom_base.specs.Numbers.{WritesBelow, number_below_of}
 use Rattle.xom_base.specs.Results.{◌>>=◌}
 use Rattle.xom_base.proofs.LineLaws.{Tells-rows, bad_from, only_bad, only_reads, reads_from, same_Err, same_Ok}
-use Rattle.xom_base.proofs.NumberLaws.{number_below_of-exact}
+use Rattle.xom_base.proofs.NumberLaws.{number_below_of-exact, cond_then}
 use Rattle.xom_base.proofs.TextLaws.{AnswersText-exact}
 use Rattle.xom_base.specs.declared.lines.TextFault.{TextFault}
 use Rattle.xom_base.specs.declared.event.Op.TheVariants as op
+use Rattle.xom_base.proofs.ChoiceLaws.{cond-cases}
+use Rattle.xom_base.proofs.ByteLaws.{same_bytes}
 use Rattle.xom_script.specs.Fields.{Writes32, write_bytes_of}
 use Rattle.xom_script.specs.ScriptLines.{IsScriptLine, kernel_write_line, no_word_line, one_word_line, rows_of_none, rows_of_one, rows_of_three, rows_of_two, script_line_of, three_word_line, two_word_line}
 use Rattle.xom_script.specs.Scripts.{IsBadScript, IsScript, script_at, script_with}
 use Rattle.xom_script.specs.declared.script.Script.{Script}
 use Rattle.xom_script.specs.declared.script_line.ScriptLine.{ScriptLine}
 use Rattle.xom_script.specs.declared.script_line.ScriptLine.TheVariants as line
-use Rattle.xom_script.proofs.FieldLaws.{chosen, holds_some, row_found, same_word, write_bytes_of-exact}
+use Rattle.xom_script.proofs.FieldLaws.{row_found, write_bytes_of-exact}
 
 -- ---- lines, as they are read
 
@@ -54,7 +56,7 @@ one_found name a value h =
             same,
         (
           λ is same.
-              let t = holds_some (ltb x 256) (line.Do (op.Out x)) value same in
+              let t = cond_then (ltb x 256) (Some (line.Do (op.Out x))) value same in
               given words (line.Do (op.Out x)) value (
                 a,
                 ap (λ name. name ∷ a ∷ []) is,
@@ -97,7 +99,7 @@ two_found name a b value h =
               (a, b, ap (λ name. name ∷ a ∷ b ∷ []) is, w, v) same,
           (
             λ is same.
-                let t = holds_some (ltb y 256) (line.Flip x y) value same in
+                let t = cond_then (ltb y 256) (Some (line.Flip x y)) value same in
                 given words (line.Flip x y) value (
                   a,
                   b,
@@ -136,7 +138,7 @@ three_found name a b c value h =
                 (a, b, c, ap (λ name. name ∷ a ∷ b ∷ c ∷ []) is, w, v, u) same,
             (
               λ is same.
-                  let t = holds_some (leb 1 z && leb z 8192) (line.Copy x y z) value same in
+                  let t = cond_then (leb 1 z && leb z 8192) (Some (line.Copy x y z)) value same in
                   let range = and_parts (leb 1 z) (leb z 8192) t.0 in
                   let most : z ≤ 8192 = leb-true z 8192 range.1 in
                   given words (line.Copy x y z) value (
@@ -173,10 +175,10 @@ line_found [] value h = absurd (none-some value h)
 line_found (name ∷ []) value h = none_found name value h
 line_found (name ∷ a ∷ []) value h = one_found name a value h
 line_found (name ∷ a ∷ b ∷ []) value h =
-    elim (chosen (bytes_eq name (codes "write")) (kernel_write_line a b) (two_word_line name a b) (Some value) h) [
+    elim (cond-cases (bytes_eq name (codes "write")) (kernel_write_line a b) (two_word_line name a b) (Some value) h) [
       | inl t ↦
           subst (λ name. IsScriptLine (name ∷ a ∷ b ∷ []) value)
-          (sym (same_word name (codes "write") t.0)) (write_found a b value t.1)
+          (sym (same_bytes name (codes "write") t.0)) (write_found a b value t.1)
       | inr t ↦ two_found name a b value t.1
     ]
 line_found (name ∷ a ∷ b ∷ c ∷ []) value h = three_found name a b c value h
