@@ -2,11 +2,11 @@
 
 use crate::body::{add_line, image_file, is_body};
 use crate::long::{has_lines, has_sum, two_words};
+use crate::program::Program;
 use crate::words::words;
 use std::alloc::Global;
 use std::mem;
 use xom_base::{ByteList, NoMemory};
-use xom_cli::xom_main;
 use xom_io::{MemFiles, MemSink};
 
 /// What a case has done so far.
@@ -39,7 +39,11 @@ impl Stage {
 
     /// Does the entries of a text, up to the first that can't be read or isn't met, and answers that
     /// one: its head, or the line of its body that can't be read.
-    pub fn play<'a>(&mut self, text: &'a str) -> Result<Option<&'a str>, NoMemory> {
+    pub fn play<'a, P: Program>(
+        &mut self,
+        program: &P,
+        text: &'a str,
+    ) -> Result<Option<&'a str>, NoMemory> {
         let mut head = "";
         let mut body = Vec::new(self.alloc);
         for line in text.lines() {
@@ -48,14 +52,14 @@ impl Stage {
                     return Ok(Some(line));
                 }
             } else if !line.is_empty() && !line.starts_with('#') {
-                if !self.act(head, body.as_slice())? {
+                if !self.act(program, head, body.as_slice())? {
                     return Ok(Some(head));
                 }
                 head = line;
                 body.clear();
             }
         }
-        Ok(if self.act(head, body.as_slice())? {
+        Ok(if self.act(program, head, body.as_slice())? {
             None
         } else {
             Some(head)
@@ -81,11 +85,16 @@ impl Stage {
 
     // Does what an entry says, and answers whether it can be read and is met. The empty head is that of
     // what stands above the first.
-    fn act(&mut self, head: &str, body: &[u8]) -> Result<bool, NoMemory> {
+    fn act<P: Program>(
+        &mut self,
+        program: &P,
+        head: &str,
+        body: &[u8],
+    ) -> Result<bool, NoMemory> {
         let (word, rest) = head.split_once(' ').unwrap_or((head, ""));
         match word {
             "" => Ok(head.is_empty() && body.is_empty()),
-            "call" => Ok(body.is_empty() && self.call(rest)?),
+            "call" => Ok(body.is_empty() && self.call(program, rest)?),
             _ if rest.is_empty() => Ok(false),
             "file" => self.hold(rest, body),
             "image" => {
@@ -153,7 +162,7 @@ impl Stage {
     }
 
     // The call of these words, if they can be read and the call before was told of.
-    fn call(&mut self, text: &str) -> Result<bool, NoMemory> {
+    fn call<P: Program>(&mut self, program: &P, text: &str) -> Result<bool, NoMemory> {
         let Some(words) = words(self.alloc, text)? else {
             return Ok(false);
         };
@@ -161,7 +170,7 @@ impl Stage {
             return Ok(false);
         }
         self.out = mem::replace(&mut self.next_out, MemSink::new(self.alloc));
-        self.status = Some(xom_main(self.alloc, &words, &mut self.files, &mut self.out));
+        self.status = Some(program.call(self.alloc, &words, &mut self.files, &mut self.out));
         self.is_open = true;
         Ok(true)
     }

@@ -1,5 +1,6 @@
 //! A book, played case by case.
 
+use crate::program::Program;
 use crate::stage::Stage;
 use std::alloc::Global;
 use xom_base::NoMemory;
@@ -7,7 +8,9 @@ use xom_base::NoMemory;
 /// How many cases were played, and how many of them failed.
 #[derive(Clone, Copy)]
 pub struct Tally {
+    /// The cases that were played.
     pub cases: u64,
+    /// Those of them that failed.
     pub failed: u64,
 }
 
@@ -18,8 +21,13 @@ impl Tally {
     }
 }
 
-/// Plays all the cases of a book, and answers a line for each.
-pub fn play(alloc: Global, book: &str, tally: &mut Tally) -> Result<String, NoMemory> {
+/// Plays all the cases of a book over a program, and answers a line for each.
+pub fn play<P: Program>(
+    alloc: Global,
+    program: &P,
+    book: &str,
+    tally: &mut Tally,
+) -> Result<String, NoMemory> {
     let mut report = String::new(alloc);
     let Some((shared, cases)) = parts(book) else {
         tally.count(true);
@@ -29,7 +37,7 @@ pub fn play(alloc: Global, book: &str, tally: &mut Tally) -> Result<String, NoMe
     for case in cases.split("\ncase ") {
         let (title, text) = case.split_once('\n').unwrap_or((case, ""));
         let mut stage = Stage::new(alloc);
-        let failure = played(&mut stage, shared, text)?;
+        let failure = played(program, &mut stage, shared, text)?;
         tally.count(failure.is_some());
         if let Some(head) = failure {
             stage.tell(head, &mut report)?;
@@ -50,15 +58,16 @@ fn parts(book: &str) -> Option<(&str, &str)> {
 }
 
 // Plays a case with what it shares, and answers where it failed.
-fn played<'a>(
+fn played<'a, P: Program>(
+    program: &P,
     stage: &mut Stage,
     shared: &'a str,
     text: &'a str,
 ) -> Result<Option<&'a str>, NoMemory> {
-    if let Some(head) = stage.play(shared)? {
+    if let Some(head) = stage.play(program, shared)? {
         return Ok(Some(head));
     }
-    if let Some(head) = stage.play(text)? {
+    if let Some(head) = stage.play(program, text)? {
         return Ok(Some(head));
     }
     Ok(if stage.is_over() {
