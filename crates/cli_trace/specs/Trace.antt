@@ -4,7 +4,6 @@ use Rattle.std.specs.Prelude.{◌≡◌, ℕ, ◌⊎◌, Bool, true, false, List
 use Rattle.std.specs.Fmt.{decimal}
 use Rattle.std.specs.List.{list_any}
 use Rattle.xom_base.specs.declared.entry.Entry.{Entry}
-use Rattle.xom_base.specs.declared.image.PlainImage.{PlainImage}
 use Rattle.text_pieces.specs.Pieces.{hex8}
 use Rattle.trace_judge.specs.declared.report.Report.{Report}
 use Rattle.trace_judge.specs.Judgement.{judgement}
@@ -17,7 +16,7 @@ use Rattle.xom_model.specs.Run.{run_from}
 use Rattle.xom_model.specs.Seen.{View}
 use Rattle.xom_model.specs.State.{Record}
 use Rattle.power_on.specs.Shipped.{shipped_versions}
-use Rattle.power_on.specs.Start.{first_record}
+use Rattle.power_on.specs.Start.{first_of}
 use Rattle.kernels.specs.Turns.{image_told, script_told}
 use Rattle.journal_text.specs.JournalTexts.{journal_text}
 use Rattle.cli_base.specs.declared.answer.Answer.{Answer}
@@ -35,15 +34,6 @@ use Rattle.xom_io.specs.Answers.{FilesTold}
 use Rattle.cli_trace.specs.Console.{console_lines, console_of}
 
 -- ---- What is run and judged
-
--- the image of a kernel that is code
-abbrev pub kernel_code : KernelFile → Option PlainImage
-kernel_code (kernel.Script script) = None
-kernel_code (kernel.Image image) = Some image
-
--- the machine before its first event, with the kernel and these guests in RAM
-abbrev pub first_of : RunFile → List GuestImage → KernelFile → Record
-first_of file guests k = first_record shipped_versions file.machine file.boot file.frames (kernel_code k) guests
 
 -- the machine after the run of a kernel that tells its turns, under the schedule and within the
 -- budget of a run file

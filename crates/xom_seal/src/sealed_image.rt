@@ -2,8 +2,8 @@ ghost use Rattle.std.specs.Prelude.{◌≡◌, ◌≤◌, ◌<◌, ◌%◌, ◌^
 ghost use Rattle.xom_seal.specs.declared.line.SealedLine.{SealedLine};
 ghost use Rattle.xom_seal.specs.Envelopes.{entry_of_envelope, lines_in};
 
+use crate::line::SealedLine;
 use xom_base::List;
-use xom_seal::SealedLine;
 
 /// A growing list of sealed lines.
 pub type SealedLineList = List<SealedLine>;
