@@ -85,12 +85,7 @@ impl Stage {
 
     // Does what an entry says, and answers whether it can be read and is met. The empty head is that of
     // what stands above the first.
-    fn act<P: Program>(
-        &mut self,
-        program: &P,
-        head: &str,
-        body: &[u8],
-    ) -> Result<bool, NoMemory> {
+    fn act<P: Program>(&mut self, program: &P, head: &str, body: &[u8]) -> Result<bool, NoMemory> {
         let (word, rest) = head.split_once(' ').unwrap_or((head, ""));
         match word {
             "" => Ok(head.is_empty() && body.is_empty()),
