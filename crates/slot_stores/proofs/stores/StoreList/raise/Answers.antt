@@ -1,10 +1,10 @@
 -- The store that is raised is the slot's.
 use Rattle.std.proofs.Common.{◌≡◌, ◌-◌, ◌<◌, suc, length, set, ◌∙◌, ap, arith}
 use Rattle.xom_versions.specs.Versions.{with_hashes}
-use Rattle.xom_model.specs.State.{no_store}
-use Rattle.xom_private.specs.Cores.{store_at}
-use Rattle.xom_private.proofs.Places.{store_is, store_set}
-use Rattle.xom_private.proofs.stores.StoreList.raise.Goals as goal
+use Rattle.xom_versions.specs.Store.{no_store}
+use Rattle.slot_stores.specs.SlotStores.{store_at}
+use Rattle.slot_stores.proofs.Places.{store_is, store_set}
+use Rattle.slot_stores.proofs.stores.StoreList.raise.Goals as goal
 
 pub returns-clause-ram : goal.returns-clause-ram
 returns-clause-ram g c =

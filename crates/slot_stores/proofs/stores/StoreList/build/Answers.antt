@@ -1,7 +1,7 @@
 -- The store that is built is the slot's.
 use Rattle.std.proofs.Common.{◌≡◌, ◌-◌, suc, set, ◌∙◌, ap, arith}
-use Rattle.xom_private.proofs.Places.{store_set}
-use Rattle.xom_private.proofs.stores.StoreList.build.Goals as goal
+use Rattle.slot_stores.proofs.Places.{store_set}
+use Rattle.slot_stores.proofs.stores.StoreList.build.Goals as goal
 
 pub returns-clause-stores : goal.returns-clause-stores
 returns-clause-stores g c =

@@ -2,7 +2,7 @@ ghost use Rattle.std.specs.Prelude.{◌≡◌, ◌≤◌, ◌<◌, ◌+◌, IfOk
 ghost use Rattle.line_ram.specs.Bytes.{HoldsRange};
 ghost use Rattle.xom_versions.specs.Store.{HoldsArea, area_size, build_room, line_limit, raise_room, version_room};
 ghost use Rattle.xom_versions.specs.Versions.{with_hashes};
-ghost use Rattle.xom_private.specs.Cores.{blank_stores, store_at};
+ghost use Rattle.slot_stores.specs.SlotStores.{blank_stores, store_at};
 
 use line_ram::LineRam;
 use std::alloc::Global;

@@ -1,6 +1,6 @@
 -- So many are blank.
 use Rattle.std.proofs.Common.{◌≡◌, length, map, replicate}
-use Rattle.xom_private.proofs.stores.StoreList.new.Given as goal
+use Rattle.slot_stores.proofs.stores.StoreList.new.Given as goal
 
 abbrev pub invariant-loop-place : goal.invariant-loop-place
 invariant-loop-place g l =
