@@ -1,8 +1,8 @@
 use Rattle.text_pieces.specs.Pieces.{hex8}
 use Rattle.std.specs.Prelude.{codes}
-use Rattle.cli_trace.specs.Trace.{kind_text}
-use Rattle.cli_trace.proofs.Joined.{three-joined}
-use Rattle.cli_trace.proofs.trace.push_fault.Goals as goal
+use Rattle.run_text.specs.EventsLine.{kind_text}
+use Rattle.run_text.proofs.Joined.{three-joined}
+use Rattle.run_text.proofs.events.push_fault.Goals as goal
 
 pub returns : goal.returns
 returns c =

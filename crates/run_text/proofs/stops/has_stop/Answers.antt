@@ -5,8 +5,8 @@ use Rattle.std.specs.Prelude.{slice_get}
 use Rattle.trace_judge.specs.Suspicion.{is_stop}
 use Rattle.xom_base.specs.declared.entry.Entry.{Entry}
 use Rattle.xom_journal.proofs.PlaceLaws.{behind_some, past_end}
-use Rattle.cli_trace.proofs.made.has_stop.Goals as goal
-use Rattle.cli_trace.proofs.made.has_stop.Goals.{in-Some+else-is_stop, in_default}
+use Rattle.run_text.proofs.stops.has_stop.Goals as goal
+use Rattle.run_text.proofs.stops.has_stop.Goals.{in-Some+else-is_stop, in_default}
 
 any_true : (b c : Bool) → b ≡ true → (b || c) ≡ true
 any_true b c is = rw is refl

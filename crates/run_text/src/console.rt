@@ -1,6 +1,6 @@
 ghost use Rattle.std.specs.Prelude.{◌≡◌, ◌++◌, IfOk, OnOk, option_and_then, slice_get};
 ghost use Rattle.std.specs.Option.{option_to_list};
-ghost use Rattle.cli_trace.specs.Console.{byte_in, console_lines, console_of};
+ghost use Rattle.run_text.specs.Console.{byte_in, console_lines, console_of};
 
 use std::alloc::Global;
 use xom_base::{Entry, NoMemory};

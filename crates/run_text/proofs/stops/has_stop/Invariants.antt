@@ -2,7 +2,7 @@
 use Rattle.std.proofs.Common.{◌≡◌, drop}
 use Rattle.std.specs.List.{list_any}
 use Rattle.trace_judge.specs.Suspicion.{is_stop}
-use Rattle.cli_trace.proofs.made.has_stop.Given as goal
+use Rattle.run_text.proofs.stops.has_stop.Given as goal
 
 abbrev pub invariant-loop-i : goal.invariant-loop-i
 invariant-loop-i l =
