@@ -14,6 +14,6 @@ mod schedule;
 mod table;
 mod word;
 
-pub use laws::{blocks_are_bytes, inverses_are_inverse};
+pub use laws::blocks_are_bytes;
 pub use schedule::Schedule;
 pub use table::s_box;

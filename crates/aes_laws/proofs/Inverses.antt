@@ -6,7 +6,7 @@ use Rattle.std.specs.Prelude.{map, if◌then◌else◌}
 use Rattle.std.specs.List.{range_with_len}
 use Rattle.std.proofs.lemmas.List.FromFn.{get_or-map-range_with_len}
 use Rattle.aes_block.specs.Field.{polynomial_product, remainder, times, inverse_below, inverse}
-use Rattle.aes_block.specs.Laws.{InversesAreAlone, InversesAreInverse}
+use Rattle.aes_laws.specs.FieldLaws.{InversesAreAlone, InversesAreInverse}
 
 -- the products of the bytes from 1 on with their inverses are as many ones
 products : map (λ b. times b (inverse b)) (range_with_len 1 255) ≡ map (λ b. 1)
