@@ -2,7 +2,6 @@ pub mod Words
 pub mod Entries
 pub mod Tables
 pub mod Rounds
-pub mod Inverses
 pub mod Constants
 pub mod Growth
 pub mod Sizes

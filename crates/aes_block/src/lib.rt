@@ -9,11 +9,13 @@
 mod cipher;
 mod columns;
 mod expansion;
+mod key;
 mod laws;
 mod schedule;
 mod table;
 mod word;
 
-pub use laws::{blocks_are_bytes, inverses_are_inverse};
+pub use key::Key128;
+pub use laws::blocks_are_bytes;
 pub use schedule::Schedule;
 pub use table::s_box;

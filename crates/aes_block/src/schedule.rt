@@ -4,8 +4,8 @@ ghost use Rattle.aes_block.specs.Keys.{key_expansion};
 
 use crate::cipher::{after_rounds, block_of, columns_of, encrypted};
 use crate::expansion::expanded;
+use crate::key::Key128;
 use std::marker::Model;
-use xom_base::Key128;
 
 /// A key of AES-128, made ready for any number of blocks: its key schedule of FIPS 197, 5.2. It is
 /// seen as the 16 bytes of its key.

@@ -1,6 +1,7 @@
 -- Both kernels tell each of their turns, so the moments of their runs are told whole.
 use Rattle.std.proofs.Common.{◌≡◌, ℕ, zero, suc, ◌+◌, List, [], ◌∷◌, Option, Some, None, true, false, cond, refl}
 use Rattle.std.specs.Prelude.{IfSome, IsSome, option_map, unwrap_or}
+use Rattle.kernels.proofs.Told.{script_told-some}
 use Rattle.kernels.specs.Turns.{image_told, script_told}
 use Rattle.xom_base.specs.declared.schedule.Poke.{Poke}
 use Rattle.xom_base.specs.declared.schedule.Schedule.{Schedule}
@@ -53,10 +54,6 @@ module _ (v : Versions) {K : Type 0} (told : K → View → Option (Turn × (Lis
             (next_made v told schedule g r k (poke_at schedule.pokes (r.events + 1)))
             (next_made-some g r k (poke_at schedule.pokes (r.events + 1)))
       ]
-
-script_told-some : (lines : List ScriptLine) (view : View) → IsSome (script_told lines view)
-script_told-some [] view = refl
-script_told-some (line ∷ lines) view = refl
 
 -- the moments of a script are told, whatever its record, its budget and its schedule
 pub script_moments-some : (v : Versions) (schedule : Schedule) (n g : ℕ) (r : Record)

@@ -9,7 +9,7 @@ use Rattle.cli_runs.specs.declared.guest_image.GuestImage.{GuestImage}
 use Rattle.cli_runs.specs.declared.kernel_file.KernelFile.{KernelFile}
 use Rattle.cli_runs.specs.declared.kernel_file.KernelFile.TheVariants as kernel
 use Rattle.cli_runs.specs.declared.parts.Parts.{Parts}
-use Rattle.cli_trace.specs.Trace.{first_of}
+use Rattle.power_on.specs.Start.{first_of}
 use Rattle.kernels.specs.Turns.{image_told, script_told}
 use Rattle.power_on.specs.Shipped.{shipped_versions}
 use Rattle.xom_debug.specs.Commands.{commands_at}

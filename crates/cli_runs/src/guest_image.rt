@@ -2,7 +2,7 @@ ghost use Rattle.std.specs.Prelude.{◌≡◌, ◌≤◌, ◌^◌, true};
 ghost use Rattle.cli_runs.specs.Places.{fits_from, frames_of_guest};
 
 use xom_base::List;
-use xom_image::SealedLineList;
+use xom_seal::SealedLineList;
 
 /// The frame of the first guest's envelope.
 pub const FIRST_FRAME: u32 = 16;

@@ -25,7 +25,8 @@ use Rattle.power_on.specs.Shipped.{ShippedStands, shipped_versions}
 use Rattle.power_on.specs.Start.{first_record, null_entry, ram_at_start}
 use Rattle.power_on.proofs.ShippedLaw.{shipped_law}
 use Rattle.cli_trace.specs.Trace.{GuestsFollow, RunFollows, last_by, last_record}
-use Rattle.cli_trace.proofs.Runnable.{are_owners, is_schedule}
+use Rattle.power_on.proofs.Schedules.{is_schedule}
+use Rattle.cli_trace.proofs.Runnable.{are_owners}
 
 module _ (file : RunFile) (runnable : IsRunnable file) (guests : List GuestImage)
     (code : Option PlainImage) where

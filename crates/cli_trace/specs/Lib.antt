@@ -1,3 +1,2 @@
-pub mod Console
 pub mod Trace
 pub mod Run

@@ -5,7 +5,7 @@ use Rattle.cli_base.specs.declared.refusal.Refusal.{Refusal}
 use Rattle.cli_base.specs.Inputs.{◌>>=◌, Held}
 use Rattle.cli_runs.specs.declared.parts.Parts.{Parts}
 use Rattle.cli_runs.specs.Parts.{parts_of}
-use Rattle.cli_trace.specs.Console.{console_of}
+use Rattle.run_text.specs.Console.{console_of}
 use Rattle.cli_trace.specs.Trace.{last_record, report_of, trace_status}
 
 -- the console alone, with the status of the trace

@@ -1,23 +1,19 @@
 -- `trace RUN` and `trace RUN JOURNAL`: the run that a run file tells, and the judgement of the
 -- journal that it made.
-use Rattle.std.specs.Prelude.{◌≡◌, ℕ, ◌⊎◌, Bool, true, false, List, ◌++◌, Option, Some, None, Result, Ok, codes, unwrap_or, is_some, if◌then◌else◌}
-use Rattle.std.specs.Fmt.{decimal}
+use Rattle.std.specs.Prelude.{◌≡◌, ℕ, ◌⊎◌, Bool, true, false, List, ◌++◌, Option, Some, None, Result, Ok, unwrap_or, is_some, if◌then◌else◌}
 use Rattle.std.specs.List.{list_any}
 use Rattle.xom_base.specs.declared.entry.Entry.{Entry}
-use Rattle.xom_base.specs.declared.image.PlainImage.{PlainImage}
-use Rattle.text_pieces.specs.Pieces.{hex8}
 use Rattle.trace_judge.specs.declared.report.Report.{Report}
 use Rattle.trace_judge.specs.Judgement.{judgement}
 use Rattle.trace_judge.specs.ReportText.{report_text}
 use Rattle.trace_judge.specs.Suspicion.{is_stop, is_suspect}
 use Rattle.xom_model.specs.declared.outcome.NullFault.{NullFault}
-use Rattle.xom_model.specs.declared.outcome.NullFault.TheVariants as null
 use Rattle.xom_model.specs.declared.outcome.Turn.{Turn}
 use Rattle.xom_model.specs.Run.{run_from}
 use Rattle.xom_model.specs.Seen.{View}
 use Rattle.xom_model.specs.State.{Record}
 use Rattle.power_on.specs.Shipped.{shipped_versions}
-use Rattle.power_on.specs.Start.{first_record}
+use Rattle.power_on.specs.Start.{first_of}
 use Rattle.kernels.specs.Turns.{image_told, script_told}
 use Rattle.journal_text.specs.JournalTexts.{journal_text}
 use Rattle.cli_base.specs.declared.answer.Answer.{Answer}
@@ -32,18 +28,10 @@ use Rattle.cli_runs.specs.declared.parts.Parts.{Parts}
 use Rattle.cli_runs.specs.Parts.{parts_of}
 use Rattle.headline_law.specs.Headline.{IsJudgedWell}
 use Rattle.xom_io.specs.Answers.{FilesTold}
-use Rattle.cli_trace.specs.Console.{console_lines, console_of}
+use Rattle.run_text.specs.Console.{console_lines, console_of}
+use Rattle.run_text.specs.EventsLine.{events_text}
 
 -- ---- What is run and judged
-
--- the image of a kernel that is code
-abbrev pub kernel_code : KernelFile → Option PlainImage
-kernel_code (kernel.Script script) = None
-kernel_code (kernel.Image image) = Some image
-
--- the machine before its first event, with the kernel and these guests in RAM
-abbrev pub first_of : RunFile → List GuestImage → KernelFile → Record
-first_of file guests k = first_record shipped_versions file.machine file.boot file.frames (kernel_code k) guests
 
 -- the machine after the run of a kernel that tells its turns, under the schedule and within the
 -- budget of a run file
@@ -69,37 +57,9 @@ report_of parts = judgement parts.file.machine parts.owners (last_record parts).
 
 -- ---- What is printed
 
--- the name of a fault of the null instruction
-abbrev pub fault_word : NullFault → List ℕ
-fault_word null.Reserved = codes "Reserved"
-fault_word null.Overflow = codes "Overflow"
-fault_word null.Address = codes "Address"
-fault_word null.Break = codes "Break"
-fault_word null.Call = codes "Call"
-
--- the end of a line that tells of a fault
-abbrev pub kind_text : NullFault → List ℕ
-kind_text why = codes " " ++ (fault_word why ++ codes "\n")
-
--- the line's end for a fault of the null instruction at an address
-abbrev pub kernel_fault_text : ℕ → NullFault → List ℕ
-kernel_fault_text at why = codes " kernel fault at " ++ (hex8 at ++ kind_text why)
-
--- how a run ended: by Halt, by a fault of the null instruction at an address, or since the budget
--- was reached
-abbrev pub stop_text : Option (ℕ × NullFault) → List ℕ
-stop_text None = codes " halted\n"
-stop_text (Some (at, why)) = kernel_fault_text at why
-
--- how a run ended, as the end of a line: the kernel halted or faulted, or else the budget was
--- reached
-abbrev pub ending_text : Bool → Option (ℕ × NullFault) → List ℕ
-ending_text true fault = stop_text fault
-ending_text false fault = codes " budget\n"
-
 -- how many events there were, and how the run ended
 abbrev pub events_line : Record → List ℕ
-events_line r = codes "events " ++ (decimal r.events ++ ending_text r.halted r.fault)
+events_line r = events_text r.events r.halted r.fault
 
 -- ---- What is answered
 

@@ -3,7 +3,6 @@
 //! alone.
 #![tactic(auto)]
 
-mod console;
 mod made;
 pub mod run;
 pub mod trace;

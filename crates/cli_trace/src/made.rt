@@ -1,5 +1,4 @@
 ghost use Rattle.std.specs.Prelude.{◌≡◌, IfOk, IfSome};
-ghost use Rattle.std.specs.List.{list_any};
 ghost use Rattle.cli_runs.specs.KernelFiles.{FitsKernel};
 ghost use Rattle.cli_runs.specs.Parts.{CanRun};
 ghost use Rattle.cli_runs.specs.Places.{FitsAll, first_frame};
@@ -7,15 +6,15 @@ ghost use Rattle.cli_runs.specs.RunFiles.{IsRunnable};
 ghost use Rattle.cli_runs.specs.declared.kernel_file.KernelFile.TheVariants as kernel_file;
 ghost use Rattle.cli_trace.specs.Trace.{GuestsFollow, last_by, last_record, report_of, trace_status};
 ghost use Rattle.xom_model.specs.Honest.{IsBounded};
-ghost use Rattle.trace_judge.specs.Suspicion.{is_stop as is_stop_by};
 ghost use Rattle.power_on.specs.Shipped.{shipped_versions};
 ghost use Rattle.xom_model.specs.Run.{run_from};
 
 use cli_runs::{GuestImageList, KernelFile, Parts};
 use kernels::{ImageKernel, ScriptKernel};
 use power_on::{ShippedMachine, power_on};
+use run_text::has_stop;
 use std::alloc::Global;
-use trace_judge::{Report, is_stop, is_suspect, judge};
+use trace_judge::{Report, is_suspect, judge};
 use xom_base::{NoMemory, PlainImage};
 use xom_journal::Journal;
 use xom_machine::{Chunk, Kernel, run};
@@ -161,17 +160,4 @@ pub fn status(made: &JudgedRun) -> u8
     } else {
         0
     }
-}
-
-fn has_stop(journal: &Journal) -> bool
-    ensures { result ≡ list_any is_stop_by journal.now.entries }
-{
-    for i in 0..journal.len() {
-        if let Some(entry) = journal.get(i) {
-            if is_stop(&entry) {
-                return true;
-            }
-        }
-    }
-    false
 }

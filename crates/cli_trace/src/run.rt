@@ -5,10 +5,10 @@ ghost use Rattle.cli_runs.specs.Parts.{CanRun};
 ghost use Rattle.cli_trace.specs.Run.{console_run, run_answer};
 ghost use Rattle.cli_trace.specs.Trace.{GuestsFollow, RunFollows};
 
-use crate::console::console;
 use crate::made::{judged, status};
 use cli_base::{Answer, Stop};
 use cli_runs::{Parts, read_parts};
+use run_text::console;
 use std::alloc::Global;
 use xom_base::{ByteList, NoMemory};
 use xom_io::Files;

@@ -1,22 +1,19 @@
-ghost use Rattle.std.specs.Prelude.{◌≡◌, ◌++◌, IfOk, OnOk, option_map, string_bytes};
+ghost use Rattle.std.specs.Prelude.{◌≡◌, IfOk, option_map, string_bytes};
 ghost use Rattle.cli_base.specs.Commands.{IsDone};
 ghost use Rattle.cli_base.specs.Readings.{FilesGive};
 ghost use Rattle.cli_runs.specs.Parts.{CanRun};
-ghost use Rattle.cli_trace.specs.Trace.{GuestsFollow, RunFollows, answer_of_run, events_line, fault_word as fault_word_of, journal_file as journal_file_of, kernel_fault_text, kind_text, trace_answer as traced_of, trace_of};
+ghost use Rattle.cli_trace.specs.Trace.{GuestsFollow, RunFollows, answer_of_run, journal_file as journal_file_of, trace_answer as traced_of, trace_of};
 
-use crate::console::{console, end_line};
 use crate::made::{JudgedRun, judged, status};
 use cli_base::{Answer, OutputFile, Stop};
 use cli_runs::{Parts, read_parts};
 use journal_text::print_journal;
-use power_on::ShippedMachine;
+use run_text::{console, end_line, push_events};
 use std::alloc::Global;
-use text_pieces::{push_decimal64, push_hex8, push_text};
 use trace_judge::print_report;
 use xom_base::{ByteList, NoMemory};
 use xom_io::{Files, Name};
 use xom_journal::Journal;
-use xom_model::outcome::NullFault;
 
 /// `trace RUN` and `trace RUN JOURNAL`: reads what a run is made of, makes it, and prints its console
 /// and the report on its journal. Where a file is named for the journal, its text is written there.
@@ -59,7 +56,12 @@ fn answer(alloc: Global, made: &JudgedRun, journal: Option<&String>) -> Result<A
     end_line(&mut text)?;
     let lines = print_report(alloc, &made.report)?;
     text.extend_from_slice(lines.as_slice())?;
-    push_events(&mut text, &made.machine)?;
+    push_events(
+        &mut text,
+        made.machine.events(),
+        made.machine.is_halted(),
+        made.machine.fault(),
+    )?;
     Ok(Answer {
         text: ByteList::from_vec(text),
         file: journal_file(alloc, journal, made.machine.journal())?,
@@ -81,51 +83,5 @@ fn journal_file(
             name: Name::new(name.clone()?),
             bytes: print_journal(alloc, journal)?,
         })),
-    }
-}
-
-/// Adds how many events there were, and how the run ended.
-fn push_events(text: &mut Vec<u8>, machine: &ShippedMachine) -> Result<(), NoMemory>
-    ensures { OnOk result (text.new.items ≡ text.old.items ++ events_line machine.now.state) }
-{
-    push_text(text, "events ")?;
-    push_decimal64(text, machine.events())?;
-    if !machine.is_halted() {
-        return push_text(text, " budget\n");
-    }
-    match machine.fault() {
-        None => push_text(text, " halted\n"),
-        Some((at, why)) => push_fault(text, at, why),
-    }
-}
-
-/// Adds the address of the null instruction that faulted, and its fault.
-fn push_fault(text: &mut Vec<u8>, at: u32, why: NullFault) -> Result<(), NoMemory>
-    ensures { OnOk result (text.new.items ≡ text.old.items ++ kernel_fault_text at why) }
-{
-    push_text(text, " kernel fault at ")?;
-    push_hex8(text, at)?;
-    push_kind(text, why)
-}
-
-/// Adds a fault of null code, and ends the line.
-fn push_kind(text: &mut Vec<u8>, why: NullFault) -> Result<(), NoMemory>
-    ensures { OnOk result (text.new.items ≡ text.old.items ++ kind_text why) }
-{
-    push_text(text, " ")?;
-    push_text(text, fault_word(why))?;
-    push_text(text, "\n")
-}
-
-/// The word for a fault of null code.
-fn fault_word(why: NullFault) -> &'static str
-    ensures { result.now ≡ fault_word_of why }
-{
-    match why {
-        NullFault::Reserved => "Reserved",
-        NullFault::Overflow => "Overflow",
-        NullFault::Address => "Address",
-        NullFault::Break => "Break",
-        NullFault::Call => "Call",
     }
 }

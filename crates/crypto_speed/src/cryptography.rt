@@ -2,10 +2,9 @@
 
 ghost use Rattle.std.specs.Prelude.{◌≤◌};
 
-use aes_block::Schedule;
+use aes_block::{Key128, Schedule};
 use keyed_mac::MacKey;
 use sha2::{Digest, Sha256};
-use xom_base::Key128;
 
 /// The key of FIPS 197, appendix C.1.
 const KEY: [u8; 16] = [0, 1, 2, 3, 4, 5, 6, 7, 8, 9, 10, 11, 12, 13, 14, 15];

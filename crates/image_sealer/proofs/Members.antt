@@ -4,7 +4,7 @@ use Rattle.xom_base.specs.declared.key.Key256.{Key256}
 use Rattle.xom_seal.specs.Messages.{envelope_message}
 use Rattle.xom_seal.specs.Readers.{kind_of_text}
 use Rattle.xom_seal.proofs.KindLaws.{message_kinds_are_told}
-use Rattle.xom_image.proofs.LineBytes.{get-made}
+use Rattle.xom_seal.proofs.WholeLines.{get-made}
 use Rattle.xom_owners.specs.declared.owner.Owner.{Owner}
 use Rattle.image_sealer.specs.MemberLaws.{IsOfEnvelope, IsOfLine, MembersAreNoRunsOwn, MembersAreOfTheImage}
 use Rattle.image_sealer.specs.Sealing.{envelope_of, line_count, line_sealing_of, sealed_line_of, sealing_of}

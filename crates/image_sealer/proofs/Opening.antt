@@ -18,7 +18,7 @@ use Rattle.xom_seal.specs.Messages.{envelope_message}
 use Rattle.xom_seal.specs.Sealing.{line_tag, sealed_line, unsealed_line}
 use Rattle.xom_seal.proofs.EnvelopeLaws.{envelopes_open as wrapped_open}
 use Rattle.xom_seal.proofs.SealLaws.{let_through, lines_open as sealed_lines_open, sealed_lines_have_their_length}
-use Rattle.xom_image.proofs.LineBytes.{AreWhole, get-made}
+use Rattle.xom_seal.proofs.WholeLines.{AreWhole, get-made}
 use Rattle.xom_owners.specs.declared.owner.Owner.{Owner}
 use Rattle.image_sealer.specs.Laws.{IsOwner, OwnersEnvelopesOpen, OwnersLinesOpen, TagsAreOfTheSealing}
 use Rattle.image_sealer.specs.Sealing.{contents_for_owner, envelope_of, line_count, line_of_image, line_sealing_of, sealed_line_of, sealed_lines_of, sealing_of}

@@ -9,7 +9,7 @@ use Rattle.xom_seal.specs.declared.names.LineName.TheVariants.{Image}
 use Rattle.xom_seal.specs.Envelopes.{envelope_contents, tag_in}
 use Rattle.xom_seal.specs.Keys.{image_keys}
 use Rattle.xom_seal.specs.Sealing.{unsealed_line}
-use Rattle.xom_image.specs.declared.sealed_image.SealedImage.{SealedImage}
+use Rattle.xom_seal.specs.declared.sealed_image.SealedImage.{SealedImage}
 use Rattle.xom_owners.specs.declared.owner.Owner.{Owner}
 use Rattle.image_sealer.specs.Sealing.{IsSealedFor, contents_for_owner, lines_of_image, sealing_of}
 

@@ -12,7 +12,7 @@ use Rattle.xom_seal.specs.Envelopes.{wrapped_key_of}
 use Rattle.xom_seal.specs.Keys.{image_keys}
 use Rattle.xom_seal.specs.Messages.{envelope_message, line_message}
 use Rattle.xom_seal.specs.Sealing.{sealed_line}
-use Rattle.xom_image.specs.declared.sealed_image.SealedImage.{SealedImage}
+use Rattle.xom_seal.specs.declared.sealed_image.SealedImage.{SealedImage}
 use Rattle.xom_owners.specs.declared.owner.Owner.{Owner}
 
 -- ---- Lines

@@ -4,9 +4,8 @@ ghost use Rattle.image_sealer.specs.Sealing.{IsSealedFor, contents_for_owner as 
 
 use std::alloc::Global;
 use xom_base::{ImageId, Key256, NoMemory};
-use xom_image::{SealedImage, SealedLineList};
 use xom_owners::Owner;
-use xom_seal::{LineName, LineSealer, Unwrapped, image_keys, wrap};
+use xom_seal::{LineName, LineSealer, SealedImage, SealedLineList, Unwrapped, image_keys, wrap};
 
 /// How many bytes a line has.
 const LINE: usize = 32;

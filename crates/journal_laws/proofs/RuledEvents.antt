@@ -15,11 +15,11 @@ use Rattle.page_map.specs.Pages.{frame_of, no_pages, nothing_mapped}
 use Rattle.tag_regs.specs.TaggedCells.{all_empty, empty_cell}
 use Rattle.session_table.specs.Sessions.{free, none_held}
 use Rattle.xom_versions.specs.Chip.{chip}
-use Rattle.xom_versions.specs.Store.{HoldsArea, Store}
+use Rattle.xom_versions.specs.Store.{HoldsArea, Store, no_store}
 use Rattle.xom_versions.specs.Versions.{VersionLaw, Versions}
 use Rattle.xom_model.specs.declared.outcome.NullFault.{NullFault}
 use Rattle.xom_model.specs.Versions.{StandsFor}
-use Rattle.xom_model.specs.State.{CoreState, Record, core_at_start, no_store, ram_holds_range, with_cells}
+use Rattle.xom_model.specs.State.{CoreState, Record, core_at_start, ram_holds_range, with_cells}
 use Rattle.xom_model.specs.Guest.{guest}
 use Rattle.xom_model.specs.Operation.{operation}
 use Rattle.xom_model.specs.Null.{Answer, null_step, ram_after_write}

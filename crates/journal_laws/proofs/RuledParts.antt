@@ -19,8 +19,8 @@ use Rattle.session_table.specs.declared.session.Session.{Session}
 use Rattle.session_table.specs.declared.session.SlotState.{SlotState}
 use Rattle.session_table.specs.declared.session.SlotState.TheVariants as state
 use Rattle.session_table.specs.Sessions.{free, is_live, session_at}
-use Rattle.xom_versions.specs.Store.{HoldsArea, Store, hash_entry}
-use Rattle.xom_model.specs.State.{CoreState, core_with_hashes, core_with_session, core_with_way, no_store, session_of, store_of, with_cells, with_entry}
+use Rattle.xom_versions.specs.Store.{HoldsArea, Store, hash_entry, no_store}
+use Rattle.xom_model.specs.State.{CoreState, core_with_hashes, core_with_session, core_with_way, session_of, store_of, with_cells, with_entry}
 use Rattle.xom_model.specs.Access.{without_guest}
 use Rattle.xom_model.specs.Operation.{is_free_state}
 use Rattle.xom_model.specs.Holds.{FramesFit, IsLive}

@@ -47,7 +47,8 @@ run_from-some v told all schedule (suc n) g r k =
           (run_from-some v told all schedule n) all g r k (poke_at schedule.pokes (r.events + 1))
     ]
 
-script_told-some : (lines : List ScriptLine) (view : View) → IsSome (script_told lines view)
+-- a script tells a turn under each view
+pub script_told-some : (lines : List ScriptLine) (view : View) → IsSome (script_told lines view)
 script_told-some [] view = refl
 script_told-some (line ∷ lines) view = refl
 

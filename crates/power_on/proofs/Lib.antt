@@ -2,3 +2,4 @@ mod Sizes
 pub mod Reading
 pub mod Holding
 pub mod ShippedLaw
+pub mod Schedules

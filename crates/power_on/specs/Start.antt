@@ -8,8 +8,12 @@ use Rattle.line_ram.specs.Bytes.{frame_lines, ram_with_bytes, ram_with_line}
 use Rattle.xom_versions.specs.Versions.{Versions}
 use Rattle.xom_model.specs.State.{Record, power_on}
 use Rattle.xom_machine.specs.Whole.{Whole}
+use Rattle.xom_script.specs.declared.run_file.RunFile.{RunFile}
 use Rattle.cli_runs.specs.Places.{first_frame, frames_of_guest}
 use Rattle.cli_runs.specs.declared.guest_image.GuestImage.{GuestImage}
+use Rattle.cli_runs.specs.declared.kernel_file.KernelFile.{KernelFile}
+use Rattle.cli_runs.specs.declared.kernel_file.KernelFile.TheVariants as kernel
+use Rattle.power_on.specs.Shipped.{shipped_versions}
 
 -- ---- Guests
 
@@ -57,6 +61,15 @@ ram_at_start frames kernel images =
 abbrev pub first_record : Versions → Key256 → ℕ → ℕ → Option PlainImage → List GuestImage → Record
 first_record v machine boot frames kernel images =
     power_on v machine boot (ram_at_start frames kernel images) (null_entry kernel)
+
+-- the image of a kernel that is code
+abbrev pub kernel_code : KernelFile → Option PlainImage
+kernel_code (kernel.Script script) = None
+kernel_code (kernel.Image image) = Some image
+
+-- the machine that ships before its first event, with the kernel and these guests of a run file in RAM
+abbrev pub first_of : RunFile → List GuestImage → KernelFile → Record
+first_of file guests k = first_record shipped_versions file.machine file.boot file.frames (kernel_code k) guests
 
 -- ---- How it is loaded
 

@@ -2,8 +2,9 @@ ghost use Rattle.std.specs.Prelude.{◌≡◌};
 ghost use Rattle.slot_keys.specs.GuestKeys.{keys_of_install, no_keys, with_registers};
 ghost use Rattle.xom_seal.specs.Keys.{register_keys as register_keys_of};
 
+use aes_block::Key128;
 use std::marker::Model;
-use xom_base::{ImageId, Key128, Key256};
+use xom_base::{ImageId, Key256};
 use xom_seal::{LineSealer, RegisterSealer, image_keys, register_keys, run_keys};
 
 /// The keys of a guest, made ready for any number of lines and registers. They are seen as the keys.

@@ -2,10 +2,6 @@
 #[derive(Clone, Copy, Debug, PartialEq, Eq)]
 pub struct Key256(pub [u8; 32]);
 
-/// A key of 128 bits, for AES-128.
-#[derive(Clone, Copy, Debug, PartialEq, Eq)]
-pub struct Key128(pub [u8; 16]);
-
 /// The public name of an image, chosen by its owner.
 #[derive(Clone, Copy, Debug, PartialEq, Eq)]
 pub struct ImageId(pub [u8; 16]);

@@ -25,7 +25,7 @@ pub use entry::Entry;
 pub use event::{Cause, Event, Op, OwnFault, Rule};
 pub use hex_words::{hex_array, hex_fills, hex_into, hex_list, hex16, hex32};
 pub use image::PlainImage;
-pub use key::{ImageId, Key128, Key256};
+pub use key::{ImageId, Key256};
 pub use line_words::{cut, few_words, next_word, words};
 pub use lines::{
     LineFault, LineFormat, TextFault, WholeFormat, first_line, read_lines, read_whole, split_lines,

@@ -4,9 +4,9 @@ use crate::inputs::{PRIVATE, image_of, owner_of as owner_with};
 use image_sealer::seal;
 use std::test::Fail;
 use xom_base::{ByteList, ImageId, Key256, PlainImage};
-use xom_image::{ImageFault, SealedLineList, read_plain, read_sealed, write_plain, write_sealed};
+use xom_image::{ImageFault, read_plain, read_sealed, write_plain, write_sealed};
 use xom_owners::{OwnerList, owner_of};
-use xom_seal::{LineName, SealedLine, Unwrapped, image_keys, unseal_line, unwrap};
+use xom_seal::{LineName, SealedLine, SealedLineList, Unwrapped, image_keys, unseal_line, unwrap};
 
 /// The key of the machine that images are sealed for.
 const MACHINE: Key256 = Key256([0xff; 32]);

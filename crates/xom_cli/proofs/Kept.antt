@@ -25,7 +25,7 @@ use Rattle.cli_base.specs.Refusals.{refusal_status, refusal_text, words_line}
 use Rattle.xom_cli.specs.Rows.{Debug, Judge, Row, Run, Trace, row_of_words, target_of}
 use Rattle.xom_debug.specs.declared.command.Command.{Command}
 use Rattle.cli_debug.specs.Debug.{commands_of, debug_answer, text_by}
-use Rattle.cli_trace.specs.Console.{console_of}
+use Rattle.run_text.specs.Console.{console_of}
 use Rattle.cli_trace.specs.Run.{console_run}
 use Rattle.cli_trace.specs.Trace.{GuestsFollow, NamesFinding, journal_file, last_record, report_of, trace_answer, trace_of, trace_text}
 use Rattle.xom_cli.proofs.Delivered.{done_not_1, done_not_2, done_not_3, done_not_4, done_not_5, fails-rising, lacks-count, lacks-held, never-long, puts-changes, puts-count, puts-file, puts-nothing, same-changes, same-count, takes-prefix}

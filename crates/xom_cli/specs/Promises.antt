@@ -23,7 +23,7 @@ use Rattle.cli_debug.specs.Debug.{commands_of, text_by}
 use Rattle.cli_judge.specs.Judge.{judge_status}
 use Rattle.cli_runs.specs.OwnerImages.{owners_of}
 use Rattle.cli_runs.specs.RunFiles.{run_file_of}
-use Rattle.cli_trace.specs.Console.{console_of}
+use Rattle.run_text.specs.Console.{console_of}
 use Rattle.cli_trace.specs.Trace.{GuestsFollow, NamesFinding, journal_file, last_record, report_of, trace_answer, trace_of, trace_text}
 
 -- the statuses that there are

@@ -26,7 +26,8 @@ use Rattle.xom_model.specs.State.{page_of}
 use Rattle.xom_model.proofs.Gone.{less}
 use Rattle.xom_model.proofs.RamSize.{area_stays, frames_stay}
 use Rattle.xom_model.proofs.WayPuts.{each_put}
-use Rattle.xom_private.specs.Cores.{Fits, IsMapped, Serves, store_at}
+use Rattle.slot_stores.specs.SlotStores.{store_at}
+use Rattle.xom_private.specs.Cores.{Fits, IsMapped, Serves}
 use Rattle.xom_guest.specs.Places.{CanStore, IsPlaceFor, IsPlaceOf, StoresIn}
 
 -- ---- What a step stores

@@ -5,8 +5,8 @@ use Rattle.std.proofs.Math.Nat.{ℕ_set}
 use mathlib.Core.HLevel.{is_prop→PathP}
 use Rattle.xom_seal.specs.declared.line.SealedLine.{SealedLine}
 use Rattle.xom_seal.specs.Envelopes.{entry_of_envelope, lines_in}
-use Rattle.xom_image.specs.declared.sealed_image.SealedImage.{SealedImage}
-use Rattle.xom_image.proofs.LineBytes.{AreWhole}
+use Rattle.xom_seal.specs.declared.sealed_image.SealedImage.{SealedImage}
+use Rattle.xom_seal.proofs.WholeLines.{AreWhole}
 
 AreWhole-prop : (lines : List SealedLine) → IsProp (AreWhole lines)
 AreWhole-prop lines = hlevel (ℕ_set)

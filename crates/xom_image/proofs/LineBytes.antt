@@ -8,13 +8,8 @@ use Rattle.std.proofs.lemmas.List.Concat.{flat_map-append}
 use Rattle.std.proofs.lemmas.List.FromFn.{get_or-map-range_with_len, length-map-range_with_len, map-range_with_len_more, fill_by_all}
 use Rattle.std.proofs.lemmas.Option.{slice_get-get_or, slice_get_within, get_or_from_slice_get}
 use Rattle.xom_seal.specs.declared.line.SealedLine.{SealedLine}
+use Rattle.xom_seal.proofs.WholeLines.{AreWhole, get-made}
 use Rattle.xom_image.specs.SealedFiles.{line_bytes, lines_at, sealed_line_at}
-
--- each line has its 32 bytes of ciphertext and of tag
-abbrev pub AreWhole : List SealedLine → Type 0
-AreWhole lines =
-    (i : ℕ) (line : SealedLine) → slice_get lines i ≡ Some line
-    → (length line.ct ≡ 32) × (length line.tag ≡ 32)
 
 -- ---- From bytes to lines
 
@@ -32,18 +27,6 @@ lines_at_more file n = map-range_with_len_more (λ i. sealed_line_at file (96 + 
 
 pub length-lines_at : (file : List ℕ) (n : ℕ) → length (lines_at file n) ≡ n
 length-lines_at file n = length-map-range_with_len (λ i. sealed_line_at file (96 + 64 * i)) 0 n
-
--- a value at a place of a list that is made place by place
-pub get-made : {X : Type 0} (f : ℕ → X) (n i : ℕ) (x : X)
-    → slice_get (map f (range_with_len 0 n)) i ≡ Some x → (i < n) × (x ≡ f i)
-get-made f n i x is =
-    let inside : i < length (map f (range_with_len 0 n)) =
-    slice_get_within (map f (range_with_len 0 n)) i x is in
-    let below : i < n = omega (arith, length-map-range_with_len f 0 n) in (
-      below,
-      sym (get_or_from_slice_get (map f (range_with_len 0 n)) i x x is)
-          ∙ get_or-map-range_with_len f 0 n i i x below (omega arith),
-    )
 
 -- the lines of a file that has the bytes for them are whole
 pub lines_at-whole : (file : List ℕ) (n : ℕ) → 96 + 64 * n ≤ length file

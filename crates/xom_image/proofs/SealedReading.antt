@@ -8,9 +8,10 @@ use Rattle.xom_base.specs.Results.{◌>>=◌}
 use Rattle.xom_seal.specs.declared.line.SealedLine.{SealedLine}
 use Rattle.xom_seal.specs.Envelopes.{entry_of_envelope, lines_in}
 use Rattle.xom_image.specs.declared.fault.ImageFault.{ImageFault}
-use Rattle.xom_image.specs.declared.sealed_image.SealedImage.{SealedImage}
+use Rattle.xom_seal.specs.declared.sealed_image.SealedImage.{SealedImage}
 use Rattle.xom_image.proofs.Images.{SealedImage-equal}
-use Rattle.xom_image.proofs.LineBytes.{AreWhole, length-lines_at, lines_at-all, lines_at-lines, lines_at-whole, lines-length}
+use Rattle.xom_seal.proofs.WholeLines.{AreWhole}
+use Rattle.xom_image.proofs.LineBytes.{length-lines_at, lines_at-all, lines_at-lines, lines_at-whole, lines-length}
 use Rattle.xom_image.proofs.Reading.{agreed-all, fields-told, whole-fields, AnswersBy-file}
 use Rattle.xom_image.specs.Fields.{AnswersFile, IsFormat, IsWhole, common_prefix_size, fields_at, number_in_file}
 use Rattle.xom_image.specs.SealedFiles.{AnswersSealed, IsFirstBadSealed, IsSealedFile, envelope_of_file, line_bytes, lines_at, sealed_file, sealed_format, sealed_head, sealed_image_at}

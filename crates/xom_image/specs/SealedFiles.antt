@@ -7,7 +7,7 @@ use Rattle.xom_base.specs.Sizes.{line_size, tag_size}
 use Rattle.xom_seal.specs.declared.line.SealedLine.{SealedLine}
 use Rattle.xom_image.specs.declared.fault.ImageFault.{ImageFault}
 use Rattle.xom_image.specs.declared.fields.Format.{Format}
-use Rattle.xom_image.specs.declared.sealed_image.SealedImage.{SealedImage}
+use Rattle.xom_seal.specs.declared.sealed_image.SealedImage.{SealedImage}
 use Rattle.xom_image.specs.Fields.{AnswersBy, IsFirstBadOf, fields_at}
 
 -- ---- What a file is

@@ -8,9 +8,7 @@ mod fault;
 mod fields;
 mod plain;
 mod sealed;
-mod sealed_image;
 
 pub use fault::ImageFault;
 pub use plain::{read_plain, write_plain};
 pub use sealed::{read_sealed, write_sealed};
-pub use sealed_image::{SealedImage, SealedLineList};

@@ -3,11 +3,11 @@ ghost use Rattle.std.specs.List.{flat_map};
 ghost use Rattle.xom_image.specs.Fields.{AnswersFile};
 ghost use Rattle.xom_image.specs.SealedFiles.{AnswersSealed, IsFirstBadSealed, IsSealedFile, line_bytes, lines_at as lines_of, sealed_file, sealed_image_at, sealed_line_at as line_of};
 
+use crate::ImageFault;
 use crate::fields::{Format, HEAD, fields};
-use crate::{ImageFault, SealedImage, SealedLineList};
 use std::alloc::{AllocError, Global};
 use xom_base::{ByteList, NoMemory};
-use xom_seal::{SealedLine, part};
+use xom_seal::{SealedImage, SealedLine, SealedLineList, part};
 
 /// How many bytes stand before the lines.
 const START: usize = 96;

@@ -6,7 +6,8 @@ use Rattle.session_table.specs.declared.session.Session.{Session}
 use Rattle.slot_keys.specs.GuestKeys.{GuestKeys}
 use Rattle.xom_versions.specs.Store.{Store}
 use Rattle.xom_model.proofs.RamSize.{area_stays, frames_stay}
-use Rattle.xom_private.specs.Cores.{Fits, store_at}
+use Rattle.slot_stores.specs.SlotStores.{store_at}
+use Rattle.xom_private.specs.Cores.{Fits}
 
 pub fits_ram : (sessions : List Session) (pages : Pages) (ways : List Way) (ram new : List ℕ)
     (stores : List Store) (keys : List GuestKeys) (boot : ℕ)

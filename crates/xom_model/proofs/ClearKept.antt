@@ -11,14 +11,14 @@ use Rattle.session_table.specs.declared.session.Session.{Session}
 use Rattle.session_table.specs.declared.session.SlotState.TheVariants as state
 use Rattle.session_table.specs.Sessions.{free, is_live, session_after_leaving}
 use Rattle.xom_versions.specs.declared.store.Torn.{Torn}
-use Rattle.xom_versions.specs.Store.{NoCollision, Store, hash_entry}
+use Rattle.xom_versions.specs.Store.{NoCollision, Store, hash_entry, no_store}
 use Rattle.xom_model.specs.Honest.{Sealing, seals_of}
 use Rattle.xom_versions.specs.Versions.{VersionLaw, Versions}
 use Rattle.xom_model.specs.Versions.{StandsFor}
 use Rattle.line_cache.specs.declared.way.Way.{Way}
 use Rattle.page_map.specs.Pages.{frame_of}
 use Rattle.line_cache.specs.Ways.{way_at}
-use Rattle.xom_model.specs.State.{CoreState, no_store, session_of, store_of, page_of}
+use Rattle.xom_model.specs.State.{CoreState, session_of, store_of, page_of}
 use Rattle.xom_model.specs.Lines.{keys_of, line_name_of, seal_entry, sealed_as, version_of_line, who_of}
 use Rattle.xom_seal.proofs.SealLaws.{sealed_lines_have_their_length}
 use Rattle.xom_model.proofs.RamSize.{length-with_sealed, areas_stay, frames_stay}

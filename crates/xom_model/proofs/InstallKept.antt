@@ -26,11 +26,11 @@ use Rattle.session_table.specs.Sessions.{free, fresh_session, is_live}
 use Rattle.image_sealer.specs.Membership.{is_sealed, is_sealing}
 use Rattle.journal_findings.specs.Findings.{sealed_by}
 use Rattle.xom_model.specs.Honest.{Sealing, seals_of}
-use Rattle.xom_versions.specs.Store.{Store, hash_entry, HoldsArea, area_size}
+use Rattle.xom_versions.specs.Store.{Store, hash_entry, HoldsArea, area_size, no_store}
 use Rattle.xom_versions.specs.Versions.{VersionLaw, Versions, start_version}
 use Rattle.xom_model.specs.Versions.{StandsFor}
 use Rattle.line_cache.specs.Ways.{way_at}
-use Rattle.xom_model.specs.State.{CoreState, no_store, session_of, store_of}
+use Rattle.xom_model.specs.State.{CoreState, session_of, store_of}
 use Rattle.xom_model.specs.Lines.{Who, is_image_at, line_seals, names_line, names_version, version_of_line, who_in, who_of}
 use Rattle.xom_model.specs.Saves.{IsOnce, SealsHold}
 use Rattle.xom_model.specs.Operation.{after_install, envelope_in_ram}

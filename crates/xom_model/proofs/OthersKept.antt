@@ -21,11 +21,11 @@ use Rattle.journal_findings.specs.Findings.{seal_in}
 use Rattle.xom_versions.specs.declared.store.Torn.{Torn}
 use Rattle.xom_model.specs.Honest.{Sealing, seals_of}
 use Rattle.xom_versions.specs.Versions.{Versions}
-use Rattle.xom_versions.specs.Store.{hash_entry}
+use Rattle.xom_versions.specs.Store.{hash_entry, no_store}
 use Rattle.line_cache.specs.declared.way.Way.{Way}
 use Rattle.page_map.specs.Pages.{frame_of, no_pages, with_page}
 use Rattle.line_cache.specs.Ways.{free_if, free_way, way_at, without_slot}
-use Rattle.xom_model.specs.State.{CoreState, core_with_session, core_with_way, no_store, session_of, store_of, with_entry}
+use Rattle.xom_model.specs.State.{CoreState, core_with_session, core_with_way, session_of, store_of, with_entry}
 use Rattle.xom_model.specs.Lines.{keys_of, message_as, seal_entry, sealed_as, who_of}
 use Rattle.xom_model.specs.Access.{after_raise, after_seal, after_stop, without_guest}
 use Rattle.xom_model.specs.Guest.{after_exit, after_trap, core_after_step, stored_at}

@@ -12,7 +12,7 @@ use Rattle.xom_seal.specs.declared.names.LineName.TheVariants.{Image}
 use Rattle.xom_seal.specs.Messages.{envelope_message, line_message, register_message}
 use Rattle.xom_seal.proofs.MessageLaws.{kinds_differ}
 use Rattle.xom_owners.specs.declared.owner.Owner.{Owner}
-use Rattle.xom_versions.specs.Store.{NoCollision, Store, hash_entry}
+use Rattle.xom_versions.specs.Store.{NoCollision, Store, hash_entry, no_store}
 use Rattle.image_sealer.specs.Membership.{is_sealed, is_sealing}
 use Rattle.journal_findings.specs.Findings.{seal_in}
 use Rattle.xom_model.specs.Honest.{Sealing, seals_of}
@@ -20,7 +20,7 @@ use Rattle.xom_versions.specs.Versions.{VersionLaw, Versions, start_version, wit
 use Rattle.xom_model.specs.Versions.{StandsFor}
 use Rattle.line_cache.specs.declared.way.Way.{Way}
 use Rattle.line_cache.specs.Ways.{way_at}
-use Rattle.xom_model.specs.State.{CoreState, no_store, session_of, store_of}
+use Rattle.xom_model.specs.State.{CoreState, session_of, store_of}
 use Rattle.xom_model.specs.Lines.{Who, is_image_at, line_seals, run_name, run_pair, seal_entry, version_of_line, version_seals, who_of}
 use Rattle.xom_model.specs.Holds.{Behind, RamFits, IsLive, IsOf, LineHolds, Private, Shape}
 use Rattle.xom_model.specs.Kept.{Kept}

@@ -14,7 +14,7 @@ use Rattle.tag_regs.specs.declared.cell.Cell.{Cell}
 use Rattle.tag_regs.specs.TaggedCells.{all_empty}
 use Rattle.session_table.specs.declared.session.Session.{Session}
 use Rattle.session_table.specs.Sessions.{none_held, session_at}
-use Rattle.xom_versions.specs.Store.{Store, line_limit}
+use Rattle.xom_versions.specs.Store.{Store, line_limit, no_store}
 use Rattle.xom_versions.specs.Versions.{Versions, with_hashes}
 use Rattle.xom_model.specs.declared.outcome.NullFault.{NullFault}
 
@@ -83,10 +83,6 @@ ram_holds_range ram address count = nat_le (address + count) (length ram)
 -- the session of a slot
 abbrev pub session_of : CoreState → ℕ → Session
 session_of core slot = session_at core.sessions slot
-
--- the store of a place that there isn't
-unfoldable pub no_store : Store
-no_store = record { numbers = []; area = None; root = [] }
 
 -- the version store of a slot
 abbrev pub store_of : CoreState → ℕ → Store

@@ -12,12 +12,12 @@ use Rattle.session_table.specs.declared.session.Session.{Session}
 use Rattle.session_table.specs.declared.session.SlotState.TheVariants as state
 use Rattle.session_table.specs.Sessions.{IsLiveIn, free, fresh_session, is_live, session_at}
 use Rattle.slot_keys.specs.GuestKeys.{AreKeysOf, GuestKeys, OthersKeep, keys_at}
-use Rattle.xom_versions.specs.Store.{HoldsArea, Store, area_size}
+use Rattle.xom_versions.specs.Store.{HoldsArea, Store, area_size, no_store}
 use Rattle.xom_versions.specs.Versions.{VersionLaw, Versions}
-use Rattle.xom_model.specs.State.{no_store}
 use Rattle.xom_model.proofs.Gone.{less}
 use Rattle.xom_model.proofs.RamSize.{area_stays, frames_stay}
-use Rattle.xom_private.specs.Cores.{Fits, IsMapped, Serves, store_at}
+use Rattle.slot_stores.specs.SlotStores.{store_at}
+use Rattle.xom_private.specs.Cores.{Fits, IsMapped, Serves}
 
 -- what the type asks of a session is asked of the other as well
 abbrev pub AreAlike : Session → Session → Type 0

@@ -1,6 +1,5 @@
 pub mod Start
 pub mod Leaving
-pub mod Places
 pub mod Raised
 pub mod Filling
 pub mod Flushing

@@ -9,12 +9,12 @@ use Rattle.line_ram.specs.Bytes.{HoldsRange}
 use Rattle.page_map.specs.Pages.{Pages}
 use Rattle.session_table.specs.declared.session.Session.{Session}
 use Rattle.slot_keys.specs.GuestKeys.{GuestKeys}
-use Rattle.xom_versions.specs.Store.{Store, area_size, line_limit}
+use Rattle.xom_versions.specs.Store.{Store, area_size, line_limit, no_store}
 use Rattle.xom_versions.specs.Versions.{VersionLaw, Versions}
-use Rattle.xom_model.specs.State.{no_store}
 use Rattle.xom_model.proofs.Gone.{less}
 use Rattle.xom_model.proofs.RamSize.{area_stays, frames_stay}
-use Rattle.xom_private.specs.Cores.{Fits, store_at}
+use Rattle.slot_stores.specs.SlotStores.{store_at}
+use Rattle.xom_private.specs.Cores.{Fits}
 
 -- a store that is put in the place of one with its area leaves all areas
 same_area : (stores : List Store) (slot k : ℕ) (new : Store)

@@ -1,5 +1,5 @@
 -- The core in code as the record that the model speaks of, and what its type keeps.
-use Rattle.std.specs.Prelude.{◌≡◌, ◌≢◌, ℕ, true, false, List, Option, Some, None, Result, Ok, Err, length, replicate, slice_index_or}
+use Rattle.std.specs.Prelude.{◌≡◌, ◌≢◌, ℕ, true, false, List, Option, Some, None, Result, Ok, Err, length}
 use Rattle.xom_base.specs.declared.event.Rule.{Rule}
 use Rattle.xom_base.specs.Sizes.{compartment_count}
 use Rattle.line_cache.specs.declared.way.Way.{Way}
@@ -8,24 +8,16 @@ use Rattle.page_map.specs.Pages.{Pages, frame_of}
 use Rattle.session_table.specs.declared.session.Session.{Session}
 use Rattle.session_table.specs.Sessions.{IsLiveIn, is_live, session_at}
 use Rattle.slot_keys.specs.GuestKeys.{GuestKeys, keys_at}
+use Rattle.slot_stores.specs.SlotStores.{store_at}
 use Rattle.xom_seal.specs.Keys.{image_keys, register_keys, run_keys}
 use Rattle.xom_versions.specs.Store.{HoldsArea, Store}
-use Rattle.xom_versions.specs.Versions.{Versions}
 use Rattle.xom_model.specs.Holds.{FramesFit}
-use Rattle.xom_model.specs.State.{CoreState, no_store, page_of}
+use Rattle.xom_model.specs.State.{CoreState, page_of}
 
 -- the core's record, and the bytes that the journal has to spare
 pub record Whole : Type 0 where
   pub core : CoreState
   pub spare : ℕ
-
--- a blank store in each place
-abbrev pub blank_stores : Versions → List Store
-blank_stores v = replicate compartment_count v.blank_store
-
--- the version store of a slot
-abbrev pub store_at : List Store → ℕ → Store
-store_at stores slot = slice_index_or stores slot no_store
 
 -- the rule that an answer tells, if it tells one
 abbrev pub rule_in : Result Unit Rule → Option Rule

@@ -8,8 +8,6 @@ mod flush;
 mod lines;
 mod parts;
 mod place;
-mod stores;
 mod write;
 
 pub use parts::{Core, EVENT_ROOM};
-pub use stores::StoreList;

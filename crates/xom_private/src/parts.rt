@@ -4,12 +4,12 @@ ghost use Rattle.session_table.specs.Sessions.{is_live};
 ghost use Rattle.xom_model.specs.Access.{after_leaving, after_stop};
 ghost use Rattle.xom_model.specs.State.{core_at_start};
 
-use crate::StoreList;
 use line_cache::LineCache;
 use line_ram::LineRam;
 use page_map::PageMap;
 use session_table::{SlotState, Table};
 use slot_keys::KeyTable;
+use slot_stores::StoreList;
 use std::alloc::Global;
 use std::marker::Model;
 use tag_regs::Cells;

@@ -8,3 +8,4 @@ pub mod NamingLaws
 pub mod KindLaws
 pub mod HeadLaws
 pub mod OpeningLaws
+pub mod WholeLines

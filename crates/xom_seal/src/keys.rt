@@ -4,8 +4,9 @@ ghost use Rattle.keyed_mac.specs.Hmac.{hmac_sha256};
 ghost use Rattle.xom_seal.specs.Keys.{image_keys as image_keys_of, register_key_bytes, register_keys as register_keys_of, run_keys as run_keys_of, envelope_aes_key};
 
 use crate::text::{Text, part};
+use aes_block::Key128;
 use keyed_mac::tag;
-use xom_base::{ImageId, Key128, Key256};
+use xom_base::{ImageId, Key256};
 
 /// The prefix under which the tag key of an install's lines is derived.
 const LINE_TAG: u8 = 0x10;

@@ -3,7 +3,8 @@
 //!
 //! What is sealed is enciphered by AES-128 over counter blocks and tagged by HMAC over SHA-256.
 //! Unsealing answers plain bytes exactly where the tag is that of the message. Two names that
-//! differ have messages that differ, whatever their ciphertexts. Keys that serve for many lines or
+//! differ have messages that differ, whatever their ciphertexts. A sealed image is what an owner gives
+//! to a machine: its envelope and its lines. Keys that serve for many lines or
 //! registers are made ready once, as a `LineSealer` or a `RegisterSealer`. Nothing here takes memory.
 #![tactic(auto)]
 
@@ -19,6 +20,7 @@ mod message;
 mod names;
 mod register;
 mod register_sealer;
+mod sealed_image;
 mod text;
 
 pub use counter::register_counter;
@@ -36,4 +38,5 @@ pub use message::{envelope_message, line_message, register_message};
 pub use names::{LineName, RegName};
 pub use register::{RegisterOpening, RegisterSealing, SealedReg, seal_register, unseal_register};
 pub use register_sealer::RegisterSealer;
+pub use sealed_image::{SealedImage, SealedLineList};
 pub use text::part;

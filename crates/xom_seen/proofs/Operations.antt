@@ -23,9 +23,9 @@ use Rattle.session_table.specs.declared.session.SlotState.{SlotState}
 use Rattle.session_table.specs.declared.session.SlotState.TheVariants as state
 use Rattle.session_table.specs.declared.session.SlotView.{SlotView}
 use Rattle.session_table.specs.Sessions.{free, is_live, session_after_enter, session_after_resume}
-use Rattle.xom_versions.specs.Store.{Store, hash_entry}
+use Rattle.xom_versions.specs.Store.{Store, hash_entry, no_store}
 use Rattle.xom_versions.specs.Versions.{Raised, RaisesInTheOpen, Versions}
-use Rattle.xom_model.specs.State.{CoreState, core_with_session, no_store, session_of, store_of, with_cells}
+use Rattle.xom_model.specs.State.{CoreState, core_with_session, session_of, store_of, with_cells}
 use Rattle.xom_model.specs.Lines.{who_of}
 use Rattle.xom_model.specs.Saves.{reg_accept_entry, reg_name, reg_seal_entry, saved_at, sealed_reg}
 use Rattle.xom_model.specs.Access.{after_flush, without_guest}

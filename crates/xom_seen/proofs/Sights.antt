@@ -12,9 +12,9 @@ use Rattle.tag_regs.specs.declared.cell.Cell.{Cell}
 use Rattle.tag_regs.specs.TaggedCells.{cells_after_scrub, empty_cell, scrubbed_cell}
 use Rattle.session_table.specs.declared.session.Session.{Session}
 use Rattle.session_table.specs.Sessions.{free, is_live}
-use Rattle.xom_versions.specs.Store.{Store}
+use Rattle.xom_versions.specs.Store.{Store, no_store}
 use Rattle.xom_versions.specs.Versions.{Raised, Versions}
-use Rattle.xom_model.specs.State.{CoreState, no_store, session_of, store_of}
+use Rattle.xom_model.specs.State.{CoreState, session_of, store_of}
 use Rattle.xom_model.specs.Guest.{mask_written, with_release, with_writes}
 use Rattle.xom_model.specs.Holds.{IsLive}
 use Rattle.xom_model.specs.Seen.{area_of, shown_cell, shown_slot}

@@ -8,8 +8,7 @@
 use crate::args::Args;
 use crate::fault::{Answer, Fault};
 use crate::line::{Line, digits};
-use aes_block::{Schedule, s_box};
-use xom_base::Key128;
+use aes_block::{Key128, Schedule, s_box};
 
 /// The result, or none where the kind isn't of this module.
 pub fn answer(kind: &str, args: &Args) -> Option<Answer> {

@@ -17,9 +17,9 @@ use crate::sealing::push_contents;
 use image_sealer::seal;
 use std::alloc::Global;
 use xom_base::{ByteList, PlainImage};
-use xom_image::{ImageFault, SealedImage, read_sealed, write_sealed};
+use xom_image::{ImageFault, read_sealed, write_sealed};
 use xom_owners::Owner;
-use xom_seal::unwrap;
+use xom_seal::{SealedImage, unwrap};
 
 /// The result, or none where the kind isn't of this module.
 pub fn answer(kind: &str, args: &Args) -> Option<Answer> {

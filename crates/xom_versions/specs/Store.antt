@@ -1,5 +1,5 @@
 -- What is seen of a version store, and the texts that it hashes.
-use Rattle.std.specs.Prelude.{◌≡◌, ℕ, List, Option, IfSome}
+use Rattle.std.specs.Prelude.{◌≡◌, ℕ, List, [], Option, None, IfSome}
 use Rattle.std.specs.List.{Contains}
 use Rattle.sha2.specs.Sha256.{sha256}
 use Rattle.xom_base.specs.declared.entry.Entry.{Entry}
@@ -31,6 +31,10 @@ pub record Store : Type 0 where
   pub numbers : List ℕ
   pub area : Option ℕ
   pub root : List ℕ
+
+-- the store where there is no slot
+unfoldable pub no_store : Store
+no_store = record { numbers = []; area = None; root = [] }
 
 -- RAM holds the area that the store keeps, if it keeps one
 abbrev pub HoldsArea : List ℕ → Store → Type 0

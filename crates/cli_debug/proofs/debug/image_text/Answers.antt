@@ -2,7 +2,7 @@
 use Rattle.cli_debug.proofs.Told.{image_moments-some, text-whole}
 use Rattle.cli_debug.proofs.debug.image_text.Goals as goal
 use Rattle.cli_runs.specs.declared.kernel_file.KernelFile.TheVariants as kernel_file
-use Rattle.cli_trace.specs.Trace.{first_of}
+use Rattle.power_on.specs.Start.{first_of}
 use Rattle.kernels.specs.Turns.{image_told}
 use Rattle.power_on.specs.Shipped.{shipped_versions}
 use Rattle.xom_debug.specs.Moments.{moments_from}

@@ -1,5 +1,5 @@
 use Rattle.cli_debug.proofs.debug.text_under.Goals as goal
-use Rattle.cli_trace.proofs.Runnable.{is_schedule}
+use Rattle.power_on.proofs.Schedules.{is_schedule}
 
 pub debug-requires-clause-schedule : goal.debug-requires-clause-schedule
 debug-requires-clause-schedule g c =

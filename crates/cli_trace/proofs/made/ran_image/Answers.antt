@@ -5,7 +5,7 @@ use Rattle.power_on.specs.Shipped.{shipped_versions}
 use Rattle.kernels.specs.Turns.{image_told}
 use Rattle.kernels.proofs.Told.{image_run-some}
 use Rattle.cli_runs.specs.declared.kernel_file.KernelFile.TheVariants as kernel_file
-use Rattle.cli_trace.specs.Trace.{first_of}
+use Rattle.power_on.specs.Start.{first_of}
 use Rattle.cli_trace.proofs.Told.{told-whole}
 use Rattle.cli_trace.proofs.made.ran_image.Goals as goal
 

@@ -1,4 +1,4 @@
-use Rattle.cli_trace.proofs.Runnable.{is_schedule}
+use Rattle.power_on.proofs.Schedules.{is_schedule}
 use Rattle.cli_trace.proofs.made.run_under.Goals as goal
 
 pub run-requires-clause-schedule : goal.run-requires-clause-schedule

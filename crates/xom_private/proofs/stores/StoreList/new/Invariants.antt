@@ -1,9 +1,0 @@
--- So many are blank.
-use Rattle.std.proofs.Common.{◌≡◌, length, map, replicate}
-use Rattle.xom_private.proofs.stores.StoreList.new.Given as goal
-
-abbrev pub invariant-loop-place : goal.invariant-loop-place
-invariant-loop-place g l =
-    (length l.slots.items ≡ l._place)
-    × (map g.V.VersionStore.as_store l.slots.items ≡ replicate l._place
-    g.V.VersionStore.versions.blank_store)
