@@ -5,7 +5,7 @@ use Rattle.std.specs.BTreeMap.{get_by}
 use Rattle.std.specs.HashMap.{get}
 use Rattle.std.specs.Bool.{nat_eq}
 use Rattle.std.specs.Cmp.Lexicographic.{slice_cmp}
-use Rattle.std.specs.Hash.DefaultHasher.{finish, write}
+use Rattle.std.specs.Hash.DefaultHasher.{finish, initial, write}
 use Rattle.std.specs.declared.hash.DefaultHasher.{DefaultHasher}
 use Rattle.std.specs.Option.{option_or}
 use Rattle.std.specs.Ordering.{nat_cmp}
@@ -16,6 +16,10 @@ use Rattle.text_table.specs.declared.table.TextTable.{TextTable}
 -- the fingerprint of a text behind what the hasher was fed
 unfoldable pub fingerprint_of : DefaultHasher → List ℕ → ℕ
 fingerprint_of hasher text = finish (write hasher text)
+
+-- the fingerprint of a text under a secret: SipHash-1-3, with keys 0, of the secret and the text
+abbrev pub keyed_fingerprint : List ℕ → List ℕ → ℕ
+keyed_fingerprint secret text = fingerprint_of (write initial secret) text
 
 module _ {V : Type 0} where
   -- the value of a text, where it is the one of its fingerprint

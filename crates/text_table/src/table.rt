@@ -24,11 +24,14 @@ pub struct TextTable<V> {
 }
 
 impl<V: Drop> TextTable<V> {
-    ghost use Rattle.text_table.specs.Tables.{fingerprint_in, first_value, is_other, row_at, value_in};
+    ghost use Rattle.text_table.specs.Tables.{fingerprint_in, first_value, is_other, keyed_fingerprint, row_at, value_in};
 
-    /// No text. It takes no memory.
+    /// No text. It takes no memory. Who may know of the secret can make texts of one fingerprint, and so a
+    /// slow table, but no wrong one.
+    #[tactic(auto, unfolding(crate::specs::Tables::fingerprint_of))]
     pub fn new(alloc: Global, secret: &[u8; 32]) -> TextTable<V>
-        ensures { (text : List ℕ) → value_in result text ≡ None }
+        ensures empty { (text : List ℕ) → value_in result text ≡ None }
+        ensures keyed { (text : List ℕ) → fingerprint_in result text ≡ keyed_fingerprint secret.now text }
     {
         let mut hasher = DefaultHasher::new();
         hasher.write(secret);
@@ -86,6 +89,7 @@ impl<V: Drop> TextTable<V> {
     /// Gives a text its value, in place of the one that it had. It costs what `get` does, and a copy of the
     /// text.
     pub fn insert(&mut self, text: &[u8], value: V) -> Result<(), NoMemory>
+        ensures keyed { (other : List ℕ) → fingerprint_in self.new other ≡ fingerprint_in self.old other }
         ensures ok { OnOk result ((other : List ℕ) → value_in self.new other ≡ (if bytes_eq text.now other then Some value else value_in self.old other)) }
         ensures err { OnErr result ((other : List ℕ) → value_in self.new other ≡ value_in self.old other) }
     {
@@ -100,6 +104,7 @@ impl<V: Drop> TextTable<V> {
     /// The same, where another text is the first of its fingerprint.
     fn insert_other(&mut self, text: &[u8], value: V) -> Result<(), NoMemory>
         requires { is_other (row_at self.old (fingerprint_in self.old text.now)) text.now ≡ true }
+        ensures hasher { self.new.hasher ≡ self.old.hasher }
         ensures ok { OnOk result ((other : List ℕ) → value_in self.new other ≡ (if bytes_eq text.now other then Some value else value_in self.old other)) }
         ensures err { OnErr result ((other : List ℕ) → value_in self.new other ≡ value_in self.old other) }
     {
@@ -112,6 +117,7 @@ impl<V: Drop> TextTable<V> {
     fn insert_first(&mut self, fingerprint: u64, text: &[u8], value: V) -> Result<(), NoMemory>
         requires fingerprint { fingerprint ≡ fingerprint_in self.old text.now }
         requires free { is_other (row_at self.old fingerprint) text.now ≡ false }
+        ensures hasher { self.new.hasher ≡ self.old.hasher }
         ensures ok { OnOk result ((other : List ℕ) → value_in self.new other ≡ (if bytes_eq text.now other then Some value else value_in self.old other)) }
         ensures err { OnErr result ((other : List ℕ) → value_in self.new other ≡ value_in self.old other) }
     {
