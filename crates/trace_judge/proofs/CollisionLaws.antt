@@ -11,7 +11,7 @@ use Rattle.journal_findings.specs.Findings.{collides, collision_at, first_collis
 use Rattle.journal_findings.proofs.Found.{collision-more, collisions_stay}
 use Rattle.trace_judge.specs.declared.hashes.First.{First}
 use Rattle.trace_judge.specs.HashSearch.{FindsCollisions, TellsOtherTexts, entry_number_at, next_first, next_found, other_text, with_hash}
-use Rattle.trace_judge.proofs.Puts.{same_bytes}
+use Rattle.trace_judge.proofs.Bytes.{same_bytes}
 use Rattle.trace_judge.proofs.Places.{position_push}
 
 -- nothing was fed

@@ -1,7 +1,6 @@
 pub mod Lines
 pub mod Takes
-pub mod Puts
-pub mod Firsts
+pub mod Bytes
 pub mod Places
 pub mod CollisionLaws
 pub mod ForgeryLaws

@@ -19,7 +19,7 @@ use Rattle.trace_judge.specs.Judgement.{verdict_by}
 use Rattle.trace_judge.specs.Trails.{Told}
 use Rattle.trace_judge.specs.Verdicts.{AreVerdicts, found_before, pair_cmp}
 use Rattle.trace_judge.proofs.Firsts.{is_eq-nat}
-use Rattle.trace_judge.proofs.Puts.{same_bytes}
+use Rattle.trace_judge.proofs.Bytes.{same_bytes}
 
 is_eq-then : (a b : Ordering) → is_eq (ordering_then a b) ≡ (is_eq a && is_eq b)
 is_eq-then Less b = refl

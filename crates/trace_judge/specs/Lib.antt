@@ -2,7 +2,7 @@ pub mod Judgement
 pub mod ReportText
 pub mod Laws
 pub mod Numbers
-pub mod Fingerprints
+pub mod Secrets
 pub mod Maps
 pub mod HashSearch
 pub mod SealSearch

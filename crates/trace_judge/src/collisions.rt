@@ -20,14 +20,14 @@ impl Collisions {
     ghost use Rattle.trace_judge.specs.HashSearch.{HasSearchedHashes, IsHash, next_first as firsts_by, next_found as found_by};
     ghost use Rattle.trace_judge.specs.Maps.{first_in};
 
-    /// Nothing was fed. It takes no memory.
+    /// Nothing was fed. Digests are looked up under the secret. It takes no memory.
     #[tactic(auto, using(crate::proofs::CollisionLaws::nothing_fed))]
-    pub fn new(alloc: Global) -> Collisions
+    pub fn new(alloc: Global, secret: &[u8; 32]) -> Collisions
         ensures { HasSearchedHashes result [] }
     {
         Collisions {
             found: None,
-            hashes: Hashes::new(alloc),
+            hashes: Hashes::new(alloc, secret),
         }
     }
 

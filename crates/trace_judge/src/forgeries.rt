@@ -21,14 +21,14 @@ impl Forgeries {
     ghost use Rattle.trace_judge.specs.Maps.{has_name};
     ghost use Rattle.trace_judge.specs.SealSearch.{HasSearchedSeals, IsSeal, all_sealings, answer_at_accept, name, next_forged as forged_by, next_has as has_by};
 
-    /// Nothing was fed. It takes no memory.
+    /// Nothing was fed. Names are looked up under the secret. It takes no memory.
     #[tactic(auto, using(crate::proofs::ForgeryLaws::nothing_fed))]
-    pub fn new(alloc: Global) -> Forgeries
+    pub fn new(alloc: Global, secret: &[u8; 32]) -> Forgeries
         ensures { (sealed : List (List ℕ × List ℕ)) → HasSearchedSeals sealed result [] }
     {
         Forgeries {
             found: None,
-            names: Names::new(alloc),
+            names: Names::new(alloc, secret),
         }
     }
 

@@ -7,7 +7,6 @@
 #![tactic(auto)]
 
 mod collisions;
-mod fingerprints;
 mod forgeries;
 mod guests;
 mod hashes;
@@ -19,6 +18,7 @@ mod quiet;
 mod report;
 mod sealings;
 mod searches;
+mod secrets;
 mod steps;
 mod stream;
 mod suspicion;

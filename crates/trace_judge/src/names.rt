@@ -3,19 +3,15 @@ ghost use Rattle.std.specs.Str.{bytes_eq};
 ghost use Rattle.arrayvec.specs.ArrayVec.{array_vec_len};
 ghost use Rattle.trace_judge.specs.SealSearch.{name};
 
-use crate::fingerprints::fingerprint;
 use arrayvec::ArrayVec;
 use std::alloc::Global;
-use std::collections::{BTreeMap, BTreeSet};
+use text_table::TextTable;
 use xom_base::{NoMemory, Short};
 
-/// A set of names. A look-up goes by the fingerprint of the name; names whose fingerprint another one had
-/// before are kept in their order.
+/// A set of names.
 #[derive(Drop)]
 pub struct Names {
-    firsts: BTreeMap<u64, Vec<u8>>,
-    others: BTreeSet<Vec<u8>>,
-    alloc: Global,
+    table: TextTable<()>,
 }
 
 /// Adds bytes where there is room.
@@ -43,16 +39,14 @@ pub fn name_of(key: &Short, message: &Short) -> ArrayVec<u8, 193>
 }
 
 impl Names {
-    ghost use Rattle.trace_judge.specs.Maps.{has_name, is_name, is_other_name, name_at};
+    ghost use Rattle.trace_judge.specs.Maps.{has_name};
 
     /// No name. It takes no memory.
-    pub fn new(alloc: Global) -> Names
+    pub fn new(alloc: Global, secret: &[u8; 32]) -> Names
         ensures { (name : List ℕ) → has_name result name ≡ false }
     {
         Names {
-            firsts: BTreeMap::new(alloc),
-            others: BTreeSet::new(alloc),
-            alloc,
+            table: TextTable::new(alloc, secret),
         }
     }
 
@@ -60,27 +54,7 @@ impl Names {
     pub fn has(&self, name: &[u8]) -> bool
         ensures { result ≡ has_name self.now name.now }
     {
-        self.is_first(name) || self.others.contains(name)
-    }
-
-    /// Whether the name is the first of its fingerprint.
-    fn is_first(&self, name: &[u8]) -> bool
-        ensures { result ≡ is_name (name_at self.now name.now) name.now }
-    {
-        match self.firsts.get(&fingerprint(name)) {
-            Some(first) => first.as_slice() == name,
-            None => false,
-        }
-    }
-
-    /// Whether another name is the first of its fingerprint.
-    fn is_taken(&self, name: &[u8]) -> bool
-        ensures { result ≡ is_other_name (name_at self.now name.now) name.now }
-    {
-        match self.firsts.get(&fingerprint(name)) {
-            Some(first) => first.as_slice() != name,
-            None => false,
-        }
+        self.table.get(name).is_some()
     }
 
     /// Puts a name into the set.
@@ -88,31 +62,9 @@ impl Names {
         ensures ok { OnOk result ((other : List ℕ) → has_name self.new other ≡ (if bytes_eq name.now other then true else has_name self.old other)) }
         ensures err { OnErr result ((other : List ℕ) → has_name self.new other ≡ has_name self.old other) }
     {
-        if self.is_taken(name) {
-            self.insert_other(name)
-        } else {
-            self.insert_first(name)
+        match self.table.insert(name, ()) {
+            Ok(()) => Ok(()),
+            Err(e) => Err(e),
         }
-    }
-
-    /// The same, where another name is the first of its fingerprint.
-    fn insert_other(&mut self, name: &[u8]) -> Result<(), NoMemory>
-        ensures ok { OnOk result ((other : List ℕ) → has_name self.new other ≡ (if bytes_eq name.now other then true else has_name self.old other)) }
-        ensures err { OnErr result ((other : List ℕ) → has_name self.new other ≡ has_name self.old other) }
-    {
-        let key = Vec::from_slice(self.alloc, name)?;
-        let _new = self.others.insert(key)?;
-        Ok(())
-    }
-
-    /// The same, where no other name is.
-    fn insert_first(&mut self, name: &[u8]) -> Result<(), NoMemory>
-        requires { is_other_name (name_at self.old name.now) name.now ≡ false }
-        ensures ok { OnOk result ((other : List ℕ) → has_name self.new other ≡ (if bytes_eq name.now other then true else has_name self.old other)) }
-        ensures err { OnErr result ((other : List ℕ) → has_name self.new other ≡ has_name self.old other) }
-    {
-        let key = Vec::from_slice(self.alloc, name)?;
-        let _old = self.firsts.insert(fingerprint(name), key)?;
-        Ok(())
     }
 }

@@ -7,6 +7,7 @@ ghost use Rattle.trace_judge.specs.SealSearch.{HasSearchedSeals, IsSeal, all_sea
 use crate::collisions::Collisions;
 use crate::forgeries::Forgeries;
 use crate::sealings::Sealings;
+use crate::secrets::fingerprint_secret;
 use std::alloc::Global;
 use xom_base::{Entry, Key256, NoMemory};
 use xom_owners::OwnerList;
@@ -35,11 +36,13 @@ impl<'a> Searches<'a> {
     ) -> Result<Searches<'a>, NoMemory>
         ensures { IfOk result (λ s. HasSearched (sealed_by machine.now owners.now) s []) }
     {
+        let sealings = Sealings::new(alloc, machine, owners)?;
+        let secret = fingerprint_secret(machine);
         Ok(Searches {
-            sealings: Sealings::new(alloc, machine, owners)?,
+            sealings,
             count: 0,
-            forgeries: Forgeries::new(alloc),
-            collisions: Collisions::new(alloc),
+            forgeries: Forgeries::new(alloc, &secret),
+            collisions: Collisions::new(alloc, &secret),
         })
     }
 
