@@ -8,22 +8,21 @@ use Rattle.sha2.specs.Sha256.{sha256}
 use Rattle.xom_base.specs.Hex.{IsHex, WritesHex, hex_of, hex_within}
 use Rattle.xom_base.specs.Lines.{Tells, with_words}
 use Rattle.xom_base.specs.Words.{words_of}
-use Rattle.xom_base.specs.Numbers.{IsDecimal, WritesBelow, WritesDecimal, decimal_below_of, number_below_of, numeral_of, count_below_of}
+use Rattle.xom_base.specs.Numbers.{IsDecimal, WritesBelow, WritesDecimal, decimal_below_of, number_below_of, numeral_of}
 use Rattle.xom_base.proofs.CutLaws.{option_map_some}
 use Rattle.xom_base.proofs.HexLaws.{hex_of-exact, hex_within-exact}
 use Rattle.xom_base.proofs.LineLaws.{Tells-words}
-use Rattle.xom_base.proofs.NumberLaws.{cond_then, decimal_below_of-exact, none_from_never, number_below_of-exact, numeral_of-exact, count_below_of-exact}
+use Rattle.xom_base.proofs.NumberLaws.{cond_then, decimal_below_of-exact, none_from_never, number_below_of-exact, numeral_of-exact}
 use Rattle.xom_base.specs.declared.entry.Entry.{Entry}
 use Rattle.xom_base.specs.declared.entry.Entry.TheVariants as entry
 use Rattle.xom_base.specs.declared.event.Cause.{Cause}
 use Rattle.xom_base.specs.declared.event.Cause.TheVariants as cause
 use Rattle.xom_base.specs.declared.event.Rule.{Rule}
 use Rattle.xom_base.specs.declared.event.Rule.TheVariants as rule
-use Rattle.xom_base.proofs.ChoiceLaws.{cond-cases}
-use Rattle.xom_base.proofs.ByteLaws.{bytes_eq-same, same_bytes}
 use Rattle.step_text.specs.StepFields.{fault_of, step_of_words}
+use Rattle.step_text.proofs.FieldLaws.{is_word, same_word}
 use Rattle.step_text.proofs.StepWords.{fault_of-exact, step_of-exact}
-use Rattle.journal_text.specs.JournalLines.{IsCause, IsInstalledBefore, IsPayload, IsRow, IsRule, JournalLine, accept_entry_of, cause_of, hash_entry_of, install_entry_of, installed_of, journal_step, kill_entry_of, last_behind, named_cause_of, named_entry_of, named_rule_of, next_install_of, out_entry_of, payload_of, row_of_entry, rule_of, seal_entry_of, step_entry_of, stop_entry_of, trap_entry_of, with_last}
+use Rattle.journal_text.specs.JournalLines.{IsCause, IsInstalledBefore, IsPayload, IsRow, IsRule, JournalLine, accept_entry_of, cause_of, hash_entry_of, install_entry_of, installed_of, journal_step, kill_entry_of, last_behind, named_cause_of, named_entry_of, named_rule_of, next_install_of, out_entry_of, payload_of, row_of_entry, rule_of, seal_entry_of, slot_of_word, step_entry_of, stop_entry_of, trap_entry_of, with_last}
 
 -- ---- words
 
@@ -79,12 +78,31 @@ unfolding next_install_of
 next_only last word n is one =
     rw ((numeral_of-exact 10 word n).1 is) (rw (eq-eqb n (last + 1) one) refl)
 
+slot_found : (word : List ℕ) (n : ℕ) → slot_of_word word ≡ Some n → WritesBelow 17 word n × (1 ≤ n)
+unfolding slot_of_word
+slot_found word n h =
+    steps _ (number_below_of 17 word) n h (λ m read h.
+    let t = cond_some (leb 1 m) m n h in (
+      subst (WritesBelow 17 word) t.1 ((number_below_of-exact 17 word m).0 read),
+      subst (λ n. 1 ≤ n) t.1
+          (leb-true 1 m t.0),
+    ))
+
+slot_only : (word : List ℕ) (n : ℕ) → WritesBelow 17 word n → 1 ≤ n → slot_of_word word ≡ Some n
+unfolding slot_of_word
+slot_only word n is least = rw ((number_below_of-exact 17 word n).1 is, le-leb 1 n least) refl
+
 -- ---- choices by a word
+
+chosen : {A : Type 0} (test : Bool) (x y z : A) → cond test x y ≡ z
+    → ((test ≡ true) × (x ≡ z)) ⊎ ((test ≡ false) × (y ≡ z))
+chosen true x y z h = inl (refl, h)
+chosen false x y z h = inr (refl, h)
 
 -- two words, of which the first was compared
 named : (word detail name : List ℕ) → bytes_eq word name ≡ true
     → word ∷ detail ∷ [] ≡ name ∷ detail ∷ []
-named word detail name is = ap (λ (word : List ℕ). word ∷ detail ∷ []) (same_bytes word name is)
+named word detail name is = ap (λ (word : List ℕ). word ∷ detail ∷ []) (same_word word name is)
 
 -- ---- RULE and DETAIL, and causes of traps
 
@@ -94,17 +112,17 @@ rule_found [] why h = absurd (none-some why h)
 rule_found (name ∷ []) why h = absurd (none-some why h)
 rule_found (name ∷ d ∷ more ∷ rest) why h = absurd (none-some why h)
 rule_found (name ∷ d ∷ []) why h =
-    elim (cond-cases (bytes_eq name (codes "LineTag")) _ _ (Some why) h) [
+    elim (chosen (bytes_eq name (codes "LineTag")) _ _ (Some why) h) [
       | inl t ↦
           let m = option_map_some rule.LineTag (number_below_of (2 ^ 32) d) why t.1 in
           subst (IsRule (name ∷ d ∷ [])) (same_Some (rule.LineTag m.0) why m.2)
           (d, named name d (codes "LineTag") t.0, (number_below_of-exact (2 ^ 32) d m.0).0 m.1)
-      | inr t ↦ elim (cond-cases (bytes_eq name (codes "TreeNode")) _ _ (Some why) t.1) [
+      | inr t ↦ elim (chosen (bytes_eq name (codes "TreeNode")) _ _ (Some why) t.1) [
         | inl t ↦
             let m = option_map_some rule.TreeNode (number_below_of (2 ^ 8) d) why t.1 in
             subst (IsRule (name ∷ d ∷ [])) (same_Some (rule.TreeNode m.0) why m.2)
             (d, named name d (codes "TreeNode") t.0, (number_below_of-exact (2 ^ 8) d m.0).0 m.1)
-        | inr t ↦ elim (cond-cases (bytes_eq name (codes "RegisterTag")) _ _ (Some why) t.1) [
+        | inr t ↦ elim (chosen (bytes_eq name (codes "RegisterTag")) _ _ (Some why) t.1) [
           | inl t ↦
               let m = option_map_some rule.RegisterTag (number_below_of (2 ^ 8) d) why t.1 in
               subst (IsRule (name ∷ d ∷ [])) (same_Some (rule.RegisterTag m.0) why m.2) (
@@ -142,15 +160,15 @@ cause_found [] why h = absurd (none-some why h)
 cause_found (name ∷ []) why h =
     let t = cond_some (bytes_eq name (codes "interrupt")) cause.Interrupt why h in
     subst (IsCause (name ∷ [])) t.1 (ap (λ (name : List ℕ). name ∷ [])
-    (same_bytes name (codes "interrupt") t.0))
+    (same_word name (codes "interrupt") t.0))
 cause_found (name ∷ d ∷ more ∷ rest) why h = absurd (none-some why h)
 cause_found (name ∷ d ∷ []) why h =
-    elim (cond-cases (bytes_eq name (codes "call")) _ _ (Some why) h) [
+    elim (chosen (bytes_eq name (codes "call")) _ _ (Some why) h) [
       | inl t ↦
           let m = option_map_some cause.Call (number_below_of (2 ^ 32) d) why t.1 in
           subst (IsCause (name ∷ d ∷ [])) (same_Some (cause.Call m.0) why m.2)
           (d, named name d (codes "call") t.0, (number_below_of-exact (2 ^ 32) d m.0).0 m.1)
-      | inr t ↦ elim (cond-cases (bytes_eq name (codes "page")) _ _ (Some why) t.1) [
+      | inr t ↦ elim (chosen (bytes_eq name (codes "page")) _ _ (Some why) t.1) [
         | inl t ↦
             let m = option_map_some cause.Page (number_below_of (2 ^ 32) d) why t.1 in
             subst (IsCause (name ∷ d ∷ [])) (same_Some (cause.Page m.0) why m.2)
@@ -193,13 +211,13 @@ install_found last (a ∷ s ∷ i ∷ p ∷ b ∷ []) e h = absurd (none-some e 
 install_found last (a ∷ s ∷ i ∷ p ∷ b ∷ l ∷ more ∷ rest) e h = absurd (none-some e h)
 install_found last (a ∷ s ∷ i ∷ p ∷ b ∷ l ∷ []) e h =
     steps _ (next_install_of last a) e h (λ n n_is h.
-    steps _ (count_below_of 17 s) e h (λ slot slot_is h.
+    steps _ (slot_of_word s) e h (λ slot slot_is h.
     steps _ (hex_of 16 i) e h (λ id id_is h.
     steps _ (decimal_below_of (2 ^ 32) p) e h (λ place place_is h.
     steps _ (decimal_below_of (2 ^ 32) b) e h (λ begin begin_is h.
     steps _ (decimal_below_of (2 ^ 32) l) e h (λ lines lines_is h.
     let one = next_found last a n n_is in
-    let two = (count_below_of-exact 17 s slot).0 slot_is in
+    let two = slot_found s slot slot_is in
     subst (Found last (codes "install" ∷ a ∷ s ∷ i ∷ p ∷ b ∷ l ∷ []))
     (same_Some (entry.Install n slot record { 0 = id } place begin lines) e h) (
       a,
@@ -291,7 +309,7 @@ hash_found last (p ∷ d ∷ []) e h =
       refl,
       payload_found 260 p preimage preimage_is,
       (hex_of-exact 32 d digest).0 digest_is,
-      same_bytes digest (sha256 preimage) t.0,
+      same_word digest (sha256 preimage) t.0,
       refl,
     )))
 
@@ -329,27 +347,27 @@ out_found last (b ∷ []) e h =
 under : (last : ℕ) (name word : List ℕ) (rest : List (List ℕ)) (e : Entry)
     → bytes_eq word name ≡ true → Found last (name ∷ rest) e → Found last (word ∷ rest) e
 under last name word rest e is found =
-    subst (λ (name : List ℕ). Found last (name ∷ rest) e) (sym (same_bytes word name is)) found
+    subst (λ (name : List ℕ). Found last (name ∷ rest) e) (sym (same_word word name is)) found
 
 named_entry_found : (last : ℕ) (name : List ℕ) (rest : List (List ℕ)) (e : Entry)
     → named_entry_of last name rest ≡ Some e → Found last (name ∷ rest) e
 unfolding named_entry_of
 named_entry_found last name rest e h =
-    elim (cond-cases (bytes_eq name (codes "install")) _ _ (Some e) h) [
+    elim (chosen (bytes_eq name (codes "install")) _ _ (Some e) h) [
       | inl t ↦ under last (codes "install") name rest e t.0 (install_found last rest e t.1)
-      | inr t ↦ elim (cond-cases (bytes_eq name (codes "step")) _ _ (Some e) t.1) [
+      | inr t ↦ elim (chosen (bytes_eq name (codes "step")) _ _ (Some e) t.1) [
         | inl t ↦ under last (codes "step") name rest e t.0 (step_found last rest e t.1)
-        | inr t ↦ elim (cond-cases (bytes_eq name (codes "trap")) _ _ (Some e) t.1) [
+        | inr t ↦ elim (chosen (bytes_eq name (codes "trap")) _ _ (Some e) t.1) [
           | inl t ↦ under last (codes "trap") name rest e t.0 (trap_found last rest e t.1)
-          | inr t ↦ elim (cond-cases (bytes_eq name (codes "seal")) _ _ (Some e) t.1) [
+          | inr t ↦ elim (chosen (bytes_eq name (codes "seal")) _ _ (Some e) t.1) [
             | inl t ↦ under last (codes "seal") name rest e t.0 (seal_found last rest e t.1)
-            | inr t ↦ elim (cond-cases (bytes_eq name (codes "accept")) _ _ (Some e) t.1) [
+            | inr t ↦ elim (chosen (bytes_eq name (codes "accept")) _ _ (Some e) t.1) [
               | inl t ↦ under last (codes "accept") name rest e t.0 (accept_found last rest e t.1)
-              | inr t ↦ elim (cond-cases (bytes_eq name (codes "hash")) _ _ (Some e) t.1) [
+              | inr t ↦ elim (chosen (bytes_eq name (codes "hash")) _ _ (Some e) t.1) [
                 | inl t ↦ under last (codes "hash") name rest e t.0 (hash_found last rest e t.1)
-                | inr t ↦ elim (cond-cases (bytes_eq name (codes "stop")) _ _ (Some e) t.1) [
+                | inr t ↦ elim (chosen (bytes_eq name (codes "stop")) _ _ (Some e) t.1) [
                   | inl t ↦ under last (codes "stop") name rest e t.0 (stop_found last rest e t.1)
-                  | inr t ↦ elim (cond-cases (bytes_eq name (codes "kill")) _ _ (Some e) t.1) [
+                  | inr t ↦ elim (chosen (bytes_eq name (codes "kill")) _ _ (Some e) t.1) [
                     | inl t ↦ under last (codes "kill") name rest e t.0 (kill_found last rest e t.1)
                     | inr t ↦
                         let u = cond_then (bytes_eq name (codes "out")) _ e t.1 in
@@ -385,7 +403,7 @@ row_only last words (entry.Install n slot id place begin lines) next
     rw (is, next_is) (
     rw (
       next_only last a n n_is one,
-      (count_below_of-exact 17 s slot).1 (slot_is, least),
+      slot_only s slot slot_is least,
       (hex_of-exact 16 i id.0).1
           id_is,
     ) (
@@ -421,7 +439,7 @@ row_only last words (entry.Hash preimage digest) next (
       payload_only 260 p preimage preimage_is,
       (hex_of-exact 32 d digest).1
           digest_is,
-      bytes_eq-same digest (sha256 preimage) hash_is,
+      is_word digest (sha256 preimage) hash_is,
     ) refl)
 row_only last words (entry.Stop n why) next (a, rules, is, n_is, why_is, next_is) =
     rw (is, next_is) (rw (installed_only last a n n_is, rule_only rules why why_is) refl)

@@ -6,7 +6,7 @@ use Rattle.sha2.specs.Sha256.{sha256}
 use Rattle.step_text.specs.StepFields.{IsFault, IsStep, fault_of, step_of_words}
 use Rattle.xom_base.specs.Hex.{IsHex, WritesHex, hex_of, hex_within}
 use Rattle.xom_base.specs.Lines.{Format, LineStep, OfWords, step_by_words as line_step_of}
-use Rattle.xom_base.specs.Numbers.{IsDecimal, WritesBelow, WritesDecimal, decimal_below_of, number_below_of, numeral_of, count_below_of}
+use Rattle.xom_base.specs.Numbers.{IsDecimal, WritesBelow, WritesDecimal, decimal_below_of, number_below_of, numeral_of}
 use Rattle.xom_base.specs.Options.{◌>>=◌}
 use Rattle.xom_base.specs.declared.entry.Entry.{Entry}
 use Rattle.xom_base.specs.declared.entry.Entry.TheVariants as entry
@@ -102,10 +102,15 @@ next_install_of last word = do
   n ← numeral_of 10 word
   if n == last + 1 then Some n else None
 
+unfoldable pub slot_of_word : List ℕ → Option ℕ
+slot_of_word word = do
+  n ← number_below_of 17 word
+  if nat_le 1 n then Some n else None
+
 unfoldable pub install_entry_of : ℕ → List (List ℕ) → Option Entry
 install_entry_of last (a ∷ s ∷ i ∷ p ∷ b ∷ l ∷ []) = do
   n ← next_install_of last a
-  slot ← count_below_of 17 s
+  slot ← slot_of_word s
   id ← hex_of 16 i
   place ← decimal_below_of (2 ^ 32) p
   begin ← decimal_below_of (2 ^ 32) b

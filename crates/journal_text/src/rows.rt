@@ -1,13 +1,13 @@
 ghost use Rattle.std.specs.Prelude.{◌≡◌, ◌≤◌, ◌<◌, ◌^◌, List, length, map, option_map};
 ghost use Rattle.xom_base.specs.Hex.{hex_within};
 ghost use Rattle.xom_base.specs.Numbers.{decimal_below_of, number_below_of};
-ghost use Rattle.journal_text.specs.JournalLines.{accept_entry_of, cause_of, hash_entry_of, install_entry_of, installed_of, journal_step, kill_entry_of, last_behind, named_cause_of, named_entry_of, named_rule_of, next_install_of, out_entry_of, payload_of, row_of_entry, rule_of, seal_entry_of, step_entry_of, stop_entry_of, trap_entry_of};
+ghost use Rattle.journal_text.specs.JournalLines.{accept_entry_of, cause_of, hash_entry_of, install_entry_of, installed_of, journal_step, kill_entry_of, last_behind, named_cause_of, named_entry_of, named_rule_of, next_install_of, out_entry_of, payload_of, row_of_entry, rule_of, seal_entry_of, slot_of_word, step_entry_of, stop_entry_of, trap_entry_of};
 
 use keyed_mac::digest;
 use step_text::{fault_in, step_in};
 use xom_base::{
-    Cause, Entry, ImageId, Payload, Rule, count_below, decimal, decimal_below, few_words, hex_into,
-    hex16, hex32, number_below, number32,
+    Cause, Entry, ImageId, Payload, Rule, decimal, decimal_below, few_words, hex_into, hex16,
+    hex32, number_below,
 };
 
 /// What a line says, where the last install before it had this number: no entry where it has no words, and
@@ -84,7 +84,7 @@ fn install_in(last: u64, words: &[&[u8]]) -> Option<Entry>
     match words {
         [install, slot, id, place, entry, lines] => {
             let install = next_install(last, install)?;
-            let slot = count_below(slot, 17)?;
+            let slot = slot_in(slot)?;
             let id = hex16(id)?;
             let place = decimal32(place)?;
             let entry = decimal32(entry)?;
@@ -312,10 +312,25 @@ fn next_install(last: u64, word: &[u8]) -> Option<u64>
     (1 <= n && n - 1 == last).then_some(n)
 }
 
+#[tactic(auto, unfolding(crate::specs::JournalLines::slot_of_word))]
+fn slot_in(word: &[u8]) -> Option<u8>
+    ensures { result ≡ slot_of_word word.now }
+{
+    let n = number_below(word, 17)?;
+    (1 <= n).then_some(n as u8)
+}
+
 fn decimal32(word: &[u8]) -> Option<u32>
     ensures { result ≡ decimal_below_of (2 ^ 32) word.now }
 {
     let n = decimal_below(word, 1 << 32)?;
+    Some(n as u32)
+}
+
+fn number32(word: &[u8]) -> Option<u32>
+    ensures { result ≡ number_below_of (2 ^ 32) word.now }
+{
+    let n = number_below(word, 1 << 32)?;
     Some(n as u32)
 }
 

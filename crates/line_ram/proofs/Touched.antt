@@ -4,7 +4,6 @@ use Rattle.std.proofs.lemmas.List.{append_assoc, drop-append-le, drop-drop, drop
 use Rattle.std.proofs.lemmas.Bool.{cases_lt}
 use Rattle.std.specs.List.{refill}
 use Rattle.xom_base.specs.Padded.{padded_block, same_at_both}
-use Rattle.xom_base.proofs.PaddedLaws.{padded-more, padded-written}
 use Rattle.line_ram.specs.Bytes.{HoldsRange, bytes_at, ram_with_bytes}
 use Rattle.line_ram.proofs.Ranges.{length-stored, take-past}
 
@@ -14,6 +13,33 @@ pub length-filled : (size : ℕ) (used : List ℕ) → length used ≤ size
 length-filled size used within =
     length-append used (replicate (size - length used) 0)
     ∙ omega (arith, length-replicate {A = ℕ} (size - length used) 0)
+
+-- zeros behind the used bytes are there already
+pub filled-more : (size count : ℕ) (used : List ℕ) → count ≤ size
+    → padded_block size (used ++ replicate (count - length used) 0) ≡ padded_block size used
+filled-more size count used fits =
+    let more = replicate (count - length used) 0 in
+    let long : length (used ++ more) ≡ length used + (count - length used) =
+    simp (length-append, length-replicate) refl in
+    append_assoc used more (replicate (size - length (used ++ more)) 0)
+    ∙ ap (λ zeros. used ++ zeros) (
+    replicate-append-replicate (count - length used) (size - length (used ++ more)) 0
+    ∙ ap (λ n. replicate n 0) {x = count - length used + (size - length (used ++ more))}
+    {y = size - length used} (omega (arith, long, fits)))
+
+-- what is stored in the used part is stored in RAM
+pub filled-stored : (size address : ℕ) (used bytes : List ℕ)
+    → HoldsRange used address (length bytes)
+    → padded_block size (ram_with_bytes used address bytes) ≡ ram_with_bytes (padded_block size used) address bytes
+filled-stored size address used bytes within =
+    let zeros : List ℕ = replicate (size - length used) 0 in
+    let end = address + length bytes in let front = take address used in let rest = drop end used in
+    ap (λ n. ram_with_bytes used address bytes ++ replicate (size - n) 0)
+    (length-stored used bytes address within)
+    ∙ append_assoc front (bytes ++ rest) zeros
+    ∙ same_at_both (λ l r. l ++ r) (sym (take-append-le address used zeros (omega arith)))
+    (append_assoc bytes rest zeros ∙ ap (λ l. bytes ++ l)
+    (sym (drop-append-le end used zeros within)))
 
 -- these bytes over others from an address on, as a `Vec` writes them back
 abbrev over : List ℕ → ℕ → List ℕ → List ℕ
@@ -35,8 +61,8 @@ filled-written size address len used more copied bytes same long is fits reached
     let size_of : length now ≡ length more = length-stored more bytes address (omega arith) in
     ap (λ p. padded_block size (refill len more p)) part
     ∙ ap (padded_block size) (take_at now (drop (length now) more) len (size_of ∙ sym long))
-    ∙ padded-written size address more bytes (omega arith)
-    ∙ ap (λ l. ram_with_bytes l address bytes) (ap (padded_block size) is ∙ padded-more size
+    ∙ filled-stored size address more bytes (omega arith)
+    ∙ ap (λ l. ram_with_bytes l address bytes) (ap (padded_block size) is ∙ filled-more size
     (address + length bytes) used fits)
 
 -- a slice that the bytes don't fill has zeros behind them

@@ -3,7 +3,6 @@ use Rattle.std.proofs.Common.{◌≡◌, ℕ, ◌+◌, ◌-◌, ◌≤◌, ◌<�
 use Rattle.std.specs.Prelude.{slice_index}
 use Rattle.std.proofs.lemmas.List.{take-append-le, drop-append-le, append_assoc, get_or_append_left, get_or-append_right, get_or-replicate, replicate-append-replicate, length-replicate, drop_more}
 use Rattle.xom_base.specs.Padded.{padded_block, same_at_both}
-use Rattle.xom_base.proofs.PaddedLaws.{padded-more, padded-written}
 use Rattle.mips_plain.specs.Memory.{low_bytes, written_at}
 use Rattle.mips_plain.proofs.Stores.{length-written_at, length-low_bytes}
 
@@ -19,6 +18,30 @@ byte_unused size bytes i past within =
     sym (get_or-append_right bytes (replicate (size - length bytes) 0) (length bytes) i 0 refl past
     ∙ get_or-replicate (size - length bytes) (i - length bytes) 0 0 (omega arith))
 
+-- zeros behind the bytes are there already
+filled_more : (size count : ℕ) (bytes : List ℕ) → count ≤ size
+    → padded_block size (bytes ++ replicate (count - length bytes) 0) ≡ padded_block size bytes
+filled_more size count bytes le =
+    append_assoc bytes (replicate (count - length bytes) 0)
+    (replicate (size - length (bytes ++ replicate (count - length bytes) 0)) 0)
+    ∙ ap (λ zeros. bytes ++ zeros) (replicate-append-replicate (count - length bytes)
+    (size - length (bytes ++ replicate (count - length bytes) 0)) 0
+    ∙ ap (λ n. replicate n 0) (let l : length (bytes ++ replicate (count - length bytes) 0) ≡ length
+    bytes + (count - length bytes) = simp (length-append, length-replicate) refl in omega arith))
+
+-- a store within the bytes that are used, seen with the zeros behind
+pub written_filled : (size address : ℕ) (bytes part : List ℕ) → address + length part ≤ length bytes
+    → padded_block size (written_at bytes address part) ≡ written_at (padded_block size bytes) address part
+written_filled size address bytes part within =
+    let zeros : List ℕ = replicate (size - length bytes) 0 in
+    ap (λ n. written_at bytes address part ++ replicate (size - n) 0)
+    (length-written_at bytes address part within)
+    ∙ append_assoc (take address bytes) (part ++ drop (address + length part) bytes) zeros
+    ∙ same_at_both (λ front back. front ++ back)
+    (sym (take-append-le address bytes zeros (omega arith)))
+    (append_assoc part (drop (address + length part) bytes) zeros ∙ ap (λ rest. part ++ rest)
+    (sym (drop-append-le (address + length part) bytes zeros within)))
+
 -- a store, after zeros were put behind the bytes as far as it goes
 pub stored : (size address count : ℕ) (bytes part : List ℕ) → length part ≡ count
     → address + count ≤ size
@@ -26,10 +49,10 @@ pub stored : (size address count : ℕ) (bytes part : List ℕ) → length part 
     ≡ written_at (padded_block size bytes) address part
 stored size address count bytes part long fits =
     let more : List ℕ = bytes ++ replicate (address + count - length bytes) 0 in
-    padded-written size address more part
+    written_filled size address more part
     (let l : length more ≡ length bytes + (address + count - length bytes) =
     simp (length-append, length-replicate) refl in omega arith)
-    ∙ ap (λ all. written_at all address part) (padded-more size (address + count) bytes fits)
+    ∙ ap (λ all. written_at all address part) (filled_more size (address + count) bytes fits)
 
 next_byte : (bytes : List ℕ) (i j : ℕ) → i + 1 ≡ j → j < length bytes
     → drop (i + 1) bytes ≡ slice_index bytes j ∷ drop (j + 1) bytes
