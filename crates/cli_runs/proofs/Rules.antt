@@ -9,8 +9,6 @@ use Rattle.xom_base.specs.Lines.{AnswersText, Reads, lines_of}
 use Rattle.xom_base.specs.Words.{words_of}
 use Rattle.xom_base.specs.declared.lines.TextFault.{TextFault}
 use Rattle.xom_base.specs.declared.schedule.Poke.{Poke}
-use Rattle.xom_base.proofs.FrontLaws.{all-snoc}
-use Rattle.xom_base.proofs.HexLaws.{length-IsHex}
 use Rattle.xom_script.specs.RunFiles.{IsRunFile, RunFormat}
 use Rattle.xom_script.specs.RunLines.{Ascends, IsRunLine}
 use Rattle.xom_script.specs.RunOrder.{Follows, last_event}
@@ -21,9 +19,27 @@ use Rattle.xom_script.specs.declared.run_file.OwnerFile.{OwnerFile}
 use Rattle.xom_script.specs.declared.run_file.RunFile.{RunFile}
 use Rattle.xom_script.specs.declared.run_line.RunLine.{RunLine}
 use Rattle.xom_script.specs.declared.run_line.RunLine.TheVariants as line
-use Rattle.xom_script.proofs.AscendLaws.{increasing}
 use Rattle.cli_runs.specs.RunFiles.{IsOwnerLine, IsRunnable}
 use Rattle.cli_runs.specs.Schedules.{IsPokeOf}
+
+-- ---- Numbers that ascend
+
+-- are above the number that they ascend from
+above : (last : ℕ) (ns : List ℕ) → Ascends last ns → (k : ℕ) → k < length ns → last < get_or ns k 0
+above last [] ascends k within = absurd (omega arith)
+above last (n ∷ ns) ascends zero within = ascends.0
+above last (n ∷ ns) ascends (suc k) within =
+    let low : last < n = ascends.0 in let high = above n ns ascends.1 k (omega arith) in omega arith
+
+-- and each is below the next
+strict : (last : ℕ) (ns : List ℕ) → Ascends last ns → (k : ℕ) → suc k < length ns
+    → get_or ns k 0 < get_or ns (suc k) 0
+strict last [] ascends k within = absurd (omega arith)
+strict last (n ∷ ns) ascends zero within = above n ns ascends.1 0 (omega arith)
+strict last (n ∷ ns) ascends (suc k) within = strict n ns ascends.1 k (omega arith)
+
+pub increasing : (ns : List ℕ) → Ascends 0 ns → IsStrictlyIncreasing ns
+increasing ns ascends k within = rw add-one (strict 0 ns ascends k (rw add-one at within))
 
 -- ---- The writes of the bus
 
@@ -62,6 +78,11 @@ ascends-snoc low (first ∷ second ∷ pokes) poke ascends above-low above-last 
 
 -- ---- The lines, one after another
 
+all-snoc : {A : Type 0} (P : A → Type 0) (items : List A) (item : A) → AllByRecursion P items
+    → P item → AllByRecursion P (items ++ (item ∷ []))
+all-snoc P [] item all one = (one, tt)
+all-snoc P (first ∷ items) item all one = (all.0, all-snoc P items item all.1 one)
+
 -- what the lines so far keep, beside the rules
 pub record Keeps (frames : ℕ) (files : List OwnerFile) (writes : List Poke) : Type 0 where
   pub owners : AllByRecursion IsOwnerLine files
@@ -77,6 +98,17 @@ KeepsSoFar (progress.Files draft) = AllByRecursion IsOwnerLine draft.owners
 KeepsSoFar (progress.Kernel draft kernel number) = AllByRecursion IsOwnerLine draft.owners
 KeepsSoFar (progress.Whole file) = Keeps file.frames file.owners file.schedule.pokes
 
+length-pairs : (count : ℕ) (word : List ℕ) → length word ≡ 2 * count → length (pairs word) ≡ count
+length-pairs zero [] sized = refl
+length-pairs zero (high ∷ word) sized = absurd (omega (arith, sized))
+length-pairs (suc n) [] sized = absurd (omega (arith, sized))
+length-pairs (suc n) (high ∷ []) sized = absurd (omega (arith, sized))
+length-pairs (suc n) (high ∷ low ∷ word) sized =
+    let more = length-pairs n word (omega (arith, sized)) in omega (arith, more)
+
+hex-sized : (count : ℕ) (word bytes : List ℕ) → IsHex count word bytes → length bytes ≡ count
+hex-sized count word bytes is = rw is.written (length-pairs count word is.sized)
+
 line-keeps : (before : Progress) (n : ℕ) (words : List (List ℕ)) (next : RunLine) (after : Progress)
     → KeepsSoFar before → IsRunLine words next → Follows before n next after → KeepsSoFar after
 line-keeps before n words (line.Machine machine) after keeps is f = subst KeepsSoFar (sym f.1) tt
@@ -87,8 +119,8 @@ line-keeps before n words (line.Owner owner) after keeps is f =
     let k : AllByRecursion IsOwnerLine f.0.owners = subst KeepsSoFar f.1 keeps in
     subst KeepsSoFar (sym f.5) (all-snoc IsOwnerLine f.0.owners owner k record {
       key =
-          length-IsHex 32 is.0 owner.key.0 is.4;
-      id = length-IsHex 16 is.1 owner.id.0 is.5;
+          hex-sized 32 is.0 owner.key.0 is.4;
+      id = hex-sized 16 is.1 owner.id.0 is.5;
     })
 line-keeps before n words (line.Guest sealed input) after keeps is f =
     let k : AllByRecursion IsOwnerLine f.0.owners = subst KeepsSoFar f.1 keeps in

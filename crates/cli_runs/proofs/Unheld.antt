@@ -3,18 +3,13 @@
 use Rattle.std.proofs.Common.{◌≡◌, inl, ℕ, ◌+◌, List, ◌∷◌, Option, Some, None, Result, Ok, Err, refl}
 use Rattle.xom_owners.specs.declared.owner.Owner.{Owner}
 use Rattle.xom_script.specs.declared.run_file.GuestFile.{GuestFile}
-use Rattle.xom_script.specs.declared.run_file.KernelLine.{KernelLine}
-use Rattle.xom_script.specs.declared.run_file.KernelLine.TheVariants as line
 use Rattle.xom_script.specs.declared.run_file.OwnerFile.{OwnerFile}
-use Rattle.xom_script.specs.declared.run_file.RunFile.{RunFile}
 use Rattle.cli_base.specs.declared.refusal.Refusal.{Refusal}
 use Rattle.cli_base.specs.Inputs.{Held, held_without, image_of, ◌>>=◌}
 use Rattle.cli_base.proofs.Without.{SameOrUnread, image-without, input-without}
 use Rattle.cli_runs.specs.GuestFiles.{guest_and_input, guest_image_of, guests_and_inputs, input_limit, placed_guest_of, read_input}
-use Rattle.cli_runs.specs.KernelFiles.{kernel_image_of, kernel_of_line, script_of}
 use Rattle.cli_runs.specs.OwnerImages.{owner_with_image, owners_of}
-use Rattle.cli_runs.specs.Parts.{parts_named, parts_of}
-use Rattle.cli_runs.specs.Places.{first_frame, frames_of_guest}
+use Rattle.cli_runs.specs.Places.{frames_of_guest}
 use Rattle.cli_runs.specs.RunFiles.{built_run_of, run_file_of}
 use Rattle.cli_runs.specs.declared.guest_image.GuestImage.{GuestImage}
 use Rattle.cli_runs.proofs.Each.{IsEach, each-without}
@@ -124,54 +119,3 @@ module _ (run : List ℕ) (frames : ℕ) where
   guests-without held name frame lines =
       each-without all_guests one_guest (λ frame image. frame + frames_of_guest image) guests-each held
       name frame lines
-
--- ---- Kernels
-
-script-without : (held : Held) (name n : List ℕ)
-    → SameOrUnread name (script_of held n) (script_of (held_without name held) n)
-unfolding script_of
-script-without held name n = input-without _ _ held name n
-
-kernel_image-without : (held : Held) (name run : List ℕ) (frames number : ℕ) (n : List ℕ)
-    → SameOrUnread name (kernel_image_of held run frames number n)
-    (kernel_image_of (held_without name held) run frames number n)
-unfolding kernel_image_of
-kernel_image-without held name run frames number n =
-    bind-without name (image_of held n) (image_of (held_without name held) n) _ _
-    (image-without held name n) (λ image. inl refl)
-
-pub kernel-without : (held : Held) (name run : List ℕ) (frames number : ℕ) (kernel : KernelLine)
-    → SameOrUnread name (kernel_of_line held run frames number kernel) (kernel_of_line (held_without name held) run
-    frames number kernel)
-unfolding kernel_of_line
-kernel-without held name run frames number (line.Script n) =
-    bind-without name (script_of held n) (script_of (held_without name held) n) _ _
-    (script-without held name n) (λ script. inl refl)
-kernel-without held name run frames number (line.Image n) =
-    bind-without name (kernel_image_of held run frames number n)
-    (kernel_image_of (held_without name held) run frames number n) _ _ (kernel_image-without held name
-    run frames number n) (λ image. inl refl)
-kernel-without held name run frames number (line.Xomos pages) = inl refl
-
--- ---- What a run is made of
-
--- the owners, the guests and the kernel of a run file
-named-without : (held : Held) (name run : List ℕ) (file : RunFile)
-    → SameOrUnread name (parts_named held run file) (parts_named (held_without name held) run file)
-unfolding parts_named
-named-without held name run file =
-    bind-without name (owners_of held file.owners) (owners_of (held_without name held) file.owners)
-    _ _ (owners-without held name file.owners) (λ owners.
-    bind-without name (guests_and_inputs held run file.frames first_frame file.guests)
-    (guests_and_inputs (held_without name held) run file.frames first_frame file.guests)
-    _ _ (guests-without run file.frames held name first_frame file.guests) (λ guests.
-    bind-without name (kernel_of_line held run file.frames file.kernel_line file.kernel)
-    (kernel_of_line (held_without name held) run file.frames file.kernel_line file.kernel) _ _
-    (kernel-without held name run file.frames file.kernel_line file.kernel) (λ kernel. inl refl)))
-
-pub parts-without : (held : Held) (name run : List ℕ)
-    → SameOrUnread name (parts_of held run) (parts_of (held_without name held) run)
-unfolding parts_of
-parts-without held name run =
-    bind-without name (built_run_of held run) (built_run_of (held_without name held) run) _ _
-    (built_run-without held name run) (λ file. named-without held name run file)

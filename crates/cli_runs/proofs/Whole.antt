@@ -6,7 +6,6 @@ use Rattle.std.specs.Str.{bytes_eq}
 use Rattle.std.proofs.lemmas.Option.{none-some, same_Some}
 use Rattle.std.proofs.lemmas.Slice.Eq.{bytes_eq-Decides}
 use Rattle.xom_base.specs.declared.key.ImageId.{ImageId}
-use Rattle.xom_base.proofs.ByteLaws.{bytes_eq-differ, bytes_eq-same}
 use Rattle.xom_owners.specs.Owners.{AreDistinct, owner_of, same_id}
 use Rattle.xom_owners.specs.declared.owner.Owner.{Owner}
 use Rattle.xom_script.specs.RunOrder.{IsNewId}
@@ -16,6 +15,16 @@ use Rattle.cli_runs.specs.OwnerImages.{AreOwnersOf, AreWhole}
 use Rattle.cli_runs.specs.RunFiles.{IsOwnerLine}
 
 -- ---- Ids
+
+bytes_same : (a b : List ℕ) → a ≡ b → bytes_eq a b ≡ true
+bytes_same a b is = (bytes_eq-Decides a b).1 is
+
+bytes_differ : (a b : List ℕ) → a ≢ b → bytes_eq a b ≡ false
+bytes_differ a b differs = elim (bytes_eq a b) as (λ (t : Bool). bytes_eq a b ≡ t
+    → bytes_eq a b ≡ false) [
+      | true ↦ λ is. absurd (differs ((bytes_eq-Decides a b).0 is))
+      | false ↦ λ is. is
+    ] refl
 
 -- no owner of these lines has this id
 others_differ : (id : ImageId) (lines : List OwnerFile) (owners : List Owner)
@@ -37,12 +46,12 @@ distinct [] (first ∷ owners) are own owner i is = elim are [ ]
 distinct (line ∷ lines) [] are own owner i is = elim are [ ]
 distinct (line ∷ lines) (first ∷ owners) are own owner zero is =
     let same : first ≡ owner = same_Some first owner is in
-    let found : same_id first.id owner.id ≡ true = bytes_eq-same first.id.0 owner.id.0
+    let found : same_id first.id owner.id ≡ true = bytes_same first.id.0 owner.id.0
     (ap (λ (o : Owner). o.id.0) same) in
     ap (λ b. cond b (Some first) (owner_of owners owner.id)) found ∙ is
 distinct (line ∷ lines) (first ∷ owners) are own owner (suc i) is =
     let new : IsNewId first.id lines = subst (λ d. IsNewId d lines) (sym are.1) own.0 in
-    let other : same_id first.id owner.id ≡ false = bytes_eq-differ first.id.0 owner.id.0
+    let other : same_id first.id owner.id ≡ false = bytes_differ first.id.0 owner.id.0
     (λ same. others_differ first.id lines owners are.2 new owner i is (sym same)) in
     ap (λ b. cond b (Some first) (owner_of owners owner.id)) other ∙ distinct lines owners are.2
     own.1 owner i is
