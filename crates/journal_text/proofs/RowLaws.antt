@@ -9,6 +9,7 @@ use Rattle.xom_base.specs.Hex.{IsHex, WritesHex, hex_of, hex_within}
 use Rattle.xom_base.specs.Lines.{Tells, with_words}
 use Rattle.xom_base.specs.Words.{words_of}
 use Rattle.xom_base.specs.Numbers.{IsDecimal, WritesBelow, WritesDecimal, decimal_below_of, number_below_of, numeral_of}
+use Rattle.xom_base.proofs.ByteLaws.{bytes_eq-same as is_word, same_bytes as same_word}
 use Rattle.xom_base.proofs.CutLaws.{option_map_some}
 use Rattle.xom_base.proofs.HexLaws.{hex_of-exact, hex_within-exact}
 use Rattle.xom_base.proofs.LineLaws.{Tells-words}
@@ -20,7 +21,6 @@ use Rattle.xom_base.specs.declared.event.Cause.TheVariants as cause
 use Rattle.xom_base.specs.declared.event.Rule.{Rule}
 use Rattle.xom_base.specs.declared.event.Rule.TheVariants as rule
 use Rattle.step_text.specs.StepFields.{fault_of, step_of_words}
-use Rattle.step_text.proofs.FieldLaws.{is_word, same_word}
 use Rattle.step_text.proofs.StepWords.{fault_of-exact, step_of-exact}
 use Rattle.journal_text.specs.JournalLines.{IsCause, IsInstalledBefore, IsPayload, IsRow, IsRule, JournalLine, accept_entry_of, cause_of, hash_entry_of, install_entry_of, installed_of, journal_step, kill_entry_of, last_behind, named_cause_of, named_entry_of, named_rule_of, next_install_of, out_entry_of, payload_of, row_of_entry, rule_of, seal_entry_of, slot_of_word, step_entry_of, stop_entry_of, trap_entry_of, with_last}
 
