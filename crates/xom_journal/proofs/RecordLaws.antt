@@ -10,7 +10,7 @@ use Rattle.xom_base.specs.declared.entry.Entry.{Entry}
 use Rattle.xom_base.specs.declared.entry.Entry.TheVariants as entry
 use Rattle.xom_journal.specs.declared.record.Record.{Record}
 use Rattle.xom_journal.specs.declared.record.Record.TheVariants as record_
-use Rattle.xom_journal.specs.Log.{Log, cost, log_with_entry}
+use Rattle.xom_journal.specs.Log.{cost, log_with_entry}
 use Rattle.xom_journal.specs.Records.{BlockExtends, HasTextAt, IsWithin, entry_at, part_of_block, payload, record_at}
 
 -- a payload within the bytes stays
@@ -169,7 +169,7 @@ text_added old new text at news here =
     record {
       within = omega (arith, here, n);
       same = ap (λ k. part_of_block k (length text) new) here
-      ∙ ap (part_of_block (length old) (length text)) news ∙ part_whole old text;
+          ∙ ap (part_of_block (length old) (length text)) news ∙ part_whole old text;
     }
 
 -- the record of a Hash whose text stands there
@@ -197,7 +197,7 @@ text_found bytes text rs i at count digest all here same =
     let inside : at + count ≤ length bytes = within.0 in
     let behind : length (drop at bytes) ≡ length bytes - at = length-drop at bytes in
     let size : length text ≡ count = sym (ap (λ (t : List ℕ). length t) same)
-      ∙ length-take-le count (drop at bytes) (omega arith) in
+    ∙ length-take-le count (drop at bytes) (omega arith) in
     record {
       within = omega arith;
       same = ap (λ n. part_of_block at n bytes) size ∙ same;

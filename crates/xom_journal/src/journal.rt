@@ -10,8 +10,8 @@ use std::alloc::Global;
 use std::marker::Model;
 use xom_base::{Entry, NoMemory, Rule};
 
-/// A list of entries that only grows. A step takes about 80 bytes of memory, and a seal or an accept as
-/// much and its payload. So does a hash, unless its text was hashed lately: then it takes no payload.
+/// A list of entries that only grows. An entry takes 88 bytes of memory, and a seal, an accept or a
+/// hash its payload besides. A hash whose text was hashed lately takes no payload.
 #[derive(Drop)]
 pub struct Journal {
     records: Vec<Record>,
@@ -83,7 +83,8 @@ impl Journal {
         }
     }
 
-    /// Adds a Hash of this text at the end. It takes no memory, and time linear in the text.
+    /// Adds a Hash of this text, of at most 260 bytes, with this digest, at the end. It takes no memory,
+    /// and time linear in the text.
     pub fn push_hash(&mut self, text: &[u8], digest: &[u8; 32])
         requires size { length text.now ≤ 260 }
         requires room { 80 + length text.now ≤ self.old.spare }
@@ -151,10 +152,12 @@ impl Journal {
         ensures { result ≡ option_and_then stop_rule_in (slice_get self.now.entries i) }
     {
         match self.records.get(i as usize) {
-            Some(Record::Stop {
-                install: _install,
-                rule,
-            }) => Some(*rule),
+            Some(
+                Record::Stop {
+                    install: _install,
+                    rule,
+                },
+            ) => Some(*rule),
             _ => None,
         }
     }

@@ -5,7 +5,7 @@ use crate::recent::RecentHashes;
 use crate::record::{Record, part};
 use xom_base::Entry;
 
-/// Where the text of this digest stands in the block. It is added, unless it is that of a recent Hash.
+/// Where the text of this digest stands in the block. It is added where no recent Hash has it.
 #[tactic(auto, using(crate::proofs::RecordLaws::text_added))]
 pub fn text_in(
     text: &[u8],
@@ -40,11 +40,13 @@ fn text_of(records: &[Record], number: u64, bytes: &[u8], text: &[u8]) -> Option
     ensures { IfSome result (λ at. HasTextAt at text.now bytes.now) }
 {
     match records.get(number as usize) {
-        Some(Record::Hash {
-            at,
-            preimage,
-            digest: _digest,
-        }) if part(bytes, *at, usize::from(*preimage)) == text => Some(*at),
+        Some(
+            Record::Hash {
+                at,
+                preimage,
+                digest: _digest,
+            },
+        ) if part(bytes, *at, usize::from(*preimage)) == text => Some(*at),
         _ => None,
     }
 }

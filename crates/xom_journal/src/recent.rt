@@ -1,5 +1,5 @@
-/// The numbers of Hash entries whose texts were added to the block last, one for each first byte of a digest.
-/// They say where to look, and nothing rests on them: whoever looks there compares the texts.
+/// For each first byte of a digest, the number of the Hash whose text was added to the block last. It
+/// says where to look, and nothing rests on it: whoever looks there compares the texts.
 #[derive(Drop)]
 pub struct RecentHashes {
     numbers: [u64; 256],

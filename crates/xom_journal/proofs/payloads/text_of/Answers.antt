@@ -11,5 +11,5 @@ returns-in-Some-Hash c =
     text_found c.args.bytes.now c.args.text.now records c.args.number c.in-Some-Hash.at
     c.in-Some-Hash.preimage c.in-Some-Hash._digest c.requires
     (slice_get_read records (length records) c.args.number c.in-Some-Hash.field-0.now refl
-      found.3.0 found.1 ∙ ap Some c.in-Some-Hash.field-0-is)
+    found.3.0 found.1 ∙ ap Some c.in-Some-Hash.field-0-is)
     (search rules)

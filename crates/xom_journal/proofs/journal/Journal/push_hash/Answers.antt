@@ -23,7 +23,7 @@ invariant_of-self c =
       search rules,
       search rules,
       within_pushed_as old.bytes.items bytes old.records.items _ _ c.self.invariant.2
-      c.text_in-at.ensures.items c.add_record.ensures.items
-      (hash_within bytes c.args.text.now c.args.digest.now c.text_in-at.result
-      c.text_in-at.ensures.stands c.requires.size),
+          c.text_in-at.ensures.items c.add_record.ensures.items
+          (hash_within bytes c.args.text.now c.args.digest.now c.text_in-at.result
+          c.text_in-at.ensures.stands c.requires.size),
     )

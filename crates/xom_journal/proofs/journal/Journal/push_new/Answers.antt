@@ -24,7 +24,7 @@ invariant_of-self c =
       search (rules, covers),
       search (rules, covers),
       within_pushed_as old.bytes.items bytes old.records.items _ _ c.self.invariant.2
-      (record { more = payload c.args.entry.now; items = c.add_payload.ensures.items })
-      c.add_record.ensures.items (within_added old.bytes.items bytes c.args.entry.now c.len-at.result
-      c.record_of.result c.add_payload.ensures.items (search rules) c.record_of.ensures.within),
+          (record { more = payload c.args.entry.now; items = c.add_payload.ensures.items })
+          c.add_record.ensures.items (within_added old.bytes.items bytes c.args.entry.now c.len-at.result
+          c.record_of.result c.add_payload.ensures.items (search rules) c.record_of.ensures.within),
     )
