@@ -1,5 +1,5 @@
 -- Verdicts that were found before, and one more.
-use Rattle.std.proofs.Common.{◌≡◌, ℕ, true, false, cond, List, [], ◌∷◌, Some, refl, sym, ap, subst, ◌∙◌}
+use Rattle.std.proofs.Common.{◌≡◌, ℕ, true, false, cond, List, [], ◌∷◌, Some, refl, sym, ap, subst, ◌∙◌, arith}
 use Rattle.std.specs.Prelude.{◌==◌, ◌&&◌, IfSome, if◌then◌else◌}
 use Rattle.std.specs.BTreeMap.{BTreeMap, Updates, get}
 use Rattle.std.specs.Ordering.{is_eq, nat_cmp, ordering_then}
@@ -18,8 +18,11 @@ use Rattle.trace_judge.specs.declared.verdicts.Verdicts.{Verdicts}
 use Rattle.trace_judge.specs.Judgement.{verdict_by}
 use Rattle.trace_judge.specs.Trails.{Told}
 use Rattle.trace_judge.specs.Verdicts.{AreVerdicts, found_before, pair_cmp}
-use Rattle.trace_judge.proofs.Firsts.{is_eq-nat}
 use Rattle.trace_judge.proofs.Bytes.{same_bytes}
+
+-- equal numbers compare as equal
+is_eq-nat : (n m : ℕ) → is_eq (nat_cmp n m) ≡ (n == m)
+is_eq-nat n m = Prim.grind (arith)
 
 is_eq-then : (a b : Ordering) → is_eq (ordering_then a b) ≡ (is_eq a && is_eq b)
 is_eq-then Less b = refl

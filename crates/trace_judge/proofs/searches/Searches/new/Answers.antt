@@ -4,7 +4,7 @@ use Rattle.trace_judge.proofs.searches.Searches.new.Goals as goal
 
 pub returns : goal.returns
 returns c = record {
-  sealings = c.in_ok-new.ensures;
+  sealings = c.in_ok-sealings.ensures;
   counted = refl;
   forgeries =
       c.new-2.ensures _;
