@@ -76,6 +76,14 @@ module _ (sessions : List Session) (slot : ℕ) (ready : Bool) (sealed : List �
   read-hashes [] = refl
   read-hashes (text ∷ texts) = read-hashes texts
 
+  -- what came behind entries is read off the rest
+  pub read-behind : (before after added : List Entry) (told : List Signal)
+      → after ≡ before ++ added → Reads added told → Reads (drop (length before) after) told
+  read-behind before after added told is reads =
+      ap (λ es. signals_of_entries sessions slot ready sealed (drop (length before) es)) is
+      ∙ ap (λ es. signals_of_entries sessions slot ready sealed es) (drop-append_seam before added)
+      ∙ reads
+
   -- a Seal of the line that is known to be sealed
   pub read-line : (key : List ℕ) (name : LineName) (ct : List ℕ) (at : SlotLine)
       → sealed (line_message name ct) ≡ at → IsLineOf (session_at sessions at.slot) at.line name

@@ -521,7 +521,7 @@ module _ (v : Versions) (raised : Raised) (law : RaisesInTheOpen v raised) (befo
 
   -- ---- A private access of the slot: where it doesn't stop the slot, the slot is live still
 
-  abbrev IfGoing : CoreState × Reach → Type 0
+  abbrev pub IfGoing : CoreState × Reach → Type 0
   IfGoing (core, reach.Ready place) = IsLive core slot
   IfGoing (core, reach.PageFault page) = IsLive core slot
   IfGoing (core, reach.Stopped why) = Unit {0}

@@ -16,11 +16,11 @@ use Rattle.xom_versions.specs.Chip.{chip, chip_raised}
 use Rattle.xom_model.specs.declared.outcome.Outcome.TheVariants as outcome
 use Rattle.xom_model.specs.State.{power_on}
 use Rattle.xom_model.specs.Seen.{Seen, seen_of, view_of}
-use Rattle.xom_seen.specs.Emission.{Gives, Made, OneCell}
+use Rattle.xom_seen.specs.Emission.{Made, OneCell, line_named, signals_of_entries}
 use Rattle.xom_seen.specs.SeenNext.{after_signal, seen_next, sight_in, sight_slot}
 
 -- an instruction that writes 77 to $3 and stores it shows the name of $3 and no value
-made : Gives none_held true
+made : signals_of_entries none_held 1 true (line_named none_held 1)
     (entry.Step 5 (record {
       pc = 64;
       npc = 68;
@@ -31,8 +31,8 @@ made : Gives none_held true
       released = released.Nothing;
       end =
           ended.Goes;
-    }))
-    (Made (OneCell 3) released.Nothing ended.Goes true ∷ [])
+    }) ∷ [])
+    ≡ Made (OneCell 3) released.Nothing ended.Goes true ∷ []
 made = refl
 
 -- what is seen at power-on, with no RAM
