@@ -1,5 +1,6 @@
 -- An event of a guest shows what it changed by its entries and its outcome.
 use Rattle.std.proofs.Common.{◌≡◌, ℕ, ◌+◌, ◌/◌, ◌<◌, ◌==◌, Bool, true, false, cond, List, [], ◌∷◌, ◌++◌, drop, length, map, refl, sym, ◌∙◌, ap, subst, slice_set, Option, Some, None, Result, Ok, Err}
+use Rattle.std.specs.Prelude.{unwrap_or}
 use Rattle.std.proofs.lemmas.List.{map-set, get_or-set_same, length-set, append_assoc, append-nil}
 use Rattle.std.proofs.lemmas.Bool.{cond_both}
 use Rattle.xom_base.specs.declared.entry.Entry.{Entry}
@@ -28,7 +29,6 @@ use Rattle.xom_model.specs.State.{CoreState, line_of_address, session_of}
 use Rattle.xom_model.specs.Access.{access, without_guest}
 use Rattle.xom_model.specs.Guest.{address_in, after_effect, after_exit, after_retirement, after_step, after_trap, code_reached, data_of, data_reached, guest, mask_after, received_by, retirement, session_after_step, word_in, word_loaded, word_tried}
 use Rattle.xom_model.specs.Holds.{IsLive}
-use Rattle.xom_model.specs.Touched.{slot_or_none}
 use Rattle.xom_model.specs.Seen.{shown_cell, shown_slot}
 use Rattle.xom_seen.specs.Emission.{Signal, SlotLine, code_line, core_after_fetch, data_address, data_line, is_ready, line_pushed_out, signals_of_entries, signals_of_guest}
 use Rattle.xom_seen.specs.SealOwners.{AreToldOf, GiveAll}
@@ -285,7 +285,7 @@ module _ (v : Versions) (raised : Raised) (law : RaisesInTheOpen v raised) (befo
     abbrev IsOut : CoreState → Option ℕ → Type 0
     IsOut core address =
         (message : List ℕ)
-        → whose message ≡ line_pushed_out core (line_of_address (slot_or_none address))
+        → whose message ≡ line_pushed_out core (line_of_address (unwrap_or address 0))
 
     comes_wish : (core : CoreState) (effect : Effect) (address : Option ℕ) → IsLive core slot
         → IsOut core address → Comes core (data_of v core slot interrupt effect address)
@@ -319,7 +319,7 @@ module _ (v : Versions) (raised : Raised) (law : RaisesInTheOpen v raised) (core
     (slot : ℕ) (some : (slot == 0) ≡ false) (low : slot < 17) (interrupt : Bool)
     (live : IsLive core slot) where
   abbrev code : ℕ
-  code = code_line v core slot
+  code = code_line core slot
 
   abbrev fetched : CoreState × Reach
   fetched = access v core slot code

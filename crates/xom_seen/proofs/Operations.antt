@@ -523,7 +523,7 @@ module _ (v : Versions) (raised : Raised) (law : RaisesInTheOpen v raised) (befo
       (λ (passed : Passes (unmap_tests core slot page)).
       does_unmapped slot page (after_flush v slot 128 (128 * page) core)
       (shows_flushed v raised law before ready slot 0 (line_named before.sessions slot) 128
-      (128 * page) core (few page passed.2.0) (λ message. refl)))
+      (128 * page) core (few page passed.1.1.0) (λ message. refl)))
     where
       few : (page : ℕ) → nat_le 256 page ≡ false → 128 * page + 128 ≤ 2 ^ 32
       few page below = let low : page < 256 = grind (arith, nat_tests) in omega arith

@@ -1,6 +1,6 @@
 -- What an event emits: all that leaves the processor with it and isn't a function of what is seen
 -- of the machine. It is read off the entries that the event added.
-use Rattle.std.specs.Prelude.{ℕ, ◌+◌, ◌==◌, ◌&&◌, Bool, List, ◌++◌, Option, Some, None, Result, Ok, Err, drop, take, length, position, if◌then◌else◌}
+use Rattle.std.specs.Prelude.{ℕ, ◌==◌, ◌&&◌, Bool, List, ◌++◌, Option, Some, None, Result, Ok, Err, drop, take, length, position, unwrap_or, if◌then◌else◌}
 use Rattle.std.specs.Int.{w32, from_be_bytes}
 use Rattle.std.specs.List.{filter_map}
 use Rattle.xom_base.specs.declared.entry.Entry.{Entry}
@@ -68,7 +68,7 @@ pub record SlotLine : Type 0 where
 -- an image, and else behind kind, boot and install.
 abbrev pub message_from_line : Session → List ℕ → List ℕ
 message_from_line s message =
-    if kind_of_text message == image_line_kind then drop (1 + length s.id.0) message
+    if kind_of_text message == image_line_kind then drop (length s.id.0) (drop 1 message)
     else drop 17 message
 
 -- its ciphertext: behind the number of the line, or behind that and the version
@@ -140,16 +140,23 @@ line_pushed_out core line =
 abbrev pub is_ready : Session → Bool
 is_ready s = is_signal_ready s.handler s.saved
 
+-- the signals of an event but a guest's
+abbrev pub signals_of_others : CoreState → ℕ → CoreState → List Signal
+signals_of_others core slot new =
+    signals_of_entries core.sessions slot (is_ready (session_of new slot))
+    (line_named core.sessions slot) (drop (length core.entries) new.entries)
+
+-- the line of a guest's instruction
+abbrev pub code_line : CoreState → ℕ → ℕ
+code_line core slot = line_of_address (session_of core slot).pc
+
 -- the address that an instruction reads or writes; where there is none, nothing is brought in
 abbrev pub data_address : Result Effect OwnFault → Option ℕ
 data_address (Ok effect) = address_in effect.wish
 data_address (Err why) = None
 
 module _ (v : Versions) where
-  -- the line of a guest's instruction, and the fetch
-  abbrev pub code_line : CoreState → ℕ → ℕ
-  code_line core slot = line_of_address (session_of core slot).pc
-
+  -- the core after the fetch of a guest's event
   abbrev pub core_after_fetch : CoreState → ℕ → CoreState
   core_after_fetch core slot =
       if is_code (session_of core slot).pc then (access v core slot (code_line core slot)).0 else core
@@ -158,8 +165,8 @@ module _ (v : Versions) where
   abbrev pub data_line : ℕ → CoreState × Reach → ℕ
   data_line slot (core, reach.Ready place) =
       line_of_address
-      (slot_or_none (data_address (word_tried v core slot
-      (word_in (way_at core.ways place).bytes (session_of core slot).pc))))
+      (unwrap_or (data_address (word_tried v core slot
+      (word_in (way_at core.ways place).bytes (session_of core slot).pc))) 0)
   data_line slot (core, reach.PageFault page) = 0
   data_line slot (core, reach.Stopped why) = 0
 
@@ -175,12 +182,6 @@ module _ (v : Versions) where
       (λ message. line_pushed_out fetched
       (data_line slot (access v core slot (code_line core slot))))
       (drop (length fetched.entries) new.entries)
-
-  -- every other one
-  abbrev pub signals_of_others : CoreState → ℕ → CoreState → List Signal
-  signals_of_others core slot new =
-      signals_of_entries core.sessions slot (is_ready (session_of new slot))
-      (line_named core.sessions slot) (drop (length core.entries) new.entries)
 
   abbrev pub signals_of_event : Record → Event → Record → List Signal
   signals_of_event r (event.Guest interrupt) new =
