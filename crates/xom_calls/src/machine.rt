@@ -191,6 +191,9 @@ fn a_debugger_shows_a_run(rt: HostRuntime) -> Result<(), Fail> {
         &commands,
         &mut chunk,
     )?;
-    assert!(rt; text.as_slice() == b"1 do install\n2 do map\n3 do enter\nslot 1 Running epoch 0\n00000000\n$9 null 0000000c\n".as_slice());
+    assert!(rt;
+        text.as_slice()
+            == b"1 do install\n2 do map\n3 do enter\nslot 1 Running epoch 0\n00000000\n$9 null 0000000c\n".as_slice()
+    );
     Ok(())
 }

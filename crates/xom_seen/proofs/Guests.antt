@@ -339,10 +339,10 @@ module _ (v : Versions) (raised : Raised) (law : RaisesInTheOpen v raised) (core
 
   -- the fetch shows what it changed, and so does what follows
   pub record Fetches (ready : Bool) (mid : CoreState) (result : CoreState × Option Cause) : Type 0
-      where
-    pub shows : Shows v raised law core ready slot 0 of_code core mid
-    pub ends : Ends v raised law core ready slot some low
-        (λ message. line_pushed_out mid (data_line v slot fetched)) mid result.0 result.1
+    where
+      pub shows : Shows v raised law core ready slot 0 of_code core mid
+      pub ends : Ends v raised law core ready slot some low
+          (λ message. line_pushed_out mid (data_line v slot fetched)) mid result.0 result.1
 
   fetches : (ready : Bool) (b : Bool) → is_code (session_of core slot).pc ≡ b
       → ready ≡ is_ready_after (cond b (code_reached v slot interrupt fetched)

@@ -26,7 +26,7 @@ use Rattle.xom_model.specs.Seen.{Seen, seen_of, shown_slot, view_of}
 use Rattle.xom_model.specs.Touched.{named_in, slot_of_event, slot_of_op as slot_named, slot_or_none}
 use Rattle.xom_model.proofs.Turns.{ran_on-core, running-runs}
 use Rattle.xom_seen.specs.Emission.{Emission, Signal, is_ready, line_named, signals_of_event, signals_of_guest, signals_of_others}
-use Rattle.xom_seen.specs.SeenNext.{Sight, after_signals, counted_seen, guest_seen, left_seen, null_seen, operated_seen, running_seen, seal_address, seen_next, sight_in, with_sight}
+use Rattle.xom_seen.specs.SeenNext.{Sight, after_signals, counted_seen, guest_seen, left_seen, null_seen, operated_seen, running_seen, seen_next, sight_in, with_sight}
 use Rattle.xom_seen.specs.NoWayOut.{IsSettled, NoWayOut, SameSight, emission_of}
 use Rattle.xom_seen.specs.SealOwners.{AreToldOf, EventsTellOwners, GiveAll}
 use Rattle.xom_seen.proofs.Sights.{live_within, sight_of}

@@ -37,7 +37,7 @@ use Rattle.xom_model.specs.Operation.{after_install, after_kill, after_reopening
 use Rattle.xom_model.specs.Seen.{shown_cell, shown_slot}
 use Rattle.xom_model.specs.Touched.{slot_of_op as slot_named}
 use Rattle.xom_model.proofs.WalkEvents.{good_slot, paused_live, slot_from}
-use Rattle.xom_seen.specs.Emission.{Made, RegisterSealed, Signal, SlotLine, is_ready, line_named, names_of}
+use Rattle.xom_seen.specs.Emission.{Made, RegisterSealed, Signal, is_ready, line_named, names_of}
 use Rattle.xom_seen.specs.SealOwners.{GiveAll}
 use Rattle.xom_seen.specs.SeenNext.{Sight, after_signal, after_signals, done_seen, installed_slot, seal_address, sight_slot, with_slot}
 use Rattle.xom_seen.proofs.Sights.{area_if, areas-session, areas-set, areas_of, live_within, shown_hidden, sight_of, slot_at-is}
