@@ -10,7 +10,7 @@ ghost use Rattle.xom_model.specs.Operation.{operation};
 ghost use Rattle.xom_model.specs.Seen.{view_of};
 ghost use Rattle.xom_model.specs.State.{power_on, ram_holds_range as holds_in};
 ghost use Rattle.xom_model.specs.Stops.{StopsAreLast, StopsHold};
-ghost use Rattle.xom_seen.specs.NoWayOut.{GivesNoMoreAway};
+ghost use Rattle.xom_seen.specs.NoWayOut.{GivesNoMoreAway, IsSettled};
 ghost use Rattle.xom_machine.specs.Kept.{AddsNoPadTwice, FaultsAreAlone, KeepsHolding, LeavesOthers, LeavesRefused, TrapsAreQuiet};
 ghost use Rattle.xom_machine.specs.Whole.{with_loaded};
 
@@ -155,8 +155,8 @@ impl<V: VersionStore> Machine<V> {
         ensures pads { AddsNoPadTwice V.Stands self.old.state self.new.state }
         ensures faults { FaultsAreAlone V.Stands self.old.state self.new.state result }
 
-        // What is seen of the machine afterwards is told by what was seen before, the event, its
-        // bytes and what it emits, whether the journal is honest or not.
+        // What is seen of the machine afterwards is a function of what was seen before, the event,
+        // its bytes and what it emits, whether the journal is honest or not.
         ensures seen { GivesNoMoreAway V.versions V.raised_ram self.old.state event chunk.now self.new.state result }
         ensures refused { LeavesRefused self.old.state event self.new.state }
         ensures traps { TrapsAreQuiet self.old.state event self.new.state result }
@@ -196,12 +196,16 @@ impl<V: VersionStore> Machine<V> {
     }
 
     /// How many events were made, below 2^63.
+    #[tactic(auto, using(xom_seen::proofs::Settled::stops_settle))]
     pub fn events(&self) -> u64
         ensures count { result ≡ self.now.state.events }
         ensures few { result < 2 ^ 63 }
         ensures counts { AreCounted self.now.state.core result }
         ensures stops { StopsHold self.now.state.core }
         ensures stores { length self.now.state.core.stores ≡ 17 }
+
+        // All that the law on what is seen needs of a machine.
+        ensures settled { IsSettled self.now.state.core }
     {
         self.events
     }

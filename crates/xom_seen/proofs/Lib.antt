@@ -1,4 +1,5 @@
 pub mod Sights
+pub mod Readings
 pub mod Shows
 pub mod Guests
 pub mod Operations

@@ -1,9 +1,10 @@
 -- An operation shows what it changed by its entries and its status.
-use Rattle.std.proofs.Common.{◌≡◌, ℕ, ◌+◌, ◌*◌, ◌<◌, ◌≤◌, ◌==◌, not, Bool, true, false, cond, if◌then◌else◌, List, [], ◌∷◌, ◌++◌, length, map, inr, refl, sym, ◌∙◌, ap, subst, arith, slice_set, slice_index_or, Option, Some, None}
+use Rattle.std.proofs.Common.{◌≡◌, ℕ, ◌+◌, ◌*◌, ◌<◌, ◌≤◌, ◌^◌, ◌==◌, not, Bool, true, false, cond, if◌then◌else◌, List, [], ◌∷◌, ◌++◌, length, map, inr, refl, sym, ◌∙◌, ap, subst, arith, slice_set, slice_index_or, Option, Some, None}
 use Rattle.std.specs.Prelude.{nat_le}
 use Rattle.std.specs.Str.{bytes_eq}
 use Rattle.std.proofs.lemmas.List.{map-set, get_or-set_same, get_or-set_other, length-map, length-set, set-set, append_assoc, append-nil}
 use Rattle.std.proofs.lemmas.Bool.{cond_both, ne_eqb}
+use Rattle.std.proofs.lemmas.Bool.Decides.{nat_tests}
 use Rattle.xom_base.specs.declared.entry.Entry.{Entry}
 use Rattle.xom_base.specs.declared.entry.Entry.TheVariants as entry
 use Rattle.xom_base.specs.declared.event.Op.{Op}
@@ -13,6 +14,7 @@ use Rattle.xom_base.specs.declared.event.Rule.TheVariants as rule
 use Rattle.xom_base.specs.declared.step.Step.{Step}
 use Rattle.xom_seal.specs.declared.envelope.Unwrapped.{Unwrapped}
 use Rattle.xom_seal.specs.Envelopes.{contents_of, envelope_contents, envelope_tag, lines_in, tag_in}
+use Rattle.xom_seal.specs.Messages.{register_message}
 use Rattle.xom_seal.specs.Sealing.{register_tag}
 use Rattle.xom_seal.specs.declared.register.SealedReg.{SealedReg}
 use Rattle.page_map.specs.Pages.{with_page}
@@ -35,9 +37,11 @@ use Rattle.xom_model.specs.Operation.{after_install, after_kill, after_reopening
 use Rattle.xom_model.specs.Seen.{shown_cell, shown_slot}
 use Rattle.xom_model.specs.Touched.{slot_of_op as slot_named}
 use Rattle.xom_model.proofs.WalkEvents.{good_slot, paused_live, slot_from}
-use Rattle.xom_seen.specs.Emission.{GiveAll, Made, RegisterSealed, Signal, is_ready, names_of}
+use Rattle.xom_seen.specs.Emission.{Made, RegisterSealed, Signal, is_ready, line_named, names_of}
+use Rattle.xom_seen.specs.SealOwners.{GiveAll}
 use Rattle.xom_seen.specs.SeenNext.{Sight, after_signal, after_signals, done_seen, installed_slot, seal_address, sight_slot, with_slot}
 use Rattle.xom_seen.proofs.Sights.{area_if, areas-session, areas-set, areas_of, live_within, shown_hidden, sight_of, slot_at-is}
+use Rattle.xom_seen.proofs.Readings.{Reads, read-hashes}
 use Rattle.xom_seen.proofs.Shows.{Knows, Shows, give-hashes, give-one, removed-is, shows_flushed, shows_stop, stepped-is}
 
 -- none of the tests holds
@@ -75,10 +79,16 @@ module _ (v : Versions) (raised : Raised) (law : RaisesInTheOpen v raised) (befo
       after_signals v raised (slot_named op) (seal_address op) (sight_of base) signals
 
   abbrev Knew : CoreState → Type 0
-  Knew core = Knows v raised law before ready (slot_named op) (seal_address op) core
+  Knew core = Knows before core
+
+  abbrev ReadSo : List Entry → List Signal → Type 0
+  ReadSo entries told =
+      Reads before.sessions (slot_named op) ready (line_named before.sessions (slot_named op))
+      entries told
 
   abbrev Shown : CoreState → CoreState → Type 0
-  Shown base new = Shows v raised law before ready (slot_named op) (seal_address op) base new
+  Shown base new = Shows v raised law before ready (slot_named op) (seal_address op)
+      (line_named before.sessions (slot_named op)) base new
 
   abbrev after_done : Sight → Sight
   after_done s = done_seen v raised s op
@@ -89,6 +99,7 @@ module _ (v : Versions) (raised : Raised) (law : RaisesInTheOpen v raised) (befo
     pub signals : List Signal
     pub entries : after.0.entries ≡ base.entries ++ added
     pub gives : Knew base → GiveAll before.sessions ready added signals
+    pub reads : Knew base → ReadSo added signals
     pub sight : Knew base
         → sight_of after.0 ≡ (if after.1 == 0 then after_done (by_signals base signals)
         else by_signals base signals)
@@ -101,6 +112,7 @@ module _ (v : Versions) (raised : Raised) (law : RaisesInTheOpen v raised) (befo
     entries =
         sym (append-nil core.entries);
     gives = λ _. refl;
+    reads = λ _. refl;
     sight = λ _. rw not_done refl;
   }
 
@@ -129,6 +141,7 @@ module _ (v : Versions) (raised : Raised) (law : RaisesInTheOpen v raised) (befo
     signals = shows.tells.signals;
     entries = same ∙ shows.tells.entries;
     gives = shows.tells.gives;
+    reads = shows.tells.reads;
     sight = λ knows. is ∙ ap after_done (shows.tells.sight knows);
   }
 
@@ -141,19 +154,22 @@ module _ (v : Versions) (raised : Raised) (law : RaisesInTheOpen v raised) (befo
         entries =
             shows.tells.entries;
         gives = shows.tells.gives;
+        reads = shows.tells.reads;
         sight = shows.tells.sight;
       }
 
   -- with entries that show nothing
   does_quiet : (base new : CoreState) (added : List Entry) → new.entries ≡ base.entries ++ added
-      → GiveAll before.sessions ready added [] → sight_of new ≡ after_done (sight_of base)
+      → GiveAll before.sessions ready added [] → ReadSo added []
+      → sight_of new ≡ after_done (sight_of base)
       → Does base (success new)
-  does_quiet base new added entries quiet is = record {
+  does_quiet base new added entries quiet silent is = record {
     added = added;
     signals = [];
     entries =
         entries;
     gives = λ _. quiet;
+    reads = λ _. silent;
     sight = λ _. is;
   }
 
@@ -207,7 +223,7 @@ module _ (v : Versions) (raised : Raised) (law : RaisesInTheOpen v raised) (befo
   does_enter slot state.Free is = refuse (Enter slot) 1 refl
   does_enter slot state.Fresh is = λ _.
       does_quiet v raised law before ready (Enter slot) core _ [] (sym (append-nil core.entries))
-      refl (running-is slot (session_after_enter (session_of core slot)) (ap is_live is) refl refl)
+      refl refl (running-is slot (session_after_enter (session_of core slot)) (ap is_live is) refl refl)
   does_enter slot state.Running is = refuse (Enter slot) 2 refl
   does_enter slot state.Paused is = refuse (Enter slot) 2 refl
   does_enter slot state.Ended is = refuse (Enter slot) 2 refl
@@ -265,6 +281,7 @@ module _ (v : Versions) (raised : Raised) (law : RaisesInTheOpen v raised) (befo
       entries = refl;
       gives = λ _. give-one before.sessions ready (entry.Step (session_of now slot).install step)
           (shown_step ∷ []) refl;
+      reads = λ _. refl;
       sight = λ _.
           let within : slot < length now.sessions =
           subst (λ n. slot < n)
@@ -272,7 +289,7 @@ module _ (v : Versions) (raised : Raised) (law : RaisesInTheOpen v raised) (befo
           (live_within core slot alive) in
           let is_ready_now : ready ≡ is_ready new_session =
           so ∙ ap is_ready (get_or-set_same now.sessions slot new_session free within) in
-          stepped-is v raised law before ready slot 0 now 0 new_session step some
+          stepped-is v raised law before ready slot 0 (line_named before.sessions slot) now 0 new_session step some
           (ap (λ (s : Session). is_live s.state) here) refl
           (ap (λ b. let s : SlotView = record (shown_slot (session_of now slot)) {
             mask =
@@ -287,14 +304,14 @@ module _ (v : Versions) (raised : Raised) (law : RaisesInTheOpen v raised) (befo
     does_signal =
         cond_both (signal == 0) now (after_delivery now slot signal) (λ new. Done op (success new))
         (λ _ _. does_quiet v raised law before ready op core now [] (sym (append-nil core.entries))
-        refl now-is)
+        refl refl now-is)
         (λ _. does_delivered)
 
     does_go_on : (lost : Option ℕ) → Done op (resume_or_stop core slot signal lost)
     does_go_on None = does_signal
     does_go_on (Some reg) =
         λ _. does_stop v raised law before ready op core _ (shows_stop v raised law before ready
-        slot 0 core slot (rule.RegisterMissing reg) (λ _. alive))
+        slot 0 (line_named before.sessions slot) core slot (rule.RegisterMissing reg) (λ _. alive))
 
     does_paused : Done op (resume_paused core slot signal)
     does_paused =
@@ -331,7 +348,7 @@ module _ (v : Versions) (raised : Raised) (law : RaisesInTheOpen v raised) (befo
     shown_seal = RegisterSealed slot reg sealed.ct sealed.tag
 
     does_saved : Done (Save slot reg address) (success (after_save core slot reg address))
-    unfolding after_save register_tag sight_of
+    unfolding after_save register_message register_tag sight_of
     does_saved _ = record {
       added = seal ∷ [];
       signals = shown_seal ∷ [];
@@ -347,6 +364,7 @@ module _ (v : Versions) (raised : Raised) (law : RaisesInTheOpen v raised) (befo
             text = refl;
             given = refl;
           }));
+      reads = λ _. refl;
       sight = λ _. refl;
     }
 
@@ -364,7 +382,7 @@ module _ (v : Versions) (raised : Raised) (law : RaisesInTheOpen v raised) (befo
   unfolding after_restore sight_of
   does_reopened slot reg address some live None = λ _.
       does_stop v raised law before ready (Restore slot reg address) core
-      _ (shows_stop v raised law before ready slot 0 core slot (rule.RegisterTag reg) (λ _. live))
+      _ (shows_stop v raised law before ready slot 0 (line_named before.sessions slot) core slot (rule.RegisterTag reg) (λ _. live))
   does_reopened slot reg address some live (Some value) = λ _.
       let cells : List Cell → Sight = λ cs. record {
         cells = cs;
@@ -380,7 +398,7 @@ module _ (v : Versions) (raised : Raised) (law : RaisesInTheOpen v raised) (befo
       _ (reg_accept_entry (who_of core slot) (epoch_of core slot) reg
       (saved_at core.ram address).ct address ∷ []) refl
       (give-one before.sessions ready (reg_accept_entry (who_of core slot) (epoch_of core slot) reg
-      (saved_at core.ram address).ct address) [] refl)
+      (saved_at core.ram address).ct address) [] refl) refl
       (ap cells (map-set shown_cell core.cells reg _
       ∙ ap (λ c. slice_set (map shown_cell core.cells) reg c) (shown_hidden slot value some)))
 
@@ -454,6 +472,7 @@ module _ (v : Versions) (raised : Raised) (law : RaisesInTheOpen v raised) (befo
         (_ ∷ _ ∷ map hash_entry texts) (append_assoc core.entries (_ ∷ _ ∷ [])
         (map hash_entry texts))
         ([], [], refl, ([], [], refl, give-hashes before.sessions ready texts, refl), refl)
+        (read-hashes before.sessions slot ready (line_named before.sessions slot) texts)
         installed-is
 
   does_unwrap : (slot place area : ℕ) → slot < 17 → (opens : Option Unwrapped)
@@ -485,10 +504,10 @@ module _ (v : Versions) (raised : Raised) (law : RaisesInTheOpen v raised) (befo
       (success (record core { pages = with_page core.pages slot page (Some frame) }))
       (refl, (refl, (refl, (refl, (refl, tt)))))
       (λ _ _. does_quiet v raised law before ready (Map slot page frame) core _ []
-      (sym (append-nil core.entries)) refl refl)
+      (sym (append-nil core.entries)) refl refl refl)
 
   does_unmapped : (slot page : ℕ) (result : CoreState × Option Rule)
-      → Shows v raised law before ready slot 0 core result.0
+      → Shows v raised law before ready slot 0 (line_named before.sessions slot) core result.0
       → Done (Unmap slot page) (after_unmap v slot page result)
   unfolding sight_of
   does_unmapped slot page (mid, None) shows =
@@ -501,14 +520,19 @@ module _ (v : Versions) (raised : Raised) (law : RaisesInTheOpen v raised) (befo
       (unmap_tests core slot page)
       (after_unmap v slot page (after_flush v slot 128 (128 * page) core))
       (refl, (refl, (refl, (refl, tt))))
-      (λ _. does_unmapped slot page (after_flush v slot 128 (128 * page) core)
-      (shows_flushed v raised law before ready slot 0 128 (128 * page) core))
+      (λ (passed : Passes (unmap_tests core slot page)).
+      does_unmapped slot page (after_flush v slot 128 (128 * page) core)
+      (shows_flushed v raised law before ready slot 0 (line_named before.sessions slot) 128
+      (128 * page) core (few page passed.1.1.0) (λ message. refl)))
+    where
+      few : (page : ℕ) → nat_le 256 page ≡ false → 128 * page + 128 ≤ 2 ^ 32
+      few page below = let low : page < 256 = grind (arith, nat_tests) in omega arith
 
   killed-is : (slot : ℕ) → slot < 17
       → sight_of (after_kill v core slot) ≡ done_seen v raised (sight_of core) (Kill slot)
   unfolding sight_of
   killed-is slot low =
-      removed-is v raised law before ready slot 0 core slot free (omega arith) low refl
+      removed-is v raised law before ready slot 0 (line_named before.sessions slot) core slot free (omega arith) low refl
 
   does_kill : (slot : ℕ) → Done (Kill slot) (kill v core slot)
   unfolding without_guest
@@ -518,7 +542,7 @@ module _ (v : Versions) (raised : Raised) (law : RaisesInTheOpen v raised) (befo
       let most : slot ≤ 16 = (good_slot core slot passed.0).0.1 in
       does_quiet v raised law before ready (Kill slot) core (after_kill v core slot)
       (entry.Kill (session_of core slot).install ∷ []) refl
-      (give-one before.sessions ready (entry.Kill (session_of core slot).install) [] refl)
+      (give-one before.sessions ready (entry.Kill (session_of core slot).install) [] refl) refl
       (killed-is slot (omega arith)))
 
   -- ---- The others
@@ -539,7 +563,7 @@ module _ (v : Versions) (raised : Raised) (law : RaisesInTheOpen v raised) (befo
       cond_both (is_cell reg) (success (with_cells core (with_cell core.cells reg value 0)))
       (refusal_of core 7) (λ after. Done (SetReg reg value) after)
       (λ _ _. does_quiet v raised law before ready (SetReg reg value) core _ []
-      (sym (append-nil core.entries)) refl (ap cells (map-set shown_cell core.cells reg _)))
+      (sym (append-nil core.entries)) refl refl (ap cells (map-set shown_cell core.cells reg _)))
       (λ _. refuse (SetReg reg value) 7 refl)
 
   by_slot : (op : Op) (slot : ℕ) (deed : CoreState × ℕ) → ((slot == 0) ≡ false → Done op deed)
@@ -559,7 +583,7 @@ module _ (v : Versions) (raised : Raised) (law : RaisesInTheOpen v raised) (befo
   does_operation (SetReg reg value) = does_set reg value
   does_operation Halt =
       λ _. does_quiet v raised law before ready Halt core core [] (sym (append-nil core.entries))
-      refl refl
+      refl refl refl
   does_operation (Install slot place area) = does_install slot place area
   does_operation (Save slot reg address) = does_save slot reg address
   does_operation (Restore slot reg address) = does_restore slot reg address
@@ -568,4 +592,4 @@ module _ (v : Versions) (raised : Raised) (law : RaisesInTheOpen v raised) (befo
   does_operation (Kill slot) = does_kill slot
   does_operation (Out byte) =
       λ _. does_quiet v raised law before ready (Out byte) core _ (entry.Out byte ∷ []) refl
-      (give-one before.sessions ready (entry.Out byte) [] refl) refl
+      (give-one before.sessions ready (entry.Out byte) [] refl) refl refl

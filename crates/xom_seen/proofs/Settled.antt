@@ -1,25 +1,44 @@
 -- What the law needs is true of every machine.
-use Rattle.std.proofs.Common.{◌≡◌, ℕ, length, refl, ◌∙◌, length-set}
+use Rattle.std.proofs.Common.{◌≡◌, ℕ, true, false, length, refl, ◌∙◌, length-set}
 use Rattle.xom_base.specs.declared.event.Rule.{Rule}
 use Rattle.xom_seal.specs.declared.envelope.Unwrapped.{Unwrapped}
+use Rattle.session_table.specs.declared.session.SlotState.{SlotState}
+use Rattle.session_table.specs.declared.session.SlotState.TheVariants as state
+use Rattle.session_table.specs.Sessions.{is_live}
 use Rattle.line_cache.specs.declared.way.Way.{Way}
 use Rattle.line_cache.specs.Ways.{way_at}
 use Rattle.xom_versions.specs.declared.store.Torn.{Torn}
 use Rattle.xom_versions.specs.Versions.{Versions}
-use Rattle.xom_model.specs.State.{CoreState}
+use Rattle.xom_model.specs.State.{CoreState, session_of}
 use Rattle.xom_model.specs.Access.{after_raise, after_seal, after_stop, without_guest}
 use Rattle.xom_model.specs.Guest.{after_exit}
-use Rattle.xom_model.specs.Operation.{after_install, after_kill}
+use Rattle.xom_model.specs.Operation.{after_install, after_kill, is_free_state}
+use Rattle.xom_model.specs.Holds.{IsLive}
+use Rattle.xom_model.specs.Stops.{IsTaken}
 use Rattle.xom_model.specs.Touched.{slot_of_event}
 use Rattle.xom_model.proofs.Walk.{Ends, Parts, torn_off, written_back}
 use Rattle.xom_model.proofs.WalkEvents.{Deeds, walk_event}
 use Rattle.xom_seen.specs.NoWayOut.{StopsSettle, StoresStay}
+
+-- a live slot is taken
+live-taken : (core : CoreState) (slot : ℕ) → IsLive core slot → IsTaken core slot
+live-taken core slot live = each (session_of core slot).state live
+  where
+    each : (s : SlotState) → is_live s ≡ true → is_free_state s ≡ false
+    each state.Free live = absurd (cc)
+    each state.Fresh live = refl
+    each state.Running live = refl
+    each state.Paused live = refl
+    each state.Ended live = refl
+    each (state.Stopped why) live = refl
 
 pub stops_settle : StopsSettle
 stops_settle core stops stores = record {
   null = stops.null;
   dirty = λ place dirty. stops.cached place (λ none. let clean = stops.clean place none in
       absurd (cc));
+  apart = λ slot other live alive same.
+      stops.apart slot other (live-taken core slot live) (live-taken core other alive) same;
   places = stops.places;
   store_places = stores;
 }

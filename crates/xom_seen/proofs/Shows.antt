@@ -1,6 +1,6 @@
 -- A part of an event shows what it changed by its entries alone: a relation between cores that is
 -- reflexive and transitive.
-use Rattle.std.proofs.Common.{◌≡◌, ◌≢◌, inl, inr, ℕ, zero, suc, ◌+◌, ◌<◌, ◌≤◌, ◌==◌, Bool, true, false, if◌then◌else◌, List, [], ◌∷◌, ◌++◌, length, map, refl, sym, ◌∙◌, ap, subst, arith, slice_set, slice_index_or, replicate, Option, Some, None, Result, Ok, Err, ◌⊎◌}
+use Rattle.std.proofs.Common.{◌≡◌, ◌≢◌, inl, inr, ℕ, zero, suc, ◌+◌, ◌<◌, ◌≤◌, ◌^◌, ◌==◌, Bool, true, false, if◌then◌else◌, List, [], ◌∷◌, ◌++◌, length, map, refl, sym, ◌∙◌, ap, subst, arith, slice_set, slice_index_or, replicate, Option, Some, None, Result, Ok, Err, ◌⊎◌}
 use Rattle.std.proofs.lemmas.List.{map-set, get_or-set_same, get_or-set_other, get_or_past, length-set, append_assoc, append-nil}
 use Rattle.std.proofs.lemmas.Bool.{cond_both}
 use Rattle.std.proofs.lemmas.Bool.Decides.{eqb_tells}
@@ -9,7 +9,9 @@ use Rattle.xom_base.specs.declared.entry.Entry.TheVariants as entry
 use Rattle.xom_base.specs.declared.event.Rule.{Rule}
 use Rattle.xom_base.specs.declared.event.Rule.TheVariants as rule
 use Rattle.xom_base.specs.declared.step.Step.{Step}
+use Rattle.xom_seal.specs.declared.names.LineName.{LineName}
 use Rattle.xom_seal.specs.declared.names.LineName.TheVariants.{Image}
+use Rattle.xom_seal.specs.Messages.{line_message}
 use Rattle.xom_seal.specs.Sealing.{line_tag, unsealed_line}
 use Rattle.xom_seal.specs.declared.line.SealedLine.{SealedLine}
 use Rattle.page_map.specs.Pages.{frame_of, without_pages}
@@ -31,13 +33,16 @@ use Rattle.xom_model.specs.State.{CoreState, core_with_hashes, core_with_session
 use Rattle.xom_model.specs.Lines.{Who, accept_entry, ct_place, is_image_at, keys_of, line_name_of, run_name, seal_entry, sealed_as, sealed_at, who_of, with_sealed}
 use Rattle.xom_model.specs.Access.{access, after_eviction, after_flush, after_leaving, after_opening, after_raise, after_seal, after_stop, after_victim, and_then, brought, cleared_at, or_stopped, reach_after_placing, reach_after_victim, reach_by_cache, reach_in_frame, read_from, sealed_by_raise, taken_out, with_pointers, without_guest}
 use Rattle.xom_model.specs.Guest.{cells_after_step, core_after_step, given_out, mask_after, mask_released, with_release, with_writes}
-use Rattle.xom_model.specs.Holds.{IsLive}
+use Rattle.xom_model.specs.Holds.{IsLive, IsOf}
 use Rattle.xom_model.specs.Seen.{shown_cell, shown_slot}
+use Rattle.xom_model.proofs.AccessKept.{found-IsOf}
 use Rattle.xom_model.proofs.Gone.{less, way-without}
 use Rattle.xom_model.proofs.Walk.{raised_for, torn_off, written_back}
-use Rattle.xom_seen.specs.Emission.{Broke, GiveAll, Gives, IsLineOf, LineSealed, Made, Signal, names_of}
+use Rattle.xom_seen.specs.Emission.{Broke, LineSealed, Made, Signal, SlotLine, line_named, line_pushed_out, names_of}
+use Rattle.xom_seen.specs.SealOwners.{GiveAll, Gives, IsLineOf}
 use Rattle.xom_seen.specs.SeenNext.{Sight, after_signal, after_signals, cells_named_for_slot, dropped_seen, mask_named, sight_slot}
 use Rattle.xom_seen.proofs.Sights.{after_signals-append, area-stored, area_at-is, areas-gone, areas-same, areas-session, areas_of, live_within, mask_named-is, shown_scrubbed, shown_tagged, shown_untagged, sight_of, slot_at-is}
+use Rattle.xom_seen.proofs.Readings.{AreApart, Reads, named-told, read-append, read-hashes, read-line, slot_of_install-is}
 
 -- ---- What entries give away
 
@@ -65,38 +70,66 @@ module _ (sessions : List Session) (ready : Bool) where
   give-hashes [] = refl
   give-hashes (text ∷ texts) = ([], [], refl, give-hashes texts, refl)
 
--- the core before the whole event is the one whose slots the emission names
-module _ (v : Versions) (raised : Raised) (law : RaisesInTheOpen v raised) (before : CoreState)
-    (ready : Bool) (slot address : ℕ) where
-  -- what is seen after these signals
-  abbrev pub shown_by : Sight → List Signal → Sight
-  shown_by s signals = after_signals v raised slot address s signals
-
+module _ (before : CoreState) where
   -- a live slot was live before the event, with the same guest
   abbrev pub WasLive : ℕ → Session → Type 0
   WasLive k s =
       IsLive before k × (s.install ≡ (session_of before k).install)
       × (s.id ≡ (session_of before k).id)
 
-  -- slots that are live were so before the event, and what has still to be sealed is of a live slot
+  -- slots that are live were so before the event, with installs of their own, and what has still to
+  -- be sealed is of a live slot
   pub record Knows (core : CoreState) : Type 0 where
     pub live : (k : ℕ) → IsLive core k → WasLive k (session_of core k)
     pub dirty : (place : ℕ) → (way_at core.ways place).dirty ≡ true
         → IsLive core (way_at core.ways place).slot
     pub places : length core.sessions ≡ 17
+    pub apart : AreApart before.sessions
+    pub places_before : length before.sessions ≡ 17
+
+  pub knows_as : (core new : CoreState) → new.sessions ≡ core.sessions → new.ways ≡ core.ways
+      → Knows core → Knows new
+  knows_as core new sessions ways knows = record {
+    live = subst (λ list. (k : ℕ) → is_live (slice_index_or list k free).state ≡ true
+        → WasLive k (slice_index_or list k free)) (sym sessions) knows.live;
+    dirty = subst (λ list. (place : ℕ) → (way_at new.ways place).dirty ≡ true
+        → is_live (slice_index_or list (way_at new.ways place).slot free).state ≡ true) (sym sessions)
+        (subst (λ ways. (place : ℕ) → (way_at ways place).dirty ≡ true
+        → IsLive core (way_at ways place).slot) (sym ways) knows.dirty);
+    places = ap (λ list. length list) sessions ∙ knows.places;
+    apart = knows.apart;
+    places_before = knows.places_before;
+  }
+
+-- The core before the whole event is the one whose slots the emission names. A message is one of
+-- this line.
+module _ (v : Versions) (raised : Raised) (law : RaisesInTheOpen v raised) (before : CoreState)
+    (ready : Bool) (slot address : ℕ) (whose : List ℕ → SlotLine) where
+  -- what is seen after these signals
+  abbrev pub shown_by : Sight → List Signal → Sight
+  shown_by s signals = after_signals v raised slot address s signals
+
+  -- what is known of a core within the event
+  abbrev pub Known : CoreState → Type 0
+  Known core = Knows before core
+
+  -- the entries are read so
+  abbrev pub ReadAs : List Entry → List Signal → Type 0
+  ReadAs entries told = Reads before.sessions slot ready whose entries told
 
   -- the new core looks as the entries that were added tell
   pub record Tells (base new : CoreState) : Type 0 where
     pub added : List Entry
     pub signals : List Signal
     pub entries : new.entries ≡ base.entries ++ added
-    pub gives : Knows base → GiveAll before.sessions ready added signals
-    pub sight : Knows base → sight_of new ≡ shown_by (sight_of base) signals
+    pub gives : Known base → GiveAll before.sessions ready added signals
+    pub reads : Known base → ReadAs added signals
+    pub sight : Known base → sight_of new ≡ shown_by (sight_of base) signals
 
   -- and a further part may follow
   pub record Shows (base new : CoreState) : Type 0 where
     pub tells : Tells base new
-    pub knows : Knows base → Knows new
+    pub knows : Known base → Known new
 
   pub tells_then : (base mid new : CoreState) → Shows base mid → Tells mid new → Tells base new
   tells_then base mid new first second =
@@ -108,6 +141,8 @@ module _ (v : Versions) (raised : Raised) (law : RaisesInTheOpen v raised) (befo
             ∙ append_assoc base.entries one.added second.added;
         gives = λ knows. give-append before.sessions ready one.added second.added one.signals
             second.signals (one.gives knows) (second.gives (first.knows knows));
+        reads = λ knows. read-append before.sessions slot ready whose one.added second.added
+            one.signals second.signals (one.reads knows) (second.reads (first.knows knows));
         sight = λ knows.
             second.sight (first.knows knows)
             ∙ ap (λ s. shown_by s second.signals) (one.sight knows)
@@ -132,6 +167,7 @@ module _ (v : Versions) (raised : Raised) (law : RaisesInTheOpen v raised) (befo
       entries =
           sym (append-nil core.entries);
       gives = λ knows. refl;
+      reads = λ knows. refl;
       sight = λ knows. refl;
     };
     knows =
@@ -143,8 +179,8 @@ module _ (v : Versions) (raised : Raised) (law : RaisesInTheOpen v raised) (befo
   -- nothing that is seen was changed
   pub shows_quiet : (base new : CoreState) (added : List Entry)
       → new.entries ≡ base.entries ++ added → GiveAll before.sessions ready added []
-      → sight_of new ≡ sight_of base → (Knows base → Knows new) → Shows base new
-  shows_quiet base new added entries quiet sight knows =
+      → ReadAs added [] → sight_of new ≡ sight_of base → (Known base → Known new) → Shows base new
+  shows_quiet base new added entries quiet silent sight knows =
       record {
         tells = record {
           added = added;
@@ -152,30 +188,20 @@ module _ (v : Versions) (raised : Raised) (law : RaisesInTheOpen v raised) (befo
           entries = entries;
           gives =
               λ _. quiet;
+          reads = λ _. silent;
           sight = λ _. sight;
         };
         knows = knows;
       }
-
-  knows_as : (core new : CoreState) → new.sessions ≡ core.sessions → new.ways ≡ core.ways
-      → Knows core → Knows new
-  knows_as core new sessions ways knows = record {
-    live = subst (λ list. (k : ℕ) → is_live (slice_index_or list k free).state ≡ true
-        → WasLive k (slice_index_or list k free)) (sym sessions) knows.live;
-    dirty = subst (λ list. (place : ℕ) → (way_at new.ways place).dirty ≡ true
-        → is_live (slice_index_or list (way_at new.ways place).slot free).state ≡ true) (sym sessions)
-        (subst (λ ways. (place : ℕ) → (way_at ways place).dirty ≡ true
-        → IsLive core (way_at ways place).slot) (sym ways) knows.dirty);
-    places = ap (λ list. length list) sessions ∙ knows.places;
-  }
 
   pub shows_hashed : (core : CoreState) (texts : List (List ℕ))
       → Shows core (core_with_hashes core texts)
   unfolding sight_of
   shows_hashed core texts =
       shows_quiet core (core_with_hashes core texts) (map hash_entry texts) refl
-      (give-hashes before.sessions ready texts) refl
-      (knows_as core (core_with_hashes core texts) refl refl)
+      (give-hashes before.sessions ready texts)
+      (read-hashes before.sessions slot ready whose texts) refl
+      (knows_as before core (core_with_hashes core texts) refl refl)
 
   pub shows_accepted : (core : CoreState) (key message : List ℕ) (place : ℕ)
       → Shows core (with_entry core (entry.Accept key message place))
@@ -183,8 +209,8 @@ module _ (v : Versions) (raised : Raised) (law : RaisesInTheOpen v raised) (befo
   shows_accepted core key message place =
       let new = with_entry core (entry.Accept key message place) in
       shows_quiet core new (entry.Accept key message place ∷ []) refl
-      (give-one before.sessions ready (entry.Accept key message place) [] refl) refl
-      (knows_as core new refl refl)
+      (give-one before.sessions ready (entry.Accept key message place) [] refl) refl refl
+      (knows_as before core new refl refl)
 
   -- the pointers of the cache aren't seen
   pub shows_pointed : (core : CoreState) (pointers : List ℕ)
@@ -192,8 +218,8 @@ module _ (v : Versions) (raised : Raised) (law : RaisesInTheOpen v raised) (befo
   unfolding sight_of
   shows_pointed core pointers =
       let new = record core { pointers = pointers } in
-      shows_quiet core new [] (sym (append-nil core.entries)) refl refl
-      (knows_as core new refl refl)
+      shows_quiet core new [] (sym (append-nil core.entries)) refl refl refl
+      (knows_as before core new refl refl)
 
   -- nor are its lines, where no line becomes dirty
   pub shows_put : (core : CoreState) (place : ℕ) (way : Way) → way.dirty ≡ false
@@ -201,7 +227,7 @@ module _ (v : Versions) (raised : Raised) (law : RaisesInTheOpen v raised) (befo
   unfolding sight_of
   shows_put core place way clean =
       let new = record core { ways = slice_set core.ways place way } in
-      shows_quiet core new [] (sym (append-nil core.entries)) refl refl (λ knows. record {
+      shows_quiet core new [] (sym (append-nil core.entries)) refl refl refl (λ knows. record {
         live = knows.live;
         dirty = λ at dirty. elim (eqb_tells at place) [
           | inl is ↦ absurd (let none = clean-there at is.1 dirty in cc)
@@ -212,6 +238,8 @@ module _ (v : Versions) (raised : Raised) (law : RaisesInTheOpen v raised) (befo
               (knows.dirty at (sym (ap (λ w. w.dirty) same) ∙ dirty))
         ];
         places = knows.places;
+        apart = knows.apart;
+        places_before = knows.places_before;
       })
     where
       clean-there : (at : ℕ) → at ≡ place → (way_at (slice_set core.ways place way) at).dirty ≡ true
@@ -272,8 +300,8 @@ module _ (v : Versions) (raised : Raised) (law : RaisesInTheOpen v raised) (befo
   stopped-is core k why within low = dropped-is core k (state.Stopped why) within low refl
 
   -- what is known stays so, of the slots that are left
-  knows_stopped : (core : CoreState) (k : ℕ) (why : Rule) → k < length core.sessions → Knows core
-      → Knows (after_stop core k why)
+  knows_stopped : (core : CoreState) (k : ℕ) (why : Rule) → k < length core.sessions → Known core
+      → Known (after_stop core k why)
   unfolding without_guest
   knows_stopped core k why within knows = record {
     live = λ other live. elim (eqb_tells other k) [
@@ -282,7 +310,7 @@ module _ (v : Versions) (raised : Raised) (law : RaisesInTheOpen v raised) (befo
           subst (λ j. is_live (session_of new j).state ≡ true) is.1 live in cc)
       | inr differs ↦
           let same = there other differs.1 in
-          subst (WasLive other) (sym same)
+          subst (WasLive before other) (sym same)
           (knows.live other (sym (ap (λ (s : Session). is_live s.state) same) ∙ live))
     ];
     dirty = λ place dirty.
@@ -294,6 +322,8 @@ module _ (v : Versions) (raised : Raised) (law : RaisesInTheOpen v raised) (befo
         subst (λ w. IsLive new w.slot) (sym (is ∙ its.0)) (ap (λ (s : Session). is_live s.state)
         (there (way_at core.ways place).slot its.1) ∙ was);
     places = length-set core.sessions k session ∙ knows.places;
+    apart = knows.apart;
+    places_before = knows.places_before;
   }
     where
       session : Session
@@ -317,7 +347,7 @@ module _ (v : Versions) (raised : Raised) (law : RaisesInTheOpen v raised) (befo
       ]
 
   -- a stop shows the slot and the rule
-  pub shows_stop : (core : CoreState) (k : ℕ) (why : Rule) → (Knows core → IsLive core k)
+  pub shows_stop : (core : CoreState) (k : ℕ) (why : Rule) → (Known core → IsLive core k)
       → Shows core (after_stop core k why)
   unfolding without_guest
   shows_stop core k why live = record {
@@ -329,6 +359,11 @@ module _ (v : Versions) (raised : Raised) (law : RaisesInTheOpen v raised) (befo
           let was = knows.live k (live knows) in
           give-one before.sessions ready (entry.Stop (session_of core k).install why)
           (Broke k why ∷ []) (record { slot = k; live = was.0; named = sym was.1; given = refl });
+      reads = λ knows.
+          let was = knows.live k (live knows) in
+          ap (λ j. Broke j why ∷ [])
+          (slot_of_install-is before.sessions k (session_of core k).install knows.apart
+          (live_within before k was.0) was.0 (sym was.1));
       sight = λ knows. stopped-is core k why (live_within core k (live knows)) (let within =
           live_within core k (live knows) in let places = knows.places in omega arith);
     };
@@ -355,6 +390,7 @@ module _ (v : Versions) (raised : Raised) (law : RaisesInTheOpen v raised) (befo
       let new = after_raise v core k line in
       let texts = v.texts_of_raise (store_of core k) line core.ram in
       shows_quiet core new (map hash_entry texts) refl (give-hashes before.sessions ready texts)
+      (read-hashes before.sessions slot ready whose texts)
       (ap (λ ram. let s : Sight = record {
         cells = map shown_cell core.cells;
         slots =
@@ -375,7 +411,7 @@ module _ (v : Versions) (raised : Raised) (law : RaisesInTheOpen v raised) (befo
         installs =
             core.installs;
       } in s) (raising-areas core k line))
-      (knows_as core new refl refl)
+      (knows_as before core new refl refl)
 
   -- the name under which a line is sealed is one of the line
   named-line : (who : Who) (s : Session) (line version : ℕ) → who.install ≡ s.install
@@ -425,7 +461,19 @@ module _ (v : Versions) (raised : Raised) (law : RaisesInTheOpen v raised) (befo
     abbrev seal_signal : Signal
     seal_signal = LineSealed k line sealed.ct sealed.tag
 
-    seal-gives : WasLive k (session_of core k) → Gives before.sessions ready seal (seal_signal ∷ [])
+    abbrev pub its_name : LineName
+    its_name = line_name_of (who_of core k) line version
+
+    its-name : WasLive before k (session_of core k) → IsLineOf (session_of before k) line its_name
+    its-name was = named-line (who_of core k) (session_of before k) line version was.1 was.2
+
+    -- its message is one of this line
+    abbrev IsOfLine : CoreState → Type 0
+    IsOfLine base = Known base
+        → whose (line_message its_name sealed.ct) ≡ record { slot = k; line = line }
+
+    seal-gives : WasLive before k (session_of core k)
+        → Gives before.sessions ready seal (seal_signal ∷ [])
     unfolding line_tag
     seal-gives was = inl (record {
       slot = k;
@@ -438,9 +486,17 @@ module _ (v : Versions) (raised : Raised) (law : RaisesInTheOpen v raised) (befo
       given = refl;
     })
 
-    pub shows_sealed : (Knows core → IsLive core k) → Shows core after
+    seal-reads : WasLive before k (session_of core k)
+        → whose (line_message its_name sealed.ct) ≡ record { slot = k; line = line }
+        → ReadAs (seal ∷ []) (seal_signal ∷ [])
+    unfolding line_tag
+    seal-reads was is_its =
+        read-line before.sessions slot ready whose (keys_of (who_of core k) line version).tag.0
+        its_name sealed.ct (record { slot = k; line = line }) is_its (its-name was)
+
+    pub shows_sealed : (Known core → IsLive core k) → IsOfLine core → Shows core after
     unfolding after_raise after_seal
-    shows_sealed holds = record {
+    shows_sealed holds its = record {
       tells = record {
         added = hashes ++ seal ∷ [];
         signals = seal_signal ∷ [];
@@ -450,17 +506,22 @@ module _ (v : Versions) (raised : Raised) (law : RaisesInTheOpen v raised) (befo
             (give-hashes before.sessions ready (v.texts_of_raise (store_of core k) line core.ram))
             (give-one before.sessions ready seal (seal_signal ∷ [])
             (seal-gives (knows.live k (holds knows))));
+        reads = λ knows.
+            read-append before.sessions slot ready whose hashes (seal ∷ []) [] (seal_signal ∷ [])
+            (read-hashes before.sessions slot ready whose
+            (v.texts_of_raise (store_of core k) line core.ram))
+            (seal-reads (knows.live k (holds knows)) (its knows));
         sight = λ knows.
             let live = holds knows in
             sealed-sight live (let within = live_within core k live in let places = knows.places in
             omega arith);
       };
-      knows = knows_as core after refl refl;
+      knows = knows_as before core after refl refl;
     }
 
   -- ---- A private access of the slot: where it doesn't stop the slot, the slot is live still
 
-  abbrev IfGoing : CoreState × Reach → Type 0
+  abbrev pub IfGoing : CoreState × Reach → Type 0
   IfGoing (core, reach.Ready place) = IsLive core slot
   IfGoing (core, reach.PageFault page) = IsLive core slot
   IfGoing (core, reach.Stopped why) = Unit {0}
@@ -488,7 +549,12 @@ module _ (v : Versions) (raised : Raised) (law : RaisesInTheOpen v raised) (befo
       (λ knows. knows.dirty place dirty))
 
   -- a line is put in its place, after what stood dirty there was written back
-  module _ (core : CoreState) (line : ℕ) (bytes : List ℕ) (live : IsLive core slot) where
+  -- a line that leaves the cache for this one is the one whose message is made
+  abbrev pub IsPushedOut : CoreState → ℕ → Type 0
+  IsPushedOut core line = (message : List ℕ) → whose message ≡ line_pushed_out core line
+
+  module _ (core : CoreState) (line : ℕ) (bytes : List ℕ) (live : IsLive core slot)
+      (out : IsPushedOut core line) where
     abbrev pointed : CoreState
     pointed = with_pointers core line
 
@@ -520,7 +586,7 @@ module _ (v : Versions) (raised : Raised) (law : RaisesInTheOpen v raised) (befo
     by_answer dirty (Ok version) is =
         filled (written_back v pointed victim version) live
         (shows_sealed pointed victim.slot victim.line version victim.bytes is
-        (λ knows. knows.dirty place dirty))
+        (λ knows. knows.dirty place dirty) (λ _. out _))
     by_answer dirty (Err torn) is =
         let off = torn_off v pointed victim torn in
         let shows : Shows pointed off = shows_tear pointed place torn dirty is in
@@ -553,53 +619,68 @@ module _ (v : Versions) (raised : Raised) (law : RaisesInTheOpen v raised) (befo
 
   reaches_opened : (core : CoreState) (line version place : ℕ) (ct : List ℕ)
       (bytes : Option (List ℕ))
-      → IsLive core slot → Reaches core (after_opening v core slot line version place ct bytes)
-  reaches_opened core line version from ct None live = reaches_stopped core (rule.LineTag line) live
-  reaches_opened core line version from ct (Some bytes) live =
+      → IsLive core slot → IsPushedOut core line → Reaches core (after_opening v core slot line version place ct bytes)
+  reaches_opened core line version from ct None live out = reaches_stopped core (rule.LineTag line) live
+  reaches_opened core line version from ct (Some bytes) live out =
       let accepted = with_entry core (accept_entry (who_of core slot) line version ct from) in
       reaches_then core accepted _ (shows_accepted core _ _ from)
-      (reaches_placed accepted line bytes live)
+      (reaches_placed accepted line bytes live out)
 
   reaches_brought : (core : CoreState) (line frame : ℕ) (answer : Result ℕ Torn) → IsLive core slot
-      → Reaches core (brought v core slot line frame answer)
-  reaches_brought core line frame (Err torn) live =
+      → IsPushedOut core line → Reaches core (brought v core slot line frame answer)
+  reaches_brought core line frame (Err torn) live out =
       reaches_stopped core (rule.TreeNode torn.level) live
-  reaches_brought core line frame (Ok version) live =
+  reaches_brought core line frame (Ok version) live out =
       cond_both (version == 0) (reach_after_placing v core slot line (replicate 32 0))
       (read_from v core slot line frame version) (λ result. Reaches core result)
-      (λ _. reaches_placed core line (replicate 32 0) live)
+      (λ _. reaches_placed core line (replicate 32 0) live out)
       (λ _. reaches_opened core line version (ct_place frame line)
       (sealed_at core.ram frame line).ct
       (unsealed_line (line_name_of (who_of core slot) line version)
-      (keys_of (who_of core slot) line version) (sealed_at core.ram frame line)) live)
+      (keys_of (who_of core slot) line version) (sealed_at core.ram frame line)) live out)
 
   reaches_looked : (core : CoreState) (line frame : ℕ) (at : Option ℕ) → IsLive core slot
-      → Reaches core (reach_by_cache v core slot line frame at)
-  reaches_looked core line frame (Some at) live = record { shows = shows_same core; live = live }
-  reaches_looked core line frame None live =
+      → IsPushedOut core line → Reaches core (reach_by_cache v core slot line frame at)
+  reaches_looked core line frame (Some at) live out = record { shows = shows_same core; live = live }
+  reaches_looked core line frame None live out =
       let asked = core_with_hashes core (v.texts_of_version (store_of core slot) line core.ram) in
       reaches_then core asked
       _ (shows_hashed core (v.texts_of_version (store_of core slot) line core.ram))
       (reaches_brought asked line frame (v.answer_of_version (store_of core slot) line core.ram)
-      live)
+      live out)
 
   reaches_mapped : (core : CoreState) (line : ℕ) (frame : Option ℕ) → IsLive core slot
-      → Reaches core (reach_in_frame v core slot line frame)
-  reaches_mapped core line None live = record { shows = shows_same core; live = live }
-  reaches_mapped core line (Some frame) live =
-      reaches_looked core line frame (place_of_line core.ways slot line) live
+      → IsPushedOut core line → Reaches core (reach_in_frame v core slot line frame)
+  reaches_mapped core line None live out = record { shows = shows_same core; live = live }
+  reaches_mapped core line (Some frame) live out =
+      reaches_looked core line frame (place_of_line core.ways slot line) live out
 
   pub reaches_access : (core : CoreState) (line : ℕ) → IsLive core slot
-      → Reaches core (access v core slot line)
+      → IsPushedOut core line → Reaches core (access v core slot line)
   unfolding access
-  reaches_access core line live =
-      reaches_mapped core line (frame_of core.pages slot (page_of line)) live
+  reaches_access core line live out =
+      reaches_mapped core line (frame_of core.pages slot (page_of line)) live out
 
   -- ---- A flush
 
-  module _ (core : CoreState) (place : ℕ) where
+  -- the lines of the slot are read off their messages
+  abbrev pub IsNamed : Type 0
+  IsNamed = (message : List ℕ) → whose message ≡ line_named before.sessions slot message
+
+  module _ (core : CoreState) (place line : ℕ) (below : line < 2 ^ 32)
+      (its : IsOf (way_at core.ways place) slot line) (named : IsNamed) where
     abbrev its_way : Way
     its_way = way_at core.ways place
+
+    -- the line is the one that its message names
+    of_way : (name : LineName) (ct : List ℕ)
+        → IsLineOf (session_of before its_way.slot) its_way.line name
+        → whose (line_message name ct) ≡ record { slot = its_way.slot; line = its_way.line }
+    of_way name ct is =
+        named (line_message name ct)
+        ∙ ap (λ k. line_named before.sessions k (line_message name ct)) (sym its.0)
+        ∙ named-told before.sessions its_way.slot its_way.line name ct is
+        (subst (λ n. n < 2 ^ 32) (sym its.1) below)
 
     taken_answer : its_way.dirty ≡ true → (answer : Result ℕ Torn)
         → raised_for v core its_way ≡ answer
@@ -610,7 +691,10 @@ module _ (v : Versions) (raised : Raised) (law : RaisesInTheOpen v raised) (befo
     taken_answer dirty (Ok version) is =
         let mid = written_back v core its_way version in
         shows_then core mid _ (shows_sealed core its_way.slot its_way.line version its_way.bytes is
-        (λ knows. knows.dirty place dirty)) (shows_put mid place free_way refl)
+        (λ knows. knows.dirty place dirty)
+        (λ knows. of_way _ _ (its-name core its_way.slot its_way.line version its_way.bytes is
+        (knows.live its_way.slot (knows.dirty place dirty)))))
+        (shows_put mid place free_way refl)
     taken_answer dirty (Err torn) is = shows_tear core place torn dirty is
 
     taken_dirty : (dirty : Bool) → its_way.dirty ≡ dirty
@@ -622,9 +706,11 @@ module _ (v : Versions) (raised : Raised) (law : RaisesInTheOpen v raised) (befo
     unfolding cleared_at
     shows_taken_at = taken_dirty its_way.dirty refl
 
-  shows_taken : (core : CoreState) (at : Option ℕ) → Shows core (taken_out v core at).0
-  shows_taken core None = shows_same core
-  shows_taken core (Some at) = shows_taken_at core at
+  shows_taken : (core : CoreState) (line : ℕ) (at : Option ℕ) → line < 2 ^ 32 → IsNamed
+      → place_of_line core.ways slot line ≡ at → Shows core (taken_out v core at).0
+  shows_taken core line None below named is = shows_same core
+  shows_taken core line (Some at) below named is =
+      shows_taken_at core at line below (found-IsOf core.ways slot line at is) named
 
   then_shows : (core : CoreState) (first : CoreState × Option Rule) (rest : CoreState → CoreState
       × Option Rule)
@@ -633,14 +719,15 @@ module _ (v : Versions) (raised : Raised) (law : RaisesInTheOpen v raised) (befo
   then_shows core (mid, None) rest shows more = shows_then core mid (rest mid).0 shows (more mid)
   then_shows core (mid, Some why) rest shows more = shows
 
-  pub shows_flushed : (count line : ℕ) (core : CoreState)
+  pub shows_flushed : (count line : ℕ) (core : CoreState) → line + count ≤ 2 ^ 32 → IsNamed
       → Shows core (after_flush v slot count line core).0
   unfolding after_flush
-  shows_flushed zero line core = shows_same core
-  shows_flushed (suc count) line core =
+  shows_flushed zero line core below named = shows_same core
+  shows_flushed (suc count) line core below named =
       then_shows core (taken_out v core (place_of_line core.ways slot line))
-      (after_flush v slot count (line + 1)) (shows_taken core (place_of_line core.ways slot line))
-      (λ mid. shows_flushed count (line + 1) mid)
+      (after_flush v slot count (line + 1))
+      (shows_taken core line (place_of_line core.ways slot line) (omega arith) named refl)
+      (λ mid. shows_flushed count (line + 1) mid (omega arith) named)
 
   -- ---- A step
 
@@ -719,5 +806,6 @@ module _ (v : Versions) (raised : Raised) (law : RaisesInTheOpen v raised) (befo
           entries = refl;
           gives =
               λ _. give-one before.sessions ready made (signal ∷ []) refl;
+          reads = λ _. refl;
           sight = λ _. stepped-is;
         }

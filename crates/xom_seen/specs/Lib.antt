@@ -1,3 +1,4 @@
 pub mod Emission
 pub mod SeenNext
 pub mod NoWayOut
+pub mod SealOwners

@@ -10,21 +10,14 @@ use Rattle.xom_model.specs.Event.{fits, on}
 use Rattle.xom_model.specs.Holds.{IsLive}
 use Rattle.xom_model.specs.Seen.{seen_of}
 use Rattle.xom_model.specs.Stops.{StopsHold}
-use Rattle.xom_model.specs.Touched.{slot_of_event}
-use Rattle.xom_seen.specs.Emission.{Emission, Emits}
+use Rattle.xom_seen.specs.Emission.{Emission, emission_of_event}
 use Rattle.xom_seen.specs.SeenNext.{seen_next}
 
--- An event emits this, and gives no more away: what is seen afterwards is told by what was seen
--- before, the event, its bytes and the emission.
-pub record GivesAway (v : Versions) (raised : Raised) (r : Record) (e : Event) (chunk : List ℕ)
-    (new : Record) (what : Outcome) (m : Emission) : Type 0 where
-  pub emits : Emits r.core (slot_of_event r e) new what m
-  pub seen : seen_of new ≡ seen_next v raised (seen_of r) e chunk m
-
--- an event gives away what it emits, and no more
+-- an event gives away what it emits, and no more: what is seen afterwards is told by what was seen
+-- before, the event, its bytes and the emission
 abbrev pub GivesNoMoreAway : Versions → Raised → Record → Event → List ℕ → Record → Outcome → Type 0
 GivesNoMoreAway v raised r e chunk new what =
-    (m : Emission) × GivesAway v raised r e chunk new what m
+    seen_of new ≡ seen_next v raised (seen_of r) e chunk (emission_of_event v r e new what)
 
 -- What the law needs of a core, which is true of every machine, whatever its kernel did and whether
 -- its journal is honest or not.
@@ -34,6 +27,9 @@ pub record IsSettled (core : CoreState) : Type 0 where
   -- a line that has still to be sealed is one of a live slot
   pub dirty : (place : ℕ) → (way_at core.ways place).dirty ≡ true
       → IsLive core (way_at core.ways place).slot
+  -- live slots have different install numbers
+  pub apart : (slot other : ℕ) → IsLive core slot → IsLive core other
+      → (session_of core slot).install ≡ (session_of core other).install → slot ≡ other
   -- there is a place for each compartment
   pub places : length core.sessions ≡ 17
   pub store_places : length core.stores ≡ 17
@@ -46,13 +42,17 @@ NoWayOut = (v : Versions) (raised : Raised) → RaisesInTheOpen v raised → (r 
     → fits r e ≡ true → IsSettled r.core
     → GivesNoMoreAway v raised r e chunk (on v r e chunk).0 (on v r e chunk).1
 
+-- what an event emits with a record
+abbrev pub emission_of : Versions → Record → Event → List ℕ → Emission
+emission_of v r e chunk = emission_of_event v r e (on v r e chunk).0 (on v r e chunk).1
+
 -- So two machines that look the same, and emit the same with an event, look the same afterwards.
 abbrev pub SameSight : Type 0
-SameSight = (v : Versions) (raised : Raised) (r s : Record) (e : Event) (chunk : List ℕ)
-    (m : Emission)
-    → GivesAway v raised r e chunk (on v r e chunk).0 (on v r e chunk).1 m
-    → GivesAway v raised s e chunk (on v s e chunk).0 (on v s e chunk).1 m
-    → seen_of r ≡ seen_of s → seen_of (on v r e chunk).0 ≡ seen_of (on v s e chunk).0
+SameSight = (v : Versions) (raised : Raised) → RaisesInTheOpen v raised → (r s : Record) (e : Event)
+    (chunk : List ℕ)
+    → fits r e ≡ true → fits s e ≡ true → IsSettled r.core → IsSettled s.core
+    → seen_of r ≡ seen_of s → emission_of v r e chunk ≡ emission_of v s e chunk
+    → seen_of (on v r e chunk).0 ≡ seen_of (on v s e chunk).0
 
 -- ---- What is true of every machine
 

@@ -7,7 +7,6 @@ use Rattle.xom_model.proofs.OthersKept.{events_leave_others}
 use Rattle.xom_model.proofs.QuietEvents.{events_trap_quietly}
 use Rattle.xom_seen.specs.NoWayOut.{GivesNoMoreAway}
 use Rattle.xom_seen.proofs.Next.{no_way_out}
-use Rattle.xom_seen.proofs.Settled.{stops_settle}
 use Rattle.xom_machine.specs.Kept.{AddsNoPadTwice, FaultsAreAlone, KeepsHolding, LeavesOthers, LeavesRefused, TrapsAreQuiet}
 use Rattle.xom_machine.proofs.Events.{event-Faults, event-KeepsHolding, event-LeavesRefused, on-events}
 use Rattle.xom_machine.proofs.machine.Machine.step.Goals as goal
@@ -48,7 +47,7 @@ returns-clause-seen g c =
     (subst (λ (new : Record). GivesNoMoreAway v raised r e chunk new after.1)
     (sym c.make_event-outcome.ensures.record)
     (no_way_out v raised g.met.V.VersionStore.in_the_open r e chunk c.requires.fits
-    (stops_settle r.core c.events-before.ensures.stops c.events-before.ensures.stores)))
+    c.events-before.ensures.settled))
 
 pub returns-clause-faults : goal.returns-clause-faults
 returns-clause-faults g c =
