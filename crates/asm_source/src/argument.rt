@@ -1,4 +1,5 @@
 use asm_tokens::Integer;
+use crate::SourceName;
 use xom_base::ByteList;
 
 /// A value in a source.
@@ -7,7 +8,7 @@ pub enum Value {
     /// A number.
     Number(Integer),
     /// The place of the label of this name.
-    Label(ByteList),
+    Label(SourceName),
 }
 
 /// One operand as a source writes it.
