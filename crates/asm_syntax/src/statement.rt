@@ -1,6 +1,4 @@
-ghost use Rattle.std.specs.Prelude.{◌≡◌, [], ◌∷◌, List, IfOk};
-ghost use Rattle.std.specs.Bool.{OnFalse};
-ghost use Rattle.asm_source.specs.declared.argument.Argument.{Argument};
+ghost use Rattle.std.specs.Prelude.{◌≡◌, [], ◌∷◌, IfOk};
 ghost use Rattle.asm_source.specs.declared.content.Content.TheVariants as content;
 ghost use Rattle.asm_syntax.specs.Forms.{FormAnswers, map_some};
 ghost use Rattle.asm_syntax.specs.Lines.{align_statement, ascii_statement, b_statement, byte_statement, coded_statement, entry_statement, instruction_statement, jalr_statement, la_statement, label_of_argument, li_statement, may_be, may_be_all, mnemonic_statement, move_statement, nop_statement, number_of_argument, org_statement, register_of_argument, size_in, space_statement, statement_of, value_of_argument, word_statement};
@@ -14,34 +12,12 @@ use std::alloc::Global;
 use xom_base::{LineFault, List, NoMemory};
 
 /// The statement with this name and these operands. Bad where there is none of that form.
+#[tactic(auto, unfolding(crate::specs::Lines::statement_of))]
 pub fn statement(
     alloc: Global,
     name: &[u8],
     arguments: List<Argument>,
 ) -> Result<Content, LineFault>
-    ensures { FormAnswers (statement_of name.now arguments) result }
-{
-    if begins_directive(name) {
-        directive(alloc, name, arguments)
-    } else {
-        mnemonic(alloc, name, arguments)
-    }
-}
-
-/// Whether a name begins with `.`, as those of all directives do.
-#[tactic(auto, using(crate::proofs::DirectiveLaws::no_directive, crate::proofs::DirectiveLaws::no_name))]
-fn begins_directive(name: &[u8]) -> bool
-    ensures { OnFalse result ((arguments : List Argument) → statement_of name.now arguments ≡ mnemonic_statement name.now arguments) }
-{
-    match name {
-        [first, ..] => *first == b'.',
-        [] => false,
-    }
-}
-
-/// A directive, or a statement that makes instructions.
-#[tactic(auto, unfolding(crate::specs::Lines::statement_of))]
-fn directive(alloc: Global, name: &[u8], arguments: List<Argument>) -> Result<Content, LineFault>
     ensures { FormAnswers (statement_of name.now arguments) result }
 {
     if same_text(name, b".word") {

@@ -356,6 +356,11 @@ kinds_of_takes name shape is =
     ∙ ap (λ (form : List ℕ × List Operand). Some (map operand_kind_of form.1)) form
     ∙ ap (λ (kinds : List OperandKind). Some kinds) (kind_of-sample shape)
 
+-- the same of what was found there
+pub kinds_of_found : (name : List ℕ) (shape : List OperandKind) (found : Option Ins)
+    → found ≡ build_of name (map sample_of shape) → is_some found ≡ true → kinds_of name ≡ Some shape
+kinds_of_found name shape found is some = kinds_of_takes name shape (ap is_some (sym is) ∙ some)
+
 -- a name without kinds is no mnemonic
 pub kinds_of-none : (name : List ℕ) → kinds_of name ≡ None → IsNoMnemonic name
 kinds_of-none name none i is =

@@ -25,7 +25,6 @@ pub(crate) fn kinds_by_letter(name: &[u8]) -> Option<&'static [OperandKind]>
 }
 
 /// Sums: of three registers, or of two and an immediate.
-#[tactic(auto, using(crate::proofs::FormTable::kinds_of_takes), unfolding(crate::specs::Builds::rows_with_operands))]
 fn kinds_of_sums(name: &[u8]) -> Option<&'static [OperandKind]>
     ensures { IfSome result (λ shape. kinds_of name.now ≡ Some shape.now) }
 {
@@ -41,7 +40,6 @@ fn kinds_of_sums(name: &[u8]) -> Option<&'static [OperandKind]>
 }
 
 /// Branches: over two registers, or over one.
-#[tactic(auto, using(crate::proofs::FormTable::kinds_of_takes), unfolding(crate::specs::Builds::rows_with_operands))]
 fn kinds_of_branches(name: &[u8]) -> Option<&'static [OperandKind]>
     ensures { IfSome result (λ shape. kinds_of name.now ≡ Some shape.now) }
 {
@@ -55,7 +53,6 @@ fn kinds_of_branches(name: &[u8]) -> Option<&'static [OperandKind]>
 }
 
 /// Products, quotients and moves: of one register or of two.
-#[tactic(auto, using(crate::proofs::FormTable::kinds_of_takes), unfolding(crate::specs::Builds::rows_with_operands))]
 fn kinds_of_moves(name: &[u8]) -> Option<&'static [OperandKind]>
     ensures { IfSome result (λ shape. kinds_of name.now ≡ Some shape.now) }
 {
@@ -69,7 +66,6 @@ fn kinds_of_moves(name: &[u8]) -> Option<&'static [OperandKind]>
 }
 
 /// Jumps: to a target, or to what a register holds.
-#[tactic(auto, using(crate::proofs::FormTable::kinds_of_takes), unfolding(crate::specs::Builds::rows_with_operands))]
 fn kinds_of_jumps(name: &[u8]) -> Option<&'static [OperandKind]>
     ensures { IfSome result (λ shape. kinds_of name.now ≡ Some shape.now) }
 {
@@ -81,7 +77,6 @@ fn kinds_of_jumps(name: &[u8]) -> Option<&'static [OperandKind]>
 }
 
 /// Loads: from memory, or of an immediate.
-#[tactic(auto, using(crate::proofs::FormTable::kinds_of_takes), unfolding(crate::specs::Builds::rows_with_operands))]
 fn kinds_of_loads(name: &[u8]) -> Option<&'static [OperandKind]>
     ensures { IfSome result (λ shape. kinds_of name.now ≡ Some shape.now) }
 {
@@ -95,7 +90,6 @@ fn kinds_of_loads(name: &[u8]) -> Option<&'static [OperandKind]>
 }
 
 /// Stores, shifts, and the sums with the letter `s`.
-#[tactic(auto, using(crate::proofs::FormTable::kinds_of_takes), unfolding(crate::specs::Builds::rows_with_operands))]
 fn kinds_of_stores(name: &[u8]) -> Option<&'static [OperandKind]>
     ensures { IfSome result (λ shape. kinds_of name.now ≡ Some shape.now) }
 {
