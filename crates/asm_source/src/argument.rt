@@ -1,5 +1,5 @@
-use asm_tokens::Integer;
 use crate::SourceName;
+use asm_tokens::Integer;
 use xom_base::ByteList;
 
 /// A value in a source.

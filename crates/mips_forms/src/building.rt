@@ -3,8 +3,8 @@ ghost use Rattle.std.specs.Str.{bytes_eq};
 ghost use Rattle.mips_forms.specs.Forms.{FormTakes, IsNoMnemonic, form_of};
 ghost use Rattle.mips_forms.specs.Builds.{access_rows, build_of, coded_rows, compare_rows, in_rows, jump_rows, kinds_of, plain_rows, register_rows, rows_of_shifts, signed_rows, slot_rows, sum_rows, test_rows, three_registers_rows, two_registers_rows, unsigned_rows, upper_rows};
 
-use crate::letters::kinds_by_letter;
 use crate::OperandKind::{Branch, Code, Jump, Offset, Register, Shift, Signed, Unsigned};
+use crate::letters::kinds_by_letter;
 use crate::{Operand, OperandKind};
 use mips_instruction::Ins;
 

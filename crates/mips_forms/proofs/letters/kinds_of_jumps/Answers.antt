@@ -8,5 +8,5 @@ use Rattle.mips_forms.proofs.letters.kinds_of_jumps.Goals as goal
 pub returns-then-is_some : goal.returns-then-is_some
 unfolding rows_with_operands
 returns-then-is_some c =
-    kinds_of_found c.args.name.now (kinds.Jump ∷ []) c.jump.result
-    c.jump.ensures (search rules)
+    kinds_of_found c.args.name.now (kinds.Jump ∷ [])
+    c.jump.result c.jump.ensures (search rules)

@@ -8,11 +8,11 @@ use Rattle.mips_forms.proofs.letters.kinds_of_loads.Goals as goal
 pub returns-then-is_some : goal.returns-then-is_some
 unfolding rows_with_operands
 returns-then-is_some c =
-    kinds_of_found c.args.name.now (kinds.Register ∷ kinds.Offset ∷ []) c.access.result
-    c.access.ensures (search rules)
+    kinds_of_found c.args.name.now (kinds.Register ∷ kinds.Offset ∷ [])
+    c.access.result c.access.ensures (search rules)
 
 pub returns-then-is_some-2 : goal.returns-then-is_some-2
 unfolding rows_with_operands
 returns-then-is_some-2 c =
-    kinds_of_found c.args.name.now (kinds.Register ∷ kinds.Unsigned ∷ []) c.upper.result
-    c.upper.ensures (search rules)
+    kinds_of_found c.args.name.now (kinds.Register ∷ kinds.Unsigned ∷ [])
+    c.upper.result c.upper.ensures (search rules)

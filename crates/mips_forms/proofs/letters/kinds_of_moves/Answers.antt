@@ -8,11 +8,11 @@ use Rattle.mips_forms.proofs.letters.kinds_of_moves.Goals as goal
 pub returns-then-is_some : goal.returns-then-is_some
 unfolding rows_with_operands
 returns-then-is_some c =
-    kinds_of_found c.args.name.now (kinds.Register ∷ kinds.Register ∷ []) c.two_registers.result
-    c.two_registers.ensures (search rules)
+    kinds_of_found c.args.name.now (kinds.Register ∷ kinds.Register ∷ [])
+    c.two_registers.result c.two_registers.ensures (search rules)
 
 pub returns-then-is_some-2 : goal.returns-then-is_some-2
 unfolding rows_with_operands
 returns-then-is_some-2 c =
-    kinds_of_found c.args.name.now (kinds.Register ∷ []) c.register.result
-    c.register.ensures (search rules)
+    kinds_of_found c.args.name.now (kinds.Register ∷ [])
+    c.register.result c.register.ensures (search rules)
