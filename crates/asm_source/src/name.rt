@@ -8,16 +8,19 @@ use xom_base::{ByteList, NoMemory};
 /// The size of the longest name that takes no memory of its own.
 const SHORT: usize = 14;
 
-/// A name in a source: a label or a mnemonic. Contracts see it as its bytes. A name of at most 14 bytes
-/// takes no memory of its own.
+/// A name in a source: a label or a mnemonic. Contracts see it as its bytes. A name of at most 14
+/// bytes takes no memory of its own.
 #[derive(Drop)]
 pub struct SourceName {
     bytes: NameBytes,
 }
 
+/// Where the bytes of a name stand.
 #[derive(Drop)]
 enum NameBytes {
+    /// So many of these.
     Short(u8, [u8; 14]),
+    /// In memory of their own.
     Long(Box<ByteList>),
 }
 

@@ -358,7 +358,8 @@ kinds_of_takes name shape is =
 
 -- the same of what was found there
 pub kinds_of_found : (name : List ℕ) (shape : List OperandKind) (found : Option Ins)
-    → found ≡ build_of name (map sample_of shape) → is_some found ≡ true → kinds_of name ≡ Some shape
+    → found ≡ build_of name (map sample_of shape) → is_some found ≡ true
+    → kinds_of name ≡ Some shape
 kinds_of_found name shape found is some = kinds_of_takes name shape (ap is_some (sym is) ∙ some)
 
 -- a name without kinds is no mnemonic
