@@ -1,3 +1,4 @@
+use crate::SourceName;
 use asm_tokens::Integer;
 use xom_base::ByteList;
 
@@ -7,7 +8,7 @@ pub enum Value {
     /// A number.
     Number(Integer),
     /// The place of the label of this name.
-    Label(ByteList),
+    Label(SourceName),
 }
 
 /// One operand as a source writes it.

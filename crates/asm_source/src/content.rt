@@ -1,4 +1,4 @@
-use crate::{Argument, Value};
+use crate::{Argument, SourceName, Value};
 use asm_tokens::Integer;
 use xom_base::{ByteList, List};
 
@@ -6,7 +6,7 @@ use xom_base::{ByteList, List};
 #[derive(Drop)]
 pub enum Content {
     /// `name:`, which names the next place.
-    Label(ByteList),
+    Label(SourceName),
     /// `.word`: the values, four bytes each.
     Words(List<Value>),
     /// `.byte`: the numbers, one byte each.
@@ -24,9 +24,9 @@ pub enum Content {
     /// `li`: a register gets a number.
     LoadNumber(u8, Integer),
     /// `la`: a register gets the place of a label.
-    LoadAddress(u8, ByteList),
+    LoadAddress(u8, SourceName),
     /// An instruction: its mnemonic, and all its operands in the order of its text.
-    Instruction(ByteList, List<Argument>),
+    Instruction(SourceName, List<Argument>),
 }
 
 /// A label or a statement, with the number of its line, counted from 1.

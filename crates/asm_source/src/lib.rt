@@ -3,6 +3,8 @@
 
 mod argument;
 mod content;
+mod name;
 
 pub use argument::{Argument, Value};
 pub use content::{Content, Part};
+pub use name::SourceName;

@@ -3,9 +3,9 @@ ghost use Rattle.std.specs.List.{slice_split};
 ghost use Rattle.asm_syntax.specs.Arguments.{argument_of, arguments_of, based_of, is_comma, offset_of, single_of, value_of_lexeme};
 ghost use Rattle.asm_syntax.specs.Forms.{FormAnswers, map_some};
 
-use crate::copies::copy_bytes;
+use crate::copies::{copy_bytes, room};
 use crate::lexeme::Lexeme;
-use asm_source::{Argument, Value};
+use asm_source::{Argument, SourceName, Value};
 use asm_tokens::Integer;
 use std::alloc::Global;
 use xom_base::{LineFault, List, NoMemory};
@@ -44,7 +44,7 @@ fn between_commas(alloc: Global, lexemes: &[Lexeme]) -> Result<Vec<&[Lexeme]>, N
 fn each_argument(alloc: Global, parts: &[&[Lexeme]]) -> Result<List<Argument>, LineFault>
     ensures { FormAnswers (map_some (λ part. argument_of part.now) parts.now) result }
 {
-    let mut arguments = List::new(alloc);
+    let mut arguments = room(alloc, parts.len())?;
     for part in parts {
         let argument = argument(alloc, part)?;
         arguments.push(argument)?;
@@ -76,7 +76,7 @@ fn single(alloc: Global, lexeme: &Lexeme) -> Result<Argument, LineFault>
         Lexeme::Register(register) => Ok(Argument::Register(*register)),
         Lexeme::Number(number) => Ok(Argument::Value(Value::Number(*number))),
         Lexeme::Name(label) => {
-            let label = copy_bytes(alloc, label.as_slice())?;
+            let label = SourceName::from_slice(alloc, label.as_slice())?;
             Ok(Argument::Value(Value::Label(label)))
         }
         Lexeme::Text(text) => {
@@ -102,7 +102,10 @@ fn value(alloc: Global, lexeme: &Lexeme) -> Result<Value, LineFault>
 {
     match lexeme {
         Lexeme::Number(number) => Ok(Value::Number(*number)),
-        Lexeme::Name(label) => Ok(Value::Label(copy_bytes(alloc, label.as_slice())?)),
+        Lexeme::Name(label) => {
+            let label = SourceName::from_slice(alloc, label.as_slice())?;
+            Ok(Value::Label(label))
+        }
         _ => Err(LineFault::Bad),
     }
 }

@@ -1,8 +1,15 @@
-ghost use Rattle.std.specs.Prelude.{◌≡◌, IfOk};
+ghost use Rattle.std.specs.Prelude.{◌≡◌, [], IfOk};
 
-use asm_source::Value;
+use asm_source::{SourceName, Value};
 use std::alloc::Global;
-use xom_base::{ByteList, NoMemory};
+use xom_base::{ByteList, List, NoMemory};
+
+/// The empty list, with room for so many items.
+pub fn room<T>(alloc: Global, count: usize) -> Result<List<T>, NoMemory>
+    ensures { IfOk result (λ list. list ≡ []) }
+{
+    Ok(List::from_vec(Vec::with_capacity(alloc, count)?))
+}
 
 /// A list of these bytes.
 pub fn copy_bytes(alloc: Global, bytes: &[u8]) -> Result<ByteList, NoMemory>
@@ -17,6 +24,6 @@ pub fn copy_value(alloc: Global, value: &Value) -> Result<Value, NoMemory>
 {
     match value {
         Value::Number(number) => Ok(Value::Number(*number)),
-        Value::Label(name) => Ok(Value::Label(copy_bytes(alloc, name.as_slice())?)),
+        Value::Label(name) => Ok(Value::Label(SourceName::from_slice(alloc, name.as_slice())?)),
     }
 }

@@ -1,18 +1,19 @@
-ghost use Rattle.std.specs.Prelude.{◌≡◌, [], All, IfOk};
+ghost use Rattle.std.specs.Prelude.{All};
 ghost use Rattle.asm_tokens.specs.Tokens.{IsTokenOf};
 ghost use Rattle.asm_syntax.specs.Forms.{FormAnswers, map_some};
 ghost use Rattle.asm_syntax.specs.Lexing.{lexeme_at, lexeme_of, lexemes_of};
 
-use crate::copies::copy_bytes;
+use crate::copies::room;
+use asm_source::SourceName;
 use asm_tokens::{Integer, Token, TokenFault, TokenKind, integer, register, tokens, unquoted};
 use std::alloc::Global;
-use xom_base::{ByteList, LineFault, List, NoMemory};
+use xom_base::{ByteList, LineFault, List};
 
 /// A token of a line with what it stands for.
 #[derive(Drop)]
 pub enum Lexeme {
     /// A name.
-    Name(ByteList),
+    Name(SourceName),
     /// A whole number.
     Number(Integer),
     /// A register, 0 to 31.
@@ -57,19 +58,12 @@ fn lexemes_in(alloc: Global, line: &[u8], tokens: &[Token]) -> Result<List<Lexem
     Ok(lexemes)
 }
 
-/// The empty list, with room for so many lexemes.
-fn room(alloc: Global, count: usize) -> Result<List<Lexeme>, NoMemory>
-    ensures { IfOk result (λ list. list ≡ []) }
-{
-    Ok(List::from_vec(Vec::with_capacity(alloc, count)?))
-}
-
 /// The lexeme of a token of this kind with this text.
 fn make_lexeme(alloc: Global, kind: TokenKind, text: &[u8]) -> Result<Lexeme, LineFault>
     ensures { FormAnswers (lexeme_of kind text.now) result }
 {
     match kind {
-        TokenKind::Name => Ok(Lexeme::Name(copy_bytes(alloc, text)?)),
+        TokenKind::Name => Ok(Lexeme::Name(SourceName::from_slice(alloc, text)?)),
         TokenKind::Number => Ok(Lexeme::Number(integer(text).ok_or(LineFault::Bad)?)),
         TokenKind::Register => Ok(Lexeme::Register(register(text).ok_or(LineFault::Bad)?)),
         TokenKind::Text => Ok(Lexeme::Text(unquoted(alloc, text)?.ok_or(LineFault::Bad)?)),

@@ -5,10 +5,9 @@ ghost use Rattle.asm_syntax.specs.Forms.{Adds};
 ghost use Rattle.asm_syntax.specs.Lines.{parts_of_line, source_of, statement_parts};
 
 use crate::arguments::arguments;
-use crate::copies::copy_bytes;
 use crate::lexeme::{Lexeme, lexemes};
 use crate::statement::statement;
-use asm_source::{Content, Part};
+use asm_source::{Content, Part, SourceName};
 use std::alloc::Global;
 use std::marker::Model;
 use xom_base::{LineFault, LineFormat, List, TextFault, read_lines};
@@ -75,7 +74,7 @@ fn add_line(
 {
     let mut rest = lexemes;
     while let Some((label, more)) = first_label(rest) {
-        let label = copy_bytes(alloc, label)?;
+        let label = SourceName::from_slice(alloc, label)?;
         parts.push(Part {
             line: number,
             content: Content::Label(label),

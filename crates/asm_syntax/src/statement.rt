@@ -4,12 +4,12 @@ ghost use Rattle.asm_syntax.specs.Forms.{FormAnswers, map_some};
 ghost use Rattle.asm_syntax.specs.Lines.{align_statement, ascii_statement, b_statement, byte_statement, coded_statement, entry_statement, instruction_statement, jalr_statement, la_statement, label_of_argument, li_statement, may_be, may_be_all, mnemonic_statement, move_statement, nop_statement, number_of_argument, org_statement, register_of_argument, size_in, space_statement, statement_of, value_of_argument, word_statement};
 
 use crate::arguments::ZERO;
-use crate::copies::{copy_bytes, copy_value};
-use asm_source::{Argument, Content, Value};
+use crate::copies::{copy_bytes, copy_value, room};
+use asm_source::{Argument, Content, SourceName, Value};
 use asm_tokens::Integer;
 use mips_forms::{OperandKind, kinds, same_text};
 use std::alloc::Global;
-use xom_base::{ByteList, LineFault, List, NoMemory};
+use xom_base::{LineFault, List, NoMemory};
 
 /// The statement with this name and these operands. Bad where there is none of that form.
 #[tactic(auto, unfolding(crate::specs::Lines::statement_of))]
@@ -262,7 +262,7 @@ fn link(alloc: Global, arguments: List<Argument>) -> Result<Content, LineFault>
             let mut full = List::new(alloc);
             full.push(Argument::Register(31))?;
             full.push(Argument::Register(*rs))?;
-            Ok(Content::Instruction(copy_bytes(alloc, b"jalr")?, full))
+            Ok(Content::Instruction(SourceName::from_slice(alloc, b"jalr")?, full))
         }
         _ => instruction(alloc, b"jalr", arguments),
     }
@@ -276,7 +276,8 @@ fn coded(alloc: Global, name: &[u8], arguments: List<Argument>) -> Result<Conten
     if arguments.as_slice().is_empty() {
         let mut full = List::new(alloc);
         full.push(Argument::Value(Value::Number(ZERO)))?;
-        return Ok(Content::Instruction(copy_bytes(alloc, name)?, full));
+        let name = SourceName::from_slice(alloc, name)?;
+        return Ok(Content::Instruction(name, full));
     }
     instruction(alloc, name, arguments)
 }
@@ -290,7 +291,8 @@ fn instruction(alloc: Global, name: &[u8], arguments: List<Argument>) -> Result<
     if !may_be_all(shape, arguments.as_slice()) {
         return Err(LineFault::Bad);
     }
-    Ok(Content::Instruction(copy_bytes(alloc, name)?, arguments))
+    let name = SourceName::from_slice(alloc, name)?;
+    Ok(Content::Instruction(name, arguments))
 }
 
 /// Whether these operands may stand where the instruction takes those of these kinds.
@@ -332,11 +334,12 @@ fn three(
 ) -> Result<Content, NoMemory>
     ensures { IfOk result (λ made. made ≡ content.Instruction name.now (first ∷ second ∷ third ∷ [])) }
 {
-    let mut arguments = List::new(alloc);
+    let mut arguments = room(alloc, 3)?;
     arguments.push(first)?;
     arguments.push(second)?;
     arguments.push(third)?;
-    Ok(Content::Instruction(copy_bytes(alloc, name)?, arguments))
+    let name = SourceName::from_slice(alloc, name)?;
+    Ok(Content::Instruction(name, arguments))
 }
 
 fn register_in(argument: &Argument) -> Option<u8>
@@ -367,11 +370,11 @@ fn number_in(argument: &Argument) -> Option<Integer>
     }
 }
 
-fn label_in(alloc: Global, argument: &Argument) -> Result<ByteList, LineFault>
+fn label_in(alloc: Global, argument: &Argument) -> Result<SourceName, LineFault>
     ensures { FormAnswers (label_of_argument argument.now) result }
 {
     match argument {
-        Argument::Value(Value::Label(name)) => Ok(copy_bytes(alloc, name.as_slice())?),
+        Argument::Value(Value::Label(name)) => Ok(SourceName::from_slice(alloc, name.as_slice())?),
         _ => Err(LineFault::Bad),
     }
 }

@@ -15,22 +15,6 @@ use Rattle.mips_asm.specs.Layout.{layout}
 use Rattle.mips_asm.specs.Passes.{Labels, duplicate_line, overlap_line, statement_line, too_long_line, unknown_line}
 use Rattle.mips_asm.specs.Sources.{IsFaultOf, IsFirst, IsOutOfRange, IsPlacedFault, OrNoMemory, bad_entry, bad_entry_of, entry_value, is_entry_statement, labels_of, last_entry}
 
--- what a pass says of its fault
-abbrev pub Said : (ℕ → AsmFault) → Option ℕ → AsmFault → Type 0
-Said kind found fault = (fault ≡ NoMemory) ⊎ ((n : ℕ) × (found ≡ Some n) × (fault ≡ kind n))
-
-pub overlap_said : (placed : List Placed) (fault : AsmFault)
-    → Said (λ n. Overlap n) (overlap_line placed) fault → OrNoMemory (IsPlacedFault placed) fault
-overlap_said placed fault (inl none) = inl none
-overlap_said placed fault (inr some) = inr (subst (IsPlacedFault placed) (sym some.2) some.1)
-
-pub unknown_said : (placed : List Placed) (fault : AsmFault) → overlap_line placed ≡ None
-    → Said (λ n. UnknownName n) (unknown_line (labels_of placed) placed) fault
-    → OrNoMemory (IsPlacedFault placed) fault
-unknown_said placed fault apart (inl none) = inl none
-unknown_said placed fault apart (inr some) =
-    inr (subst (IsPlacedFault placed) (sym some.2) (apart, some.1))
-
 range_said : (placed : List Placed) (fault : AsmFault) → overlap_line placed ≡ None
     → unknown_line (labels_of placed) placed ≡ None
     → (fault ≡ NoMemory) ⊎ ((n : ℕ) × (fault ≡ Range n) × IsFirst statement_line
@@ -82,21 +66,6 @@ no_bad_entry labels placed line all bad = at (last_entry placed) refl bad
 
 -- ---- sources
 
-pub duplicate_said : (text : List ℕ) (parts : List Part) (fault : AsmFault)
-    → source_of text ≡ Ok parts → Said (λ n. Duplicate n) (duplicate_line parts) fault
-    → OrNoMemory (IsFaultOf text) fault
-duplicate_said text parts fault read (inl none) = inl none
-duplicate_said text parts fault read (inr some) =
-    inr (subst (IsFaultOf text) (sym some.2) (parts, read, some.1))
-
-pub too_long_said : (text : List ℕ) (parts : List Part) (fault : AsmFault)
-    → source_of text ≡ Ok parts → duplicate_line parts ≡ None
-    → Said (λ n. TooLong n) (too_long_line (layout 0 parts)) fault
-    → OrNoMemory (IsFaultOf text) fault
-too_long_said text parts fault read unique (inl none) = inl none
-too_long_said text parts fault read unique (inr some) =
-    inr (subst (IsFaultOf text) (sym some.2) (parts, read, (unique, some.1)))
-
 -- a fault at places is one of the source, where no kind before it occurs
 pub placed_fault : (text : List ℕ) (parts : List Part) (fault : AsmFault)
     → source_of text ≡ Ok parts → duplicate_line parts ≡ None
@@ -109,13 +78,6 @@ placed_fault text parts (Overlap n) read unique short is = (parts, read, (unique
 placed_fault text parts (UnknownName n) read unique short is = (parts, read, (unique, short, is))
 placed_fault text parts (Range n) read unique short is = (parts, read, (unique, short, is))
 placed_fault text parts NoMemory read unique short is = absurd is
-
-pub placed_said : (text : List ℕ) (parts : List Part) (fault : AsmFault) → source_of text ≡ Ok parts
-    → duplicate_line parts ≡ None → too_long_line (layout 0 parts) ≡ None
-    → OrNoMemory (IsPlacedFault (layout 0 parts)) fault → OrNoMemory (IsFaultOf text) fault
-placed_said text parts fault read unique short (inl none) = inl none
-placed_said text parts fault read unique short (inr is) =
-    inr (placed_fault text parts fault read unique short is)
 
 -- what is true of an error is true of the answer that hands it on
 pub err_is : {A : Type 0} (r : Result A AsmFault) (fault : AsmFault) → IsErrAnd r (λ e. e ≡ fault)

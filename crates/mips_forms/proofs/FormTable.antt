@@ -346,6 +346,22 @@ kinds_of-Takes name shape is =
       ap (λ (form : List ℕ × List Operand). map operand_kind_of form.1) form ∙ kind_of-sample shape,
     )
 
+-- where an instruction with this mnemonic has operands of these kinds, they are the mnemonic's
+pub kinds_of_takes : (name : List ℕ) (shape : List OperandKind) → takes name shape ≡ true
+    → kinds_of name ≡ Some shape
+kinds_of_takes name shape is =
+    let built = some_of (build_of name (map sample_of shape)) is in
+    let form = build_of-form name (map sample_of shape) built.0 built.1 in
+    sym (ap (λ (form : List ℕ × List Operand). kinds_of form.0) form) ∙ kinds_of_forms built.0
+    ∙ ap (λ (form : List ℕ × List Operand). Some (map operand_kind_of form.1)) form
+    ∙ ap (λ (kinds : List OperandKind). Some kinds) (kind_of-sample shape)
+
+-- the same of what was found there
+pub kinds_of_found : (name : List ℕ) (shape : List OperandKind) (found : Option Ins)
+    → found ≡ build_of name (map sample_of shape) → is_some found ≡ true
+    → kinds_of name ≡ Some shape
+kinds_of_found name shape found is some = kinds_of_takes name shape (ap is_some (sym is) ∙ some)
+
 -- a name without kinds is no mnemonic
 pub kinds_of-none : (name : List ℕ) → kinds_of name ≡ None → IsNoMnemonic name
 kinds_of-none name none i is =

@@ -4,6 +4,7 @@ ghost use Rattle.mips_forms.specs.Forms.{FormTakes, IsNoMnemonic, form_of};
 ghost use Rattle.mips_forms.specs.Builds.{access_rows, build_of, coded_rows, compare_rows, in_rows, jump_rows, kinds_of, plain_rows, register_rows, rows_of_shifts, signed_rows, slot_rows, sum_rows, test_rows, three_registers_rows, two_registers_rows, unsigned_rows, upper_rows};
 
 use crate::OperandKind::{Branch, Code, Jump, Offset, Register, Shift, Signed, Unsigned};
+use crate::letters::kinds_by_letter;
 use crate::{Operand, OperandKind};
 use mips_instruction::Ins;
 
@@ -25,9 +26,19 @@ pub fn kinds(name: &[u8]) -> Option<&'static [OperandKind]>
     found_kinds(name)
 }
 
+/// The kinds of a mnemonic's operands. Most are found by its first letter, so that is tried first.
+fn found_kinds(name: &[u8]) -> Option<&'static [OperandKind]>
+    ensures { MatchOption result (kinds_of name.now ≡ None) (λ shape. kinds_of name.now ≡ Some shape.now) }
+{
+    match kinds_by_letter(name) {
+        Some(kinds) => Some(kinds),
+        None => kinds_in_tables(name),
+    }
+}
+
 /// The kinds of the tables in which this mnemonic stands.
 #[tactic(auto, unfolding(crate::specs::Builds::kinds_of, crate::specs::Builds::rows_with_operands))]
-fn found_kinds(name: &[u8]) -> Option<&'static [OperandKind]>
+fn kinds_in_tables(name: &[u8]) -> Option<&'static [OperandKind]>
     ensures { MatchOption result (kinds_of name.now ≡ None) (λ shape. kinds_of name.now ≡ Some shape.now) }
 {
     if plain(name).is_some() {
@@ -122,7 +133,7 @@ fn plain(name: &[u8]) -> Option<Ins>
 
 /// One register.
 #[tactic(auto, unfolding(crate::specs::Builds::register_rows))]
-fn register(name: &[u8], a: u8) -> Option<Ins>
+pub(crate) fn register(name: &[u8], a: u8) -> Option<Ins>
     ensures { result ≡ in_rows name.now (register_rows a) }
 {
     if is(name, b"jr") {
@@ -160,7 +171,7 @@ fn register(name: &[u8], a: u8) -> Option<Ins>
 
 /// Two registers.
 #[tactic(auto, unfolding(crate::specs::Builds::two_registers_rows))]
-fn two_registers(name: &[u8], a: u8, b: u8) -> Option<Ins>
+pub(crate) fn two_registers(name: &[u8], a: u8, b: u8) -> Option<Ins>
     ensures { result ≡ in_rows name.now (two_registers_rows a b) }
 {
     if is(name, b"jalr") {
@@ -186,7 +197,7 @@ fn two_registers(name: &[u8], a: u8, b: u8) -> Option<Ins>
 
 /// Three registers.
 #[tactic(auto, unfolding(crate::specs::Builds::three_registers_rows))]
-fn three_registers(name: &[u8], rd: u8, rt: u8, rs: u8) -> Option<Ins>
+pub(crate) fn three_registers(name: &[u8], rd: u8, rt: u8, rs: u8) -> Option<Ins>
     ensures { result ≡ in_rows name.now (three_registers_rows rd rt rs) }
 {
     if is(name, b"sllv") {
@@ -250,7 +261,7 @@ fn slot(name: &[u8], rs: u8, rt: u8, rd: u8) -> Option<Ins>
 
 /// Two registers and a shift amount.
 #[tactic(auto, unfolding(crate::specs::Builds::rows_of_shifts))]
-fn shift(name: &[u8], rd: u8, rt: u8, sa: u8) -> Option<Ins>
+pub(crate) fn shift(name: &[u8], rd: u8, rt: u8, sa: u8) -> Option<Ins>
     ensures { result ≡ in_rows name.now (rows_of_shifts rd rt sa) }
 {
     if is(name, b"sll") {
@@ -266,7 +277,7 @@ fn shift(name: &[u8], rd: u8, rt: u8, sa: u8) -> Option<Ins>
 
 /// Two registers and an immediate with its sign.
 #[tactic(auto, unfolding(crate::specs::Builds::signed_rows))]
-fn signed(name: &[u8], rt: u8, rs: u8, imm: u16) -> Option<Ins>
+pub(crate) fn signed(name: &[u8], rt: u8, rs: u8, imm: u16) -> Option<Ins>
     ensures { result ≡ in_rows name.now (signed_rows rt rs imm) }
 {
     if is(name, b"addi") {
@@ -284,7 +295,7 @@ fn signed(name: &[u8], rt: u8, rs: u8, imm: u16) -> Option<Ins>
 
 /// Two registers and an immediate without a sign.
 #[tactic(auto, unfolding(crate::specs::Builds::unsigned_rows))]
-fn unsigned(name: &[u8], rt: u8, rs: u8, imm: u16) -> Option<Ins>
+pub(crate) fn unsigned(name: &[u8], rt: u8, rs: u8, imm: u16) -> Option<Ins>
     ensures { result ≡ in_rows name.now (unsigned_rows rt rs imm) }
 {
     if is(name, b"andi") {
@@ -300,7 +311,7 @@ fn unsigned(name: &[u8], rt: u8, rs: u8, imm: u16) -> Option<Ins>
 
 /// A register and an immediate without a sign.
 #[tactic(auto, unfolding(crate::specs::Builds::upper_rows))]
-fn upper(name: &[u8], rt: u8, imm: u16) -> Option<Ins>
+pub(crate) fn upper(name: &[u8], rt: u8, imm: u16) -> Option<Ins>
     ensures { result ≡ in_rows name.now (upper_rows rt imm) }
 {
     if is(name, b"lui") {
@@ -312,7 +323,7 @@ fn upper(name: &[u8], rt: u8, imm: u16) -> Option<Ins>
 
 /// A register, and an offset from a base register.
 #[tactic(auto, unfolding(crate::specs::Builds::access_rows))]
-fn access(name: &[u8], rt: u8, imm: u16, rs: u8) -> Option<Ins>
+pub(crate) fn access(name: &[u8], rt: u8, imm: u16, rs: u8) -> Option<Ins>
     ensures { result ≡ in_rows name.now (access_rows rt imm rs) }
 {
     if is(name, b"lb") {
@@ -350,7 +361,7 @@ fn access(name: &[u8], rt: u8, imm: u16, rs: u8) -> Option<Ins>
 
 /// Two registers and a branch target.
 #[tactic(auto, unfolding(crate::specs::Builds::compare_rows))]
-fn compare(name: &[u8], rs: u8, rt: u8, imm: u16) -> Option<Ins>
+pub(crate) fn compare(name: &[u8], rs: u8, rt: u8, imm: u16) -> Option<Ins>
     ensures { result ≡ in_rows name.now (compare_rows rs rt imm) }
 {
     if is(name, b"beq") {
@@ -364,7 +375,7 @@ fn compare(name: &[u8], rs: u8, rt: u8, imm: u16) -> Option<Ins>
 
 /// A register and a branch target.
 #[tactic(auto, unfolding(crate::specs::Builds::test_rows))]
-fn test(name: &[u8], rs: u8, imm: u16) -> Option<Ins>
+pub(crate) fn test(name: &[u8], rs: u8, imm: u16) -> Option<Ins>
     ensures { result ≡ in_rows name.now (test_rows rs imm) }
 {
     if is(name, b"bltz") {
@@ -386,7 +397,7 @@ fn test(name: &[u8], rs: u8, imm: u16) -> Option<Ins>
 
 /// A jump target.
 #[tactic(auto, unfolding(crate::specs::Builds::jump_rows))]
-fn jump(name: &[u8], index: u32) -> Option<Ins>
+pub(crate) fn jump(name: &[u8], index: u32) -> Option<Ins>
     ensures { result ≡ in_rows name.now (jump_rows index) }
 {
     if is(name, b"j") {
@@ -414,6 +425,7 @@ fn coded(name: &[u8], code: u32) -> Option<Ins>
 
 /// Whether two texts are the same. Most texts differ in their lengths or first bytes, so these are
 /// compared first.
+#[inline(always)]
 #[tactic(auto, using(crate::proofs::FormTable::other_length))]
 pub fn is(name: &[u8], text: &[u8]) -> bool
     ensures { result ≡ bytes_eq name.now text.now }
@@ -425,6 +437,7 @@ pub fn is(name: &[u8], text: &[u8]) -> bool
 }
 
 /// Whether two texts have the same first byte, or one of them has none.
+#[inline(always)]
 fn begin_alike(name: &[u8], text: &[u8]) -> bool
     ensures { result ≡ false → bytes_eq name.now text.now ≡ false }
 {

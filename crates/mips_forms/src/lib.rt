@@ -7,6 +7,7 @@
 mod building;
 mod forms;
 mod law;
+mod letters;
 mod operand;
 
 pub use building::{build, is as same_text, kinds};
