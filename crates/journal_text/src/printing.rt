@@ -23,9 +23,9 @@ pub fn print_journal(alloc: Global, journal: &Journal) -> Result<ByteList, NoMem
     Ok(ByteList::from_vec(text))
 }
 
-/// Adds the line of an entry, with its end.
+/// Adds the line of an entry to a text, with its end. Where memory runs out, a part may have been added.
 #[tactic(auto, unfolding(crate::specs::JournalTexts::journal_line_text))]
-fn push_line(text: &mut Vec<u8>, entry: &Entry) -> Result<(), NoMemory>
+pub fn push_line(text: &mut Vec<u8>, entry: &Entry) -> Result<(), NoMemory>
     ensures { OnOk result (text.new.items ≡ text.old.items ++ journal_line_text entry.now) }
 {
     push_entry(text, entry)?;

@@ -1,0 +1,74 @@
+ghost use Rattle.std.specs.Prelude.{◌≡◌, ◌≤◌, ◌+◌, IfOk, length, drop, take, max, min};
+ghost use Rattle.std.specs.List.{prefix_len};
+ghost use Rattle.trace_picture.specs.Lanes.{column_length as column_length_of, column_size as column_size_of, columns_by, is_hash as is_hash_entry};
+
+use crate::lanes::is_hash;
+use std::alloc::Global;
+use xom_base::{Entry, List, NoMemory};
+use xom_journal::Journal;
+
+/// In a journal of so many entries a column holds one.
+const SHORT: u64 = 100_000;
+
+/// How many entries stand in a column, of a journal of so many.
+pub fn column_size(entries: u64) -> u64
+    ensures { result ≡ column_size_of entries }
+{
+    entries.saturating_sub(1) / SHORT + 1
+}
+
+/// How many hashes stand together from this entry on.
+fn hash_run(journal: &Journal, start: u64) -> u64
+    requires { start ≤ length journal.now.entries }
+    ensures value { result ≡ prefix_len is_hash_entry (drop start journal.now.entries) }
+{
+    let mut at = start;
+    while let Some(entry) = journal.get(at) {
+        if !is_hash(&entry) {
+            break;
+        }
+        at += 1;
+    }
+    at - start
+}
+
+/// How many entries stand in the column that begins with this one.
+pub fn column_length(journal: &Journal, start: u64, size: u64) -> u64
+    requires { start ≤ length journal.now.entries }
+    ensures { result ≡ min (column_length_of size (drop start journal.now.entries)) (length (drop start journal.now.entries)) }
+{
+    size.max(hash_run(journal, start)).min(journal.len() - start)
+}
+
+/// So many entries of a journal, from this one on.
+pub fn entries_at(
+    alloc: Global,
+    journal: &Journal,
+    start: u64,
+    count: u64,
+) -> Result<List<Entry>, NoMemory>
+    requires { start + count ≤ length journal.now.entries }
+    ensures { IfOk result (λ list. list ≡ take count (drop start journal.now.entries)) }
+{
+    let mut list = List::new(alloc);
+    for i in start..start + count {
+        if let Some(entry) = journal.get(i) {
+            list.push(entry)?;
+        }
+    }
+    Ok(list)
+}
+
+/// How many columns a journal has. It looks at each entry twice at most.
+pub fn column_count(journal: &Journal, size: u64) -> u64
+    requires { 1 ≤ size }
+    ensures { result ≡ length (columns_by size journal.now.entries) }
+{
+    let mut count = 0;
+    let mut start = 0;
+    while start < journal.len() {
+        start += column_length(journal, start, size);
+        count += 1;
+    }
+    count
+}

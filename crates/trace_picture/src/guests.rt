@@ -1,0 +1,115 @@
+ghost use Rattle.std.specs.Prelude.{◌≡◌, ◌≤◌, ◌<◌, ◌+◌, ◌^◌, All, IfOk, length};
+ghost use Rattle.std.specs.List.{filter_map};
+ghost use Rattle.trace_picture.specs.GuestTable.{fresh_row as fresh_row_of, guest_rows as guest_rows_of, is_step_of, is_trap_of, row_after, rows_after};
+ghost use Rattle.trace_picture.specs.Lanes.{lane_of};
+
+use crate::lanes::lane;
+use std::alloc::Global;
+use trace_judge::{GuestEnd, next_end};
+use xom_base::{Entry, ImageId, NoMemory};
+use xom_journal::Journal;
+
+/// What the table says of an install.
+#[derive(Clone, Copy, Debug, PartialEq, Eq)]
+pub struct GuestRow {
+    /// Its slot, 1 to 16.
+    pub slot: u8,
+    /// The id that its envelope names.
+    pub id: ImageId,
+    /// How many steps it made.
+    pub steps: u64,
+    /// How many times it trapped.
+    pub traps: u64,
+    /// How it ended.
+    pub end: GuestEnd,
+}
+
+/// The rows of a journal's installs, in their order. It costs time linear in the journal.
+pub fn guest_rows(alloc: Global, journal: &Journal) -> Result<Vec<GuestRow>, NoMemory>
+    ensures { IfOk result (λ rows. rows.items ≡ guest_rows_of journal.now.entries) }
+{
+    let mut rows = fresh_rows(alloc, journal)?;
+    for i in 0..journal.len() {
+        if let Some(entry) = journal.get(i) {
+            count(&mut rows, &entry);
+        }
+    }
+    Ok(rows)
+}
+
+/// A row for each install, with nothing counted.
+fn fresh_rows(alloc: Global, journal: &Journal) -> Result<Vec<GuestRow>, NoMemory>
+    ensures { IfOk result (λ rows. rows.items ≡ filter_map fresh_row_of journal.now.entries) }
+{
+    let mut rows = Vec::new(alloc);
+    for i in 0..journal.len() {
+        if let Some(entry) = journal.get(i) {
+            if let Some(row) = fresh_row(&entry) {
+                rows.push(row)?;
+            }
+        }
+    }
+    Ok(rows)
+}
+
+/// The row of an Install entry, with nothing counted.
+fn fresh_row(entry: &Entry) -> Option<GuestRow>
+    ensures { result ≡ fresh_row_of entry.now }
+{
+    match *entry {
+        Entry::Install { slot, id, .. } => Some(GuestRow {
+            slot,
+            id,
+            steps: 0,
+            traps: 0,
+            end: GuestEnd::Running,
+        }),
+        _ => None,
+    }
+}
+
+/// Counts an entry in the row of its install.
+fn count(rows: &mut Vec<GuestRow>, entry: &Entry)
+    requires { All (λ row. (row.steps < 2 ^ 63) × (row.traps < 2 ^ 63)) rows.old.items }
+    ensures { rows.new.items ≡ rows_after 1 entry.now rows.old.items }
+{
+    let install = lane(entry);
+    if install > 0 && install <= rows.len() as u64 {
+        let place = (install - 1) as usize;
+        rows[place] = counted(&rows[place], install, entry);
+    }
+}
+
+/// A row with one more entry of its install.
+fn counted(row: &GuestRow, install: u64, entry: &Entry) -> GuestRow
+    requires { (row.now.steps < 2 ^ 63) × (row.now.traps < 2 ^ 63) }
+    ensures { result ≡ row_after install entry.now row.now }
+{
+    GuestRow {
+        slot: row.slot,
+        id: row.id,
+        steps: row.steps + u64::from(is_step(install, entry)),
+        traps: row.traps + u64::from(is_trap(install, entry)),
+        end: next_end(row.end, install, entry),
+    }
+}
+
+/// Whether the entry is a step of this install.
+fn is_step(wanted: u64, entry: &Entry) -> bool
+    ensures { result ≡ is_step_of wanted entry.now }
+{
+    match *entry {
+        Entry::Step { install, .. } => install == wanted,
+        _ => false,
+    }
+}
+
+/// Whether the entry is a trap of this install.
+fn is_trap(wanted: u64, entry: &Entry) -> bool
+    ensures { result ≡ is_trap_of wanted entry.now }
+{
+    match *entry {
+        Entry::Trap { install, .. } => install == wanted,
+        _ => false,
+    }
+}

@@ -1,0 +1,164 @@
+ghost use Rattle.std.specs.Prelude.{◌≡◌, ◌≤◌, ◌+◌, ◌++◌, IfOk, OnOk, length};
+ghost use Rattle.trace_picture.specs.Lanes.{column_size as column_size_of, columns_of};
+ghost use Rattle.trace_picture.specs.Marks.{ShowEachOnce, marks_of};
+ghost use Rattle.trace_picture.specs.Pages.{column_width_text, fit_text, frame_text, head_text, journal_page, key_text, kinds_text, layout_text, page_text, picture_text, summary_text};
+
+use crate::GuestRow;
+use crate::columns::{column_count, column_size};
+use crate::guests::guest_rows;
+use crate::marks::push_marks;
+use crate::table::{push_lane_names, push_table};
+use std::alloc::Global;
+use text_pieces::{push_decimal64, push_text};
+use xom_base::{ByteList, NoMemory};
+use xom_journal::Journal;
+
+/// The page that shows a journal. It costs time linear in the journal's text, but in a column of a
+/// journal of more than 100,000 entries time quadratic in its lanes; and memory for the page.
+#[tactic(auto, using(crate::proofs::MarkLaws::show_each_once))]
+pub fn print_page(alloc: Global, journal: &Journal) -> Result<ByteList, NoMemory>
+    ensures page { IfOk result (λ page. page ≡ journal_page journal.now.entries) }
+    // Each entry has one mark of the page, in its lane.
+    ensures once { ShowEachOnce journal.now.entries (marks_of journal.now.entries) }
+{
+    let rows = guest_rows(alloc, journal)?;
+    let mut text = Vec::new(alloc);
+    push_head(&mut text)?;
+    push_summary(&mut text, journal.len())?;
+    push_key(&mut text)?;
+    push_fit(&mut text)?;
+    push_picture(alloc, &mut text, journal, rows.as_slice())?;
+    push_table(alloc, &mut text, rows.as_slice())?;
+    Ok(ByteList::from_vec(text))
+}
+
+/// Adds what stands in front of every page.
+fn push_head(text: &mut Vec<u8>) -> Result<(), NoMemory>
+    ensures { OnOk result (text.new.items ≡ text.old.items ++ head_text) }
+{
+    push_layout(text)?;
+    push_kinds(text)
+}
+
+/// Adds the page's title, and how it is laid out.
+fn push_layout(text: &mut Vec<u8>) -> Result<(), NoMemory>
+    ensures { OnOk result (text.new.items ≡ text.old.items ++ layout_text) }
+{
+    push_text(
+        text,
+        "<!DOCTYPE html>\n<html lang=\"en\">\n<meta charset=\"utf-8\">\n<title>Journal</title>\n<style>\n",
+    )?;
+    push_text(
+        text,
+        "body{font:14px/20px sans-serif;margin:16px}.picture{display:flex;margin:16px 0}\n",
+    )?;
+    push_text(text, "ol{list-style:none;margin:0;padding:0 12px 0 0;white-space:nowrap}\n")?;
+    push_text(text, "li{height:24px;line-height:24px}.time{flex:1;overflow-x:auto}\n")?;
+    push_text(
+        text,
+        "svg{display:block;background:repeating-linear-gradient(#f1f3f6 0 23px,#fff 23px 24px)}\n",
+    )?;
+    push_text(text, "#fit:checked~.picture svg{width:100%!important}\n")?;
+    push_text(text, "th,td{padding:2px 12px 2px 0;text-align:left}.id{font-family:monospace}\n")?;
+    push_text(text, ".key span{border-left:12px solid;padding:0 16px 0 4px}\n")
+}
+
+/// Adds how the marks of each kind of entry are drawn.
+fn push_kinds(text: &mut Vec<u8>) -> Result<(), NoMemory>
+    ensures { OnOk result (text.new.items ≡ text.old.items ++ kinds_text) }
+{
+    push_text(text, "rect{width:.8px;fill:currentColor}\n")?;
+    push_text(text, ".install{color:#2b8a3e;height:.9px}.step{color:#3b6ea5;height:.3px}\n")?;
+    push_text(text, ".trap{color:#e8890c;height:.7px}.kill{color:#555;height:.9px}\n")?;
+    push_text(text, ".seal{color:#7048c8;height:.35px}.accept{color:#0c8599;height:.35px}\n")?;
+    push_text(text, ".hash{color:#9aa3ad;height:.2px}.out{color:#c2255c;height:.5px}\n")?;
+    push_text(text, ".stop{color:#e00000;height:.9px}\n")?;
+    push_text(
+        text,
+        "rect.stop{stroke:#e00000;stroke-width:3px;vector-effect:non-scaling-stroke}\n</style>\n",
+    )
+}
+
+/// Adds how many entries there are, and how many stand in a column.
+fn push_summary(text: &mut Vec<u8>, entries: u64) -> Result<(), NoMemory>
+    ensures { OnOk result (text.new.items ≡ text.old.items ++ summary_text entries) }
+{
+    push_text(text, "<h1>")?;
+    push_decimal64(text, entries)?;
+    push_text(text, " entries</h1>\n<p>A column is ")?;
+    push_decimal64(text, column_size(entries))?;
+    push_text(text, " long, or as many hashes as stand together.\n")
+}
+
+/// Adds the key to the kinds of entries.
+fn push_key(text: &mut Vec<u8>) -> Result<(), NoMemory>
+    ensures { OnOk result (text.new.items ≡ text.old.items ++ key_text) }
+{
+    push_text(
+        text,
+        "<p class=\"key\"><span class=\"install\">install</span><span class=\"step\">step</span>\n",
+    )?;
+    push_text(text, "<span class=\"trap\">trap</span><span class=\"stop\">stop</span>\n")?;
+    push_text(text, "<span class=\"kill\">kill</span><span class=\"seal\">seal</span>\n")?;
+    push_text(text, "<span class=\"accept\">accept</span><span class=\"hash\">hash</span>\n")?;
+    push_text(text, "<span class=\"out\">console byte</span>\n")
+}
+
+/// Adds the box that shows a long picture as a whole.
+fn push_fit(text: &mut Vec<u8>) -> Result<(), NoMemory>
+    ensures { OnOk result (text.new.items ≡ text.old.items ++ fit_text) }
+{
+    push_text(
+        text,
+        "<input type=\"checkbox\" id=\"fit\"><label for=\"fit\">fit the window</label>\n",
+    )
+}
+
+/// Adds the lanes with their names and their marks.
+#[tactic(auto, unfolding(crate::specs::Pages::picture_text))]
+fn push_picture(
+    alloc: Global,
+    text: &mut Vec<u8>,
+    journal: &Journal,
+    rows: &[GuestRow],
+) -> Result<(), NoMemory>
+    ensures { OnOk result (text.new.items ≡ text.old.items ++ picture_text journal.now.entries rows.now) }
+{
+    let size = column_size(journal.len());
+    push_text(text, "<div class=\"picture\"><ol><li>memory\n")?;
+    push_lane_names(text, rows)?;
+    push_text(text, "</ol><div class=\"time\">\n")?;
+    push_frame(text, column_count(journal, size), rows.len() as u64 + 1)?;
+    push_marks(alloc, text, journal, size)?;
+    push_text(text, "</svg></div></div>\n")
+}
+
+/// Adds the picture's frame: so many columns and lanes.
+fn push_frame(text: &mut Vec<u8>, columns: u64, lanes: u64) -> Result<(), NoMemory>
+    ensures { OnOk result (text.new.items ≡ text.old.items ++ frame_text columns lanes) }
+{
+    push_text(text, "<svg preserveAspectRatio=\"none\" viewBox=\"0 0 ")?;
+    push_decimal64(text, columns)?;
+    push_text(text, " ")?;
+    push_decimal64(text, lanes)?;
+    push_text(text, "\" style=\"width:calc(")?;
+    push_decimal64(text, columns)?;
+    push_text(text, "*")?;
+    push_text(text, column_width(columns))?;
+    push_text(text, ");height:calc(")?;
+    push_decimal64(text, lanes)?;
+    push_text(text, "*24px)\">\n")
+}
+
+/// How wide a column is, by their number.
+fn column_width(columns: u64) -> &'static str
+    ensures { result.now ≡ column_width_text columns }
+{
+    if columns <= 100 {
+        "12px"
+    } else if columns <= 1000 {
+        "6px"
+    } else {
+        "2px"
+    }
+}

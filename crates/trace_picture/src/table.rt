@@ -1,0 +1,71 @@
+ghost use Rattle.std.specs.Prelude.{◌≡◌, ◌+◌, ◌++◌, OnOk};
+ghost use Rattle.trace_picture.specs.GuestTable.{guest_row_text, guest_rows_text, lane_name_text, lane_names_text};
+ghost use Rattle.trace_picture.specs.Pages.{table_text};
+
+use crate::GuestRow;
+use std::alloc::Global;
+use text_pieces::{push_bytes, push_decimal, push_decimal64, push_hex, push_text};
+use trace_judge::print_end;
+use xom_base::NoMemory;
+
+/// Adds the table of the guests, and the end of the page.
+pub fn push_table(alloc: Global, text: &mut Vec<u8>, rows: &[GuestRow]) -> Result<(), NoMemory>
+    ensures { OnOk result (text.new.items ≡ text.old.items ++ table_text rows.now) }
+{
+    push_text(text, "<table>\n<tr><th>install<th>slot<th>id<th>steps<th>traps<th>end\n")?;
+    push_rows(alloc, text, rows)?;
+    push_text(text, "</table>\n</html>\n")
+}
+
+/// Adds the rows of the table.
+fn push_rows(alloc: Global, text: &mut Vec<u8>, rows: &[GuestRow]) -> Result<(), NoMemory>
+    ensures { OnOk result (text.new.items ≡ text.old.items ++ guest_rows_text 1 rows.now) }
+{
+    for i in 0..rows.len() {
+        push_row(alloc, text, i as u64 + 1, &rows[i])?;
+    }
+    Ok(())
+}
+
+/// Adds the row of an install.
+fn push_row(
+    alloc: Global,
+    text: &mut Vec<u8>,
+    install: u64,
+    row: &GuestRow,
+) -> Result<(), NoMemory>
+    ensures { OnOk result (text.new.items ≡ text.old.items ++ guest_row_text install row.now) }
+{
+    push_text(text, "<tr><td>")?;
+    push_decimal64(text, install)?;
+    push_text(text, "<td>")?;
+    push_decimal(text, u32::from(row.slot))?;
+    push_text(text, "<td class=\"id\">")?;
+    push_hex(text, row.id.0.as_slice())?;
+    push_text(text, "<td>")?;
+    push_decimal64(text, row.steps)?;
+    push_text(text, "<td>")?;
+    push_decimal64(text, row.traps)?;
+    push_text(text, "<td>")?;
+    push_bytes(text, print_end(alloc, row.end)?.as_bytes())?;
+    push_text(text, "\n")
+}
+
+/// Adds the names of the guests' lanes.
+pub fn push_lane_names(text: &mut Vec<u8>, rows: &[GuestRow]) -> Result<(), NoMemory>
+    ensures { OnOk result (text.new.items ≡ text.old.items ++ lane_names_text 1 rows.now) }
+{
+    for i in 0..rows.len() {
+        push_lane_name(text, i as u64 + 1)?;
+    }
+    Ok(())
+}
+
+/// Adds the name of an install's lane.
+fn push_lane_name(text: &mut Vec<u8>, install: u64) -> Result<(), NoMemory>
+    ensures { OnOk result (text.new.items ≡ text.old.items ++ lane_name_text install) }
+{
+    push_text(text, "<li>guest ")?;
+    push_decimal64(text, install)?;
+    push_text(text, "\n")
+}
