@@ -156,7 +156,8 @@ fn push_cause(text: &mut Vec<u8>, cause: Cause) -> Result<(), NoMemory>
     }
 }
 
-fn push_rule(text: &mut Vec<u8>, rule: Rule) -> Result<(), NoMemory>
+/// Adds a rule: its name, and its line, level or register.
+pub fn push_rule(text: &mut Vec<u8>, rule: Rule) -> Result<(), NoMemory>
     ensures { OnOk result (text.new.items ≡ text.old.items ++ journal_rule_text rule) }
 {
     match rule {

@@ -26,11 +26,10 @@ mod text;
 mod trails;
 mod verdicts;
 
-pub use guests::next_end;
 pub use judging::judge;
 pub use laws::runs_are_followed;
 pub use mips_plain::Verdict;
 pub use report::{GuestEnd, GuestLine, GuestLineList, Report};
 pub use stream::Judge;
 pub use suspicion::{is_stop, is_suspect};
-pub use text::{print_end, print_report};
+pub use text::print_report;

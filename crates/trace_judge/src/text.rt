@@ -34,7 +34,7 @@ fn line_of(alloc: Global, line: &GuestLine) -> Result<String, NoMemory>
     let slot = line.slot;
     let id = hex::encode(alloc, line.id.0.as_slice())?;
     let verdict = verdict_of(alloc, line.verdict)?;
-    let end = print_end(alloc, line.end)?;
+    let end = end_of(alloc, line.end)?;
     Ok(format!(in alloc; "guest {install} slot {slot} id {id} {verdict} {end}\n")?)
 }
 
@@ -48,8 +48,7 @@ fn verdict_of(alloc: Global, verdict: Verdict) -> Result<String, NoMemory>
     })
 }
 
-/// How a guest ended, as text: `ended`, `stopped RULE`, `killed` or `open`.
-pub fn print_end(alloc: Global, end: GuestEnd) -> Result<String, NoMemory>
+fn end_of(alloc: Global, end: GuestEnd) -> Result<String, NoMemory>
     ensures { IfOk result (λ text. string_bytes text ≡ guest_end_text end) }
 {
     match end {

@@ -1,14 +1,52 @@
 -- The table of a picture's guests: what a journal records of each install. This project's own.
-use Rattle.std.specs.Prelude.{ℕ, ◌+◌, ◌==◌, Bool, true, false, List, [], ◌∷◌, ◌++◌, Option, Some, None, codes, count_by, filter_map}
+use Rattle.std.specs.Prelude.{ℕ, ◌+◌, ◌==◌, Bool, true, false, List, [], ◌∷◌, ◌++◌, Option, Some, None, codes, count_by, filter_map, if◌then◌else◌}
 use Rattle.std.specs.Fmt.{decimal}
 use Rattle.hex.specs.Hex.{encode_lower}
 use Rattle.xom_base.specs.declared.entry.Entry.{Entry}
 use Rattle.xom_base.specs.declared.entry.Entry.TheVariants as entry
-use Rattle.trace_judge.specs.GuestWatch.{end_after_entry}
-use Rattle.trace_judge.specs.Judgement.{guest_end_of}
-use Rattle.trace_judge.specs.ReportText.{guest_end_text}
-use Rattle.trace_judge.specs.declared.report.GuestEnd.TheVariants.{Running}
+use Rattle.xom_base.specs.declared.step.StepEnd.{StepEnd}
+use Rattle.xom_base.specs.declared.step.StepEnd.TheVariants as step_end
+use Rattle.journal_text.specs.JournalTexts.{journal_rule_text}
 use Rattle.trace_picture.specs.declared.guests.GuestRow.{GuestRow}
+use Rattle.trace_picture.specs.declared.guests.InstallEnd.{InstallEnd}
+use Rattle.trace_picture.specs.declared.guests.InstallEnd.TheVariants.{Open, Ended, Stopped, Killed}
+
+-- ---- How an install ended
+
+-- whether a step is the last one
+abbrev pub exit_in : StepEnd → InstallEnd
+exit_in step_end.Goes = Open
+exit_in (step_end.Call code) = Open
+exit_in step_end.Exit = Ended
+
+-- the end of this install that an entry records, or Open where it records none
+abbrev pub end_told_by : ℕ → Entry → InstallEnd
+end_told_by n (entry.Install install slot id place begin lines) = Open
+end_told_by n (entry.Step install step) = if install == n then exit_in step.end else Open
+end_told_by n (entry.Trap install why) = Open
+end_told_by n (entry.Seal key message) = Open
+end_told_by n (entry.Accept key message place) = Open
+end_told_by n (entry.Hash preimage digest) = Open
+end_told_by n (entry.Stop install rule) = if install == n then Stopped rule else Open
+end_told_by n (entry.Kill install) = if install == n then Killed else Open
+end_told_by n (entry.Out byte) = Open
+
+-- the earlier of two ends, of which either may be Open
+abbrev pub first_end : InstallEnd → InstallEnd → InstallEnd
+first_end Open later = later
+first_end end later = end
+
+-- the first end of this install that these entries record
+abbrev pub install_end : ℕ → List Entry → InstallEnd
+install_end n [] = Open
+install_end n (e ∷ es) = first_end (end_told_by n e) (install_end n es)
+
+-- an end, in the words of a judge's report
+abbrev pub install_end_text : InstallEnd → List ℕ
+install_end_text Open = codes "open"
+install_end_text Ended = codes "ended"
+install_end_text (Stopped rule) = codes "stopped " ++ journal_rule_text rule
+install_end_text Killed = codes "killed"
 
 -- ---- The rows
 
@@ -25,7 +63,7 @@ is_trap_of n other = false
 -- the row of an Install entry, with its slot and id and nothing else so far
 abbrev pub fresh_row : Entry → Option GuestRow
 fresh_row (entry.Install n slot id place begin lines) =
-    Some (record { slot = slot; id = id; steps = 0; traps = 0; end = Running })
+    Some (record { slot = slot; id = id; steps = 0; traps = 0; end = Open })
 fresh_row other = None
 
 -- the row with the steps, the traps and the end that these entries record of an install
@@ -35,7 +73,7 @@ row_with n es row = record {
   id = row.id;
   steps = count_by (is_step_of n) es;
   traps = count_by (is_trap_of n) es;
-  end = guest_end_of n es;
+  end = install_end n es;
 }
 
 -- the same of each row, the first of which is that of this install
@@ -62,7 +100,7 @@ row_after n e row = record {
   id = row.id;
   steps = row.steps + count_of (is_step_of n e);
   traps = row.traps + count_of (is_trap_of n e);
-  end = end_after_entry row.end n e;
+  end = first_end row.end (end_told_by n e);
 }
 
 -- the rows with one more entry, where the first of them is that of this install
@@ -77,7 +115,7 @@ abbrev pub guest_row_text : ℕ → GuestRow → List ℕ
 guest_row_text n row =
     codes "<tr><td>" ++ (decimal n ++ (codes "<td>" ++ (decimal row.slot ++ (codes "<td class=\"id\">"
     ++ (encode_lower row.id.0 ++ (codes "<td>" ++ (decimal row.steps ++ (codes "<td>"
-    ++ (decimal row.traps ++ (codes "<td>" ++ (guest_end_text row.end ++ codes "\n")))))))))))
+    ++ (decimal row.traps ++ (codes "<td>" ++ (install_end_text row.end ++ codes "\n")))))))))))
 
 -- the rows from this install on
 abbrev pub guest_rows_text : ℕ → List GuestRow → List ℕ

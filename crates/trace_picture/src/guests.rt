@@ -1,13 +1,25 @@
 ghost use Rattle.std.specs.Prelude.{◌≡◌, ◌≤◌, ◌<◌, ◌+◌, ◌^◌, All, IfOk, length};
 ghost use Rattle.std.specs.List.{filter_map};
-ghost use Rattle.trace_picture.specs.GuestTable.{fresh_row as fresh_row_of, guest_rows as guest_rows_of, is_step_of, is_trap_of, row_after, rows_after};
+ghost use Rattle.trace_picture.specs.GuestTable.{end_told_by as end_told_by_entry, exit_in as exit_in_step, first_end as first_end_of, fresh_row as fresh_row_of, guest_rows as guest_rows_of, is_step_of, is_trap_of, row_after, rows_after};
 ghost use Rattle.trace_picture.specs.Lanes.{lane_of};
 
 use crate::lanes::lane;
 use std::alloc::Global;
-use trace_judge::{GuestEnd, next_end};
-use xom_base::{Entry, ImageId, NoMemory};
+use xom_base::{Entry, ImageId, NoMemory, Rule, StepEnd};
 use xom_journal::Journal;
+
+/// How an install ended, by the first of its exit, its Stop and its Kill.
+#[derive(Clone, Copy, Debug, PartialEq, Eq)]
+pub enum InstallEnd {
+    /// By none of these as yet.
+    Open,
+    /// By `xexit`.
+    Ended,
+    /// It was stopped by this rule.
+    Stopped(Rule),
+    /// The kernel freed its slot.
+    Killed,
+}
 
 /// What the table says of an install.
 #[derive(Clone, Copy, Debug, PartialEq, Eq)]
@@ -21,7 +33,7 @@ pub struct GuestRow {
     /// How many times it trapped.
     pub traps: u64,
     /// How it ended.
-    pub end: GuestEnd,
+    pub end: InstallEnd,
 }
 
 /// The rows of a journal's installs, in their order. It costs time linear in the journal.
@@ -62,7 +74,7 @@ fn fresh_row(entry: &Entry) -> Option<GuestRow>
             id,
             steps: 0,
             traps: 0,
-            end: GuestEnd::Running,
+            end: InstallEnd::Open,
         }),
         _ => None,
     }
@@ -90,7 +102,41 @@ fn counted(row: &GuestRow, install: u64, entry: &Entry) -> GuestRow
         id: row.id,
         steps: row.steps + u64::from(is_step(install, entry)),
         traps: row.traps + u64::from(is_trap(install, entry)),
-        end: next_end(row.end, install, entry),
+        end: first_end(row.end, end_told_by(install, entry)),
+    }
+}
+
+/// The earlier of two ends, of which either may be open.
+fn first_end(end: InstallEnd, later: InstallEnd) -> InstallEnd
+    ensures { result ≡ first_end_of end later }
+{
+    match end {
+        InstallEnd::Open => later,
+        InstallEnd::Ended => end,
+        InstallEnd::Stopped(_) => end,
+        InstallEnd::Killed => end,
+    }
+}
+
+/// The end of this install that an entry records, or `Open` where it records none.
+fn end_told_by(wanted: u64, entry: &Entry) -> InstallEnd
+    ensures { result ≡ end_told_by_entry wanted entry.now }
+{
+    match *entry {
+        Entry::Step { install, step } if install == wanted => exit_in(step.end),
+        Entry::Stop { install, rule } if install == wanted => InstallEnd::Stopped(rule),
+        Entry::Kill { install } if install == wanted => InstallEnd::Killed,
+        _ => InstallEnd::Open,
+    }
+}
+
+/// Whether a step is the last one.
+fn exit_in(end: StepEnd) -> InstallEnd
+    ensures { result ≡ exit_in_step end }
+{
+    match end {
+        StepEnd::Goes | StepEnd::Call(_) => InstallEnd::Open,
+        StepEnd::Exit => InstallEnd::Ended,
     }
 }
 

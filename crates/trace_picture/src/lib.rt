@@ -12,5 +12,5 @@ mod marks;
 mod page;
 mod table;
 
-pub use guests::GuestRow;
+pub use guests::{GuestRow, InstallEnd};
 pub use page::print_page;

@@ -28,7 +28,7 @@ pub fn print_page(alloc: Global, journal: &Journal) -> Result<ByteList, NoMemory
     push_key(&mut text)?;
     push_fit(&mut text)?;
     push_picture(alloc, &mut text, journal, rows.as_slice())?;
-    push_table(alloc, &mut text, rows.as_slice())?;
+    push_table(&mut text, rows.as_slice())?;
     Ok(ByteList::from_vec(text))
 }
 

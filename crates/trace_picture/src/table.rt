@@ -1,35 +1,33 @@
 ghost use Rattle.std.specs.Prelude.{◌≡◌, ◌+◌, ◌++◌, OnOk};
-ghost use Rattle.trace_picture.specs.GuestTable.{guest_row_text, guest_rows_text, lane_name_text, lane_names_text};
+ghost use Rattle.trace_picture.specs.GuestTable.{guest_row_text, guest_rows_text, install_end_text, lane_name_text, lane_names_text};
 ghost use Rattle.trace_picture.specs.Pages.{table_text};
 
-use crate::GuestRow;
-use std::alloc::Global;
-use text_pieces::{push_bytes, push_decimal, push_decimal64, push_hex, push_text};
-use trace_judge::print_end;
+use crate::{GuestRow, InstallEnd};
+use journal_text::push_rule;
+use text_pieces::{push_decimal, push_decimal64, push_hex, push_text};
 use xom_base::NoMemory;
 
 /// Adds the table of the guests, and the end of the page.
-pub fn push_table(alloc: Global, text: &mut Vec<u8>, rows: &[GuestRow]) -> Result<(), NoMemory>
+pub fn push_table(text: &mut Vec<u8>, rows: &[GuestRow]) -> Result<(), NoMemory>
     ensures { OnOk result (text.new.items ≡ text.old.items ++ table_text rows.now) }
 {
     push_text(text, "<table>\n<tr><th>install<th>slot<th>id<th>steps<th>traps<th>end\n")?;
-    push_rows(alloc, text, rows)?;
+    push_rows(text, rows)?;
     push_text(text, "</table>\n</html>\n")
 }
 
 /// Adds the rows of the table.
-fn push_rows(alloc: Global, text: &mut Vec<u8>, rows: &[GuestRow]) -> Result<(), NoMemory>
+fn push_rows(text: &mut Vec<u8>, rows: &[GuestRow]) -> Result<(), NoMemory>
     ensures { OnOk result (text.new.items ≡ text.old.items ++ guest_rows_text 1 rows.now) }
 {
     for i in 0..rows.len() {
-        push_row(alloc, text, i as u64 + 1, &rows[i])?;
+        push_row(text, i as u64 + 1, &rows[i])?;
     }
     Ok(())
 }
 
 /// Adds the row of an install.
 fn push_row(
-    alloc: Global,
     text: &mut Vec<u8>,
     install: u64,
     row: &GuestRow,
@@ -47,8 +45,23 @@ fn push_row(
     push_text(text, "<td>")?;
     push_decimal64(text, row.traps)?;
     push_text(text, "<td>")?;
-    push_bytes(text, print_end(alloc, row.end)?.as_bytes())?;
+    push_end(text, row.end)?;
     push_text(text, "\n")
+}
+
+/// Adds how an install ended, in the words of a judge's report.
+fn push_end(text: &mut Vec<u8>, end: InstallEnd) -> Result<(), NoMemory>
+    ensures { OnOk result (text.new.items ≡ text.old.items ++ install_end_text end) }
+{
+    match end {
+        InstallEnd::Open => push_text(text, "open"),
+        InstallEnd::Ended => push_text(text, "ended"),
+        InstallEnd::Stopped(rule) => {
+            push_text(text, "stopped ")?;
+            push_rule(text, rule)
+        }
+        InstallEnd::Killed => push_text(text, "killed"),
+    }
 }
 
 /// Adds the names of the guests' lanes.
