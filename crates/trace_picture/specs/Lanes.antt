@@ -1,5 +1,5 @@
 -- The lanes and columns of a picture: where an entry of a journal is drawn. This project's own.
-use Rattle.std.specs.Prelude.{ℕ, zero, suc, ◌+◌, ◌-◌, ◌/◌, ◌==◌, Bool, true, false, List, [], ◌∷◌, filter, length, take, drop, max}
+use Rattle.std.specs.Prelude.{ℕ, zero, suc, ◌+◌, ◌-◌, ◌/◌, ◌==◌, Bool, true, false, List, [], ◌∷◌, Option, Some, None, filter, length, take, drop, max}
 use Rattle.std.specs.List.{prefix_len}
 use Rattle.xom_base.specs.declared.entry.Entry.{Entry}
 use Rattle.xom_base.specs.declared.entry.Entry.TheVariants as entry
@@ -33,6 +33,11 @@ entries_in lane es = filter (is_in_lane lane) es
 abbrev pub is_hash : Entry → Bool
 is_hash (entry.Hash preimage digest) = true
 is_hash other = false
+
+-- and whether there is an entry that says so
+abbrev pub is_some_hash : Option Entry → Bool
+is_some_hash None = false
+is_some_hash (Some e) = is_hash e
 
 -- how many entries stand in a column, of a journal of so many: just one up to 100,000 entries
 abbrev pub column_size : ℕ → ℕ

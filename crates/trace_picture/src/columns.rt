@@ -1,6 +1,6 @@
-ghost use Rattle.std.specs.Prelude.{◌≡◌, ◌≤◌, ◌+◌, IfOk, length, drop, take, max, min};
+ghost use Rattle.std.specs.Prelude.{◌≡◌, ◌≤◌, ◌+◌, IfOk, length, drop, take, max, min, slice_get};
 ghost use Rattle.std.specs.List.{prefix_len};
-ghost use Rattle.trace_picture.specs.Lanes.{column_length as column_length_of, column_size as column_size_of, columns_by, is_hash as is_hash_entry};
+ghost use Rattle.trace_picture.specs.Lanes.{column_length as column_length_of, column_size as column_size_of, columns_by, is_hash as is_hash_entry, is_some_hash};
 
 use crate::lanes::is_hash;
 use std::alloc::Global;
@@ -23,13 +23,20 @@ fn hash_run(journal: &Journal, start: u64) -> u64
     ensures value { result ≡ prefix_len is_hash_entry (drop start journal.now.entries) }
 {
     let mut at = start;
-    while let Some(entry) = journal.get(at) {
-        if !is_hash(&entry) {
-            break;
-        }
+    while at < journal.len() && is_hash_at(journal, at) {
         at += 1;
     }
     at - start
+}
+
+/// Whether the machine hashed a text by this entry.
+fn is_hash_at(journal: &Journal, at: u64) -> bool
+    ensures { result ≡ is_some_hash (slice_get journal.now.entries at) }
+{
+    match journal.get(at) {
+        Some(entry) => is_hash(&entry),
+        None => false,
+    }
 }
 
 /// How many entries stand in the column that begins with this one.
