@@ -1,2 +1,3 @@
 pub mod ColumnLaws
+pub mod GuestLaws
 pub mod MarkLaws

@@ -1,5 +1,5 @@
 -- The table of a picture's guests: what a journal records of each install. This project's own.
-use Rattle.std.specs.Prelude.{ℕ, ◌+◌, ◌==◌, Bool, true, false, List, [], ◌∷◌, ◌++◌, Option, Some, None, codes, count_by, filter_map, if◌then◌else◌}
+use Rattle.std.specs.Prelude.{ℕ, ◌+◌, ◌^◌, ◌<◌, ◌==◌, Bool, true, false, List, [], ◌∷◌, ◌++◌, Option, Some, None, codes, count_by, filter_map, if◌then◌else◌}
 use Rattle.std.specs.Fmt.{decimal}
 use Rattle.hex.specs.Hex.{encode_lower}
 use Rattle.xom_base.specs.declared.entry.Entry.{Entry}
@@ -88,18 +88,17 @@ guest_rows es = rows_with 1 es (filter_map fresh_row es)
 
 -- ---- One more entry
 
--- how much an entry counts that passes a test
-abbrev pub count_of : Bool → ℕ
-count_of true = 1
-count_of false = 0
+-- no count of the row is the largest number of 64 bits
+abbrev pub IsSmall : GuestRow → Type 0
+IsSmall row = (row.steps + 1 < 2 ^ 64) × (row.traps + 1 < 2 ^ 64)
 
 -- a row with one more entry, of this install or of another one
 abbrev pub row_after : ℕ → Entry → GuestRow → GuestRow
 row_after n e row = record {
   slot = row.slot;
   id = row.id;
-  steps = row.steps + count_of (is_step_of n e);
-  traps = row.traps + count_of (is_trap_of n e);
+  steps = row.steps + (if is_step_of n e then 1 else 0);
+  traps = row.traps + (if is_trap_of n e then 1 else 0);
   end = first_end row.end (end_told_by n e);
 }
 

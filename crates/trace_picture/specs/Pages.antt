@@ -59,8 +59,8 @@ table_head_text =
 -- how many entries it has, and how many stand in a column
 abbrev pub summary_text : ℕ → List ℕ
 summary_text entries =
-    codes "<h1>" ++ (decimal entries ++ (codes " entries</h1>\n<p>A column is "
-    ++ (decimal (column_size entries) ++ codes " long, or as many hashes as stand together.\n")))
+    codes "<h1>" ++ (decimal entries ++ (codes " entries</h1>\n<p>Entries a column: "
+    ++ (decimal (column_size entries) ++ codes ". Hashes that follow one another share a column.\n")))
 
 -- how wide a column is, by their number
 abbrev pub column_width_text : ℕ → List ℕ

@@ -23,7 +23,7 @@ fn hash_run(journal: &Journal, start: u64) -> u64
     ensures value { result ≡ prefix_len is_hash_entry (drop start journal.now.entries) }
 {
     let mut at = start;
-    while at < journal.len() && is_hash_at(journal, at) {
+    while is_hash_at(journal, at) {
         at += 1;
     }
     at - start

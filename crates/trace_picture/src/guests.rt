@@ -1,7 +1,6 @@
-ghost use Rattle.std.specs.Prelude.{◌≡◌, ◌≤◌, ◌<◌, ◌+◌, ◌^◌, All, IfOk, length};
-ghost use Rattle.std.specs.List.{filter_map};
-ghost use Rattle.trace_picture.specs.GuestTable.{end_told_by as end_told_by_entry, exit_in as exit_in_step, first_end as first_end_of, fresh_row as fresh_row_of, guest_rows as guest_rows_of, is_step_of, is_trap_of, row_after, rows_after};
-ghost use Rattle.trace_picture.specs.Lanes.{lane_of};
+ghost use Rattle.std.specs.Prelude.{◌≡◌, ◌++◌, [], All, IfOk, OnOk};
+ghost use Rattle.std.specs.List.{cons_option, filter_map};
+ghost use Rattle.trace_picture.specs.GuestTable.{IsSmall, end_told_by as end_told_by_entry, exit_in as exit_in_step, first_end as first_end_of, fresh_row as fresh_row_of, guest_rows as guest_rows_of, is_step_of, is_trap_of, row_after, rows_after};
 
 use crate::lanes::lane;
 use std::alloc::Global;
@@ -56,12 +55,20 @@ fn fresh_rows(alloc: Global, journal: &Journal) -> Result<Vec<GuestRow>, NoMemor
     let mut rows = Vec::new(alloc);
     for i in 0..journal.len() {
         if let Some(entry) = journal.get(i) {
-            if let Some(row) = fresh_row(&entry) {
-                rows.push(row)?;
-            }
+            push_fresh(&mut rows, &entry)?;
         }
     }
     Ok(rows)
+}
+
+/// Adds the row of an Install entry, and nothing for another one.
+fn push_fresh(rows: &mut Vec<GuestRow>, entry: &Entry) -> Result<(), NoMemory>
+    ensures { OnOk result (rows.new.items ≡ rows.old.items ++ cons_option (fresh_row_of entry.now) []) }
+{
+    if let Some(row) = fresh_row(entry) {
+        rows.push(row)?;
+    }
+    Ok(())
 }
 
 /// The row of an Install entry, with nothing counted.
@@ -82,7 +89,7 @@ fn fresh_row(entry: &Entry) -> Option<GuestRow>
 
 /// Counts an entry in the row of its install.
 fn count(rows: &mut Vec<GuestRow>, entry: &Entry)
-    requires { All (λ row. (row.steps < 2 ^ 63) × (row.traps < 2 ^ 63)) rows.old.items }
+    requires { All IsSmall rows.old.items }
     ensures { rows.new.items ≡ rows_after 1 entry.now rows.old.items }
 {
     let install = lane(entry);
@@ -94,7 +101,7 @@ fn count(rows: &mut Vec<GuestRow>, entry: &Entry)
 
 /// A row with one more entry of its install.
 fn counted(row: &GuestRow, install: u64, entry: &Entry) -> GuestRow
-    requires { (row.now.steps < 2 ^ 63) × (row.now.traps < 2 ^ 63) }
+    requires { IsSmall row.now }
     ensures { result ≡ row_after install entry.now row.now }
 {
     GuestRow {

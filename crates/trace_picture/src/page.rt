@@ -85,9 +85,9 @@ fn push_summary(text: &mut Vec<u8>, entries: u64) -> Result<(), NoMemory>
 {
     push_text(text, "<h1>")?;
     push_decimal64(text, entries)?;
-    push_text(text, " entries</h1>\n<p>A column is ")?;
+    push_text(text, " entries</h1>\n<p>Entries a column: ")?;
     push_decimal64(text, column_size(entries))?;
-    push_text(text, " long, or as many hashes as stand together.\n")
+    push_text(text, ". Hashes that follow one another share a column.\n")
 }
 
 /// Adds the key to the kinds of entries.
