@@ -1,10 +1,12 @@
 -- The rows of the guests, with one more entry.
-use Rattle.std.proofs.Common.{◌≡◌, ◌≢◌, ℕ, zero, suc, ◌+◌, ◌-◌, ◌<◌, ◌≤◌, ◌^◌, ◌==◌, Bool, true, false, cond, List, [], ◌∷◌, ◌++◌, length, take, get_or, refl, sym, ap, subst, ◌∙◌, arith}
-use Rattle.std.specs.Prelude.{count_by, filter_map, slice_set}
-use Rattle.std.specs.List.{All}
+use Rattle.std.proofs.Common.{◌≡◌, ◌≢◌, ℕ, zero, suc, ◌+◌, ◌-◌, ◌<◌, ◌≤◌, ◌^◌, ◌==◌, Bool, true, false, cond, List, [], ◌∷◌, ◌++◌, Some, None, length, take, get_or, refl, sym, ap, subst, ◌∙◌, arith}
+use Rattle.std.specs.Prelude.{slice_get, slice_set}
+use Rattle.std.specs.List.{All, cons_option, count_by, filter_map}
 use Rattle.std.proofs.lemmas.Bool.{eqb-true}
-use Rattle.std.proofs.lemmas.List.Elements.{All-cons, All-nil}
+use Rattle.std.proofs.lemmas.List.Elements.{All-cons, All-nil, filter_map-append}
 use Rattle.std.proofs.lemmas.List.Sums.{count_by-le-length, sum_by_push}
+use Rattle.std.proofs.lemmas.List.{length-take}
+use Rattle.xom_journal.proofs.PlaceLaws.{front_none, front_some}
 use Rattle.xom_base.specs.declared.entry.Entry.{Entry}
 use Rattle.xom_base.specs.declared.entry.Entry.TheVariants as entry
 use Rattle.trace_picture.specs.GuestTable.{IsSmall, end_told_by, first_end, fresh_row, install_end, is_step_of, is_trap_of, row_after, row_with, rows_after, rows_with}
@@ -157,3 +159,39 @@ rows_small n es (row ∷ rows) few =
       omega (arith, few, count_by-le-length (is_trap_of n) es),
     )
     (rows_small (n + 1) es rows few)
+
+-- ---- Loops over a journal
+
+-- the fresh rows, with one more entry
+pub fresh_on : (es : List Entry) (i : ℕ) (e : Entry) (rows new : List GuestRow)
+    → slice_get es i ≡ Some e → new ≡ rows ++ cons_option (fresh_row e) []
+    → rows ≡ filter_map fresh_row (take i es) → new ≡ filter_map fresh_row (take (i + 1) es)
+fresh_on es i e rows new some is before =
+    is ∙ ap (λ (r : List GuestRow). r ++ cons_option (fresh_row e) []) before
+    ∙ sym (filter_map-append fresh_row (take i es) (e ∷ []))
+    ∙ ap (filter_map fresh_row) (sym (front_some es i e some))
+
+pub fresh_past : (es : List Entry) (i : ℕ) (rows : List GuestRow) → slice_get es i ≡ None
+    → rows ≡ filter_map fresh_row (take i es) → rows ≡ filter_map fresh_row (take (i + 1) es)
+fresh_past es i rows none before =
+    before ∙ ap (filter_map fresh_row) (sym (front_none es i none))
+
+-- the rows of the entries so far, with one more
+pub counted_on : (es : List Entry) (i : ℕ) (e : Entry) (fresh rows new : List GuestRow)
+    → slice_get es i ≡ Some e → new ≡ rows_after 1 e rows → rows ≡ rows_with 1 (take i es) fresh
+    → new ≡ rows_with 1 (take (i + 1) es) fresh
+counted_on es i e fresh rows new some is before =
+    is ∙ ap (rows_after 1 e) before ∙ sym (rows_more 1 (take i es) e fresh)
+    ∙ ap (λ (t : List Entry). rows_with 1 t fresh) (sym (front_some es i e some))
+
+pub counted_past : (es : List Entry) (i : ℕ) (fresh rows : List GuestRow) → slice_get es i ≡ None
+    → rows ≡ rows_with 1 (take i es) fresh → rows ≡ rows_with 1 (take (i + 1) es) fresh
+counted_past es i fresh rows none before =
+    before ∙ ap (λ (t : List Entry). rows_with 1 t fresh) (sym (front_none es i none))
+
+-- so far no count is at its top
+pub counted_small : (es : List Entry) (i : ℕ) (fresh rows : List GuestRow) → i + 1 < 2 ^ 64
+    → rows ≡ rows_with 1 (take i es) fresh → All IsSmall rows
+counted_small es i fresh rows few before =
+    subst (All IsSmall) (sym before)
+    (rows_small 1 (take i es) fresh (let short = length-take i es in omega (arith, short, few)))

@@ -118,4 +118,5 @@ rectangle_text column lane e =
 abbrev pub mark_text : Mark → List ℕ
 mark_text m =
     rectangle_text m.column m.lane (telling_of m.first m.others)
-    ++ (flat_map journal_line_text (mark_entries m) ++ codes "</title></rect>\n")
+    ++ (journal_line_text m.first
+    ++ (flat_map journal_line_text m.others ++ codes "</title></rect>\n"))

@@ -8,7 +8,7 @@ use xom_base::{Entry, ImageId, NoMemory, Rule, StepEnd};
 use xom_journal::Journal;
 
 /// How an install ended, by the first of its exit, its Stop and its Kill.
-#[derive(Clone, Copy, Debug, PartialEq, Eq)]
+#[derive(Clone, Copy)]
 pub enum InstallEnd {
     /// By none of these as yet.
     Open,
@@ -21,7 +21,7 @@ pub enum InstallEnd {
 }
 
 /// What the table says of an install.
-#[derive(Clone, Copy, Debug, PartialEq, Eq)]
+#[derive(Clone, Copy)]
 pub struct GuestRow {
     /// Its slot, 1 to 16.
     pub slot: u8,
@@ -88,15 +88,18 @@ fn fresh_row(entry: &Entry) -> Option<GuestRow>
 }
 
 /// Counts an entry in the row of its install.
+#[tactic(auto, using(crate::proofs::GuestLaws::rows_in_front, crate::proofs::GuestLaws::rows_behind, crate::proofs::GuestLaws::rows_at))]
 fn count(rows: &mut Vec<GuestRow>, entry: &Entry)
     requires { All IsSmall rows.old.items }
     ensures { rows.new.items ≡ rows_after 1 entry.now rows.old.items }
 {
     let install = lane(entry);
-    if install > 0 && install <= rows.len() as u64 {
-        let place = (install - 1) as usize;
-        rows[place] = counted(&rows[place], install, entry);
+    if install == 0 || install > rows.len() as u64 {
+        return;
     }
+    let place = (install - 1) as usize;
+    let row = counted(&rows[place], install, entry);
+    rows[place] = row;
 }
 
 /// A row with one more entry of its install.

@@ -25,8 +25,8 @@ pub fn print_page(alloc: Global, journal: &Journal) -> Result<ByteList, NoMemory
     let mut text = Vec::new(alloc);
     push_head(&mut text)?;
     push_summary(&mut text, journal.len())?;
-    push_key(&mut text)?;
-    push_fit(&mut text)?;
+    push_text(&mut text, key())?;
+    push_text(&mut text, fit())?;
     push_picture(alloc, &mut text, journal, rows.as_slice())?;
     push_table(&mut text, rows.as_slice())?;
     Ok(ByteList::from_vec(text))
@@ -36,47 +36,42 @@ pub fn print_page(alloc: Global, journal: &Journal) -> Result<ByteList, NoMemory
 fn push_head(text: &mut Vec<u8>) -> Result<(), NoMemory>
     ensures { OnOk result (text.new.items ≡ text.old.items ++ head_text) }
 {
-    push_layout(text)?;
-    push_kinds(text)
+    push_text(text, layout())?;
+    push_text(text, kinds())
 }
 
-/// Adds the page's title, and how it is laid out.
-fn push_layout(text: &mut Vec<u8>) -> Result<(), NoMemory>
-    ensures { OnOk result (text.new.items ≡ text.old.items ++ layout_text) }
+/// The page's title, and how it is laid out.
+fn layout() -> &'static str
+    ensures { result.now ≡ layout_text }
 {
-    push_text(
-        text,
-        "<!DOCTYPE html>\n<html lang=\"en\">\n<meta charset=\"utf-8\">\n<title>Journal</title>\n<style>\n",
-    )?;
-    push_text(
-        text,
-        "body{font:14px/20px sans-serif;margin:16px}.picture{display:flex;margin:16px 0}\n",
-    )?;
-    push_text(text, "ol{list-style:none;margin:0;padding:0 12px 0 0;white-space:nowrap}\n")?;
-    push_text(text, "li{height:24px;line-height:24px}.time{flex:1;overflow-x:auto}\n")?;
-    push_text(
-        text,
-        "svg{display:block;background:repeating-linear-gradient(#f1f3f6 0 23px,#fff 23px 24px)}\n",
-    )?;
-    push_text(text, "#fit:checked~.picture svg{width:100%!important}\n")?;
-    push_text(text, "th,td{padding:2px 12px 2px 0;text-align:left}.id{font-family:monospace}\n")?;
-    push_text(text, ".key span{border-left:12px solid;padding:0 16px 0 4px}\n")
+    "\
+     <!DOCTYPE html>\n\
+     <html lang=\"en\">\n\
+     <meta charset=\"utf-8\">\n\
+     <title>Journal</title>\n\
+     <style>\n\
+     body{font:14px/20px sans-serif;margin:16px}.picture{display:flex;margin:16px 0}\n\
+     ol{list-style:none;margin:0;padding:0 12px 0 0;white-space:nowrap}\n\
+     li{height:24px;line-height:24px}.time{flex:1;overflow-x:auto}\n\
+     svg{display:block;background:repeating-linear-gradient(#f1f3f6 0 23px,#fff 23px 24px)}\n\
+     #fit:checked~.picture svg{width:100%!important}\n\
+     th,td{padding:2px 12px 2px 0;text-align:left}.id{font-family:monospace}\n\
+     .key span{border-left:12px solid;padding:0 16px 0 4px}\n"
 }
 
-/// Adds how the marks of each kind of entry are drawn.
-fn push_kinds(text: &mut Vec<u8>) -> Result<(), NoMemory>
-    ensures { OnOk result (text.new.items ≡ text.old.items ++ kinds_text) }
+/// How the marks of each kind of entry are drawn: their colour and height.
+fn kinds() -> &'static str
+    ensures { result.now ≡ kinds_text }
 {
-    push_text(text, "rect{width:.8px;fill:currentColor}\n")?;
-    push_text(text, ".install{color:#2b8a3e;height:.9px}.step{color:#3b6ea5;height:.3px}\n")?;
-    push_text(text, ".trap{color:#e8890c;height:.7px}.kill{color:#555;height:.9px}\n")?;
-    push_text(text, ".seal{color:#7048c8;height:.35px}.accept{color:#0c8599;height:.35px}\n")?;
-    push_text(text, ".hash{color:#9aa3ad;height:.2px}.out{color:#c2255c;height:.5px}\n")?;
-    push_text(text, ".stop{color:#e00000;height:.9px}\n")?;
-    push_text(
-        text,
-        "rect.stop{stroke:#e00000;stroke-width:3px;vector-effect:non-scaling-stroke}\n</style>\n",
-    )
+    "\
+     rect{width:.8px;fill:currentColor}\n\
+     .install{color:#2b8a3e;height:.9px}.step{color:#3b6ea5;height:.3px}\n\
+     .trap{color:#e8890c;height:.7px}.kill{color:#555;height:.9px}\n\
+     .seal{color:#7048c8;height:.35px}.accept{color:#0c8599;height:.35px}\n\
+     .hash{color:#9aa3ad;height:.2px}.out{color:#c2255c;height:.5px}\n\
+     .stop{color:#e00000;height:.9px}\n\
+     rect.stop{stroke:#e00000;stroke-width:3px;vector-effect:non-scaling-stroke}\n\
+     </style>\n"
 }
 
 /// Adds how many entries there are, and how many stand in a column.
@@ -90,28 +85,24 @@ fn push_summary(text: &mut Vec<u8>, entries: u64) -> Result<(), NoMemory>
     push_text(text, ". Hashes that follow one another share a column.\n")
 }
 
-/// Adds the key to the kinds of entries.
-fn push_key(text: &mut Vec<u8>) -> Result<(), NoMemory>
-    ensures { OnOk result (text.new.items ≡ text.old.items ++ key_text) }
+/// The key to the kinds of entries.
+fn key() -> &'static str
+    ensures { result.now ≡ key_text }
 {
-    push_text(
-        text,
-        "<p class=\"key\"><span class=\"install\">install</span><span class=\"step\">step</span>\n",
-    )?;
-    push_text(text, "<span class=\"trap\">trap</span><span class=\"stop\">stop</span>\n")?;
-    push_text(text, "<span class=\"kill\">kill</span><span class=\"seal\">seal</span>\n")?;
-    push_text(text, "<span class=\"accept\">accept</span><span class=\"hash\">hash</span>\n")?;
-    push_text(text, "<span class=\"out\">console byte</span>\n")
+    "\
+     <p class=\"key\"><span class=\"install\">install</span><span class=\"step\">step</span>\n\
+     <span class=\"trap\">trap</span><span class=\"stop\">stop</span>\n\
+     <span class=\"kill\">kill</span><span class=\"seal\">seal</span>\n\
+     <span class=\"accept\">accept</span><span class=\"hash\">hash</span>\n\
+     <span class=\"out\">console byte</span>\n"
 }
 
-/// Adds the box that shows a long picture as a whole.
-fn push_fit(text: &mut Vec<u8>) -> Result<(), NoMemory>
-    ensures { OnOk result (text.new.items ≡ text.old.items ++ fit_text) }
+/// The box that shows a long picture as a whole.
+fn fit() -> &'static str
+    ensures { result.now ≡ fit_text }
 {
-    push_text(
-        text,
-        "<input type=\"checkbox\" id=\"fit\"><label for=\"fit\">fit the window</label>\n",
-    )
+    "\
+     <input type=\"checkbox\" id=\"fit\"><label for=\"fit\">fit the window</label>\n"
 }
 
 /// Adds the lanes with their names and their marks.

@@ -7,4 +7,4 @@ use Rattle.trace_picture.proofs.marks.telling.Given as goal
 abbrev pub invariant-loop-entry : goal.invariant-loop-entry
 invariant-loop-entry l =
     telling_of l.telling (entries_in l.lane (drop l.entry-index l.entries))
-    ≡ telling_of l.first.now (entries_in l.lane l.entries)
+    ≡ telling_of l.first (entries_in l.lane l.entries)
