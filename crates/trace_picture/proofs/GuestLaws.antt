@@ -1,15 +1,18 @@
 -- The rows of the guests, with one more entry.
-use Rattle.std.proofs.Common.{◌≡◌, ◌≢◌, ℕ, zero, suc, ◌+◌, ◌-◌, ◌<◌, ◌≤◌, ◌^◌, ◌==◌, Bool, true, false, cond, List, [], ◌∷◌, ◌++◌, Some, None, length, take, get_or, refl, sym, ap, subst, ◌∙◌, arith}
+use Rattle.std.proofs.Common.{◌≡◌, ◌≢◌, ℕ, zero, suc, ◌+◌, ◌-◌, ◌<◌, ◌≤◌, ◌⊎◌, inl, inr, ◌^◌, ◌==◌, Bool, true, false, cond, List, [], ◌∷◌, ◌++◌, Some, None, length, take, get_or, refl, sym, ap, subst, ◌∙◌, arith}
 use Rattle.std.specs.Prelude.{slice_get, slice_set}
 use Rattle.std.specs.List.{All, cons_option, count_by, filter_map}
+use Rattle.std.proofs.Math.Decide.{dec_le}
 use Rattle.std.proofs.lemmas.Bool.{eqb-true}
+use Rattle.std.proofs.lemmas.Bool.Decides.{nat_tests}
+use Rattle.trace_picture.proofs.Steps.{first_behind}
 use Rattle.std.proofs.lemmas.List.Elements.{All-cons, All-nil, filter_map-append}
 use Rattle.std.proofs.lemmas.List.Sums.{count_by-le-length, sum_by_push}
 use Rattle.std.proofs.lemmas.List.{length-take}
 use Rattle.xom_journal.proofs.PlaceLaws.{front_none, front_some}
 use Rattle.xom_base.specs.declared.entry.Entry.{Entry}
 use Rattle.xom_base.specs.declared.entry.Entry.TheVariants as entry
-use Rattle.trace_picture.specs.GuestTable.{IsSmall, end_told_by, first_end, fresh_row, install_end, is_step_of, is_trap_of, row_after, row_with, rows_after, rows_with}
+use Rattle.trace_picture.specs.GuestTable.{IsSmall, end_told_by, first_end, fresh_row, install_end, is_guest, is_step_of, is_trap_of, row_after, row_with, rows_after, rows_with}
 use Rattle.trace_picture.specs.Lanes.{lane_of}
 use Rattle.trace_picture.specs.declared.guests.GuestRow.{GuestRow}
 use Rattle.trace_picture.specs.declared.guests.InstallEnd.{InstallEnd}
@@ -146,6 +149,36 @@ rows_at n (suc k) e (row ∷ rows) d is within =
     (λ i. row_same n e row differs i ∷ rows_at (n + 1) k e rows d (omega (arith, is)) (omega
     (arith, within)) i)
     ∙ ap (λ m. row ∷ slice_set rows k (row_after m e (get_or rows k d))) on
+
+guest_within : (guests n : ℕ) → is_guest guests n ≡ true → (1 ≤ n) × (n ≤ guests)
+guest_within guests n is = (grind (arith, nat_tests, is), grind (arith, nat_tests, is))
+
+guest_beside : (guests n : ℕ) → is_guest guests n ≡ false → (n < 1) ⊎ (guests < n)
+guest_beside guests n is = elim (dec_le n guests) [
+  | yes low ↦ inl (grind (arith, nat_tests, is, low))
+  | no high ↦ inr (omega (arith, high))
+]
+
+-- the row of the entry's install was changed
+pub rows_changed : (e : Entry) (install : ℕ) (rows new : List GuestRow) → install ≡ lane_of e
+    → is_guest (length rows) install ≡ true
+    → ((d : GuestRow) → new ≡ slice_set rows (install - 1) (row_after install e (get_or rows (install - 1) d)))
+    → new ≡ rows_after 1 e rows
+rows_changed e install rows new is within changed =
+    let range = guest_within (length rows) install within in
+    let d = (first_behind rows (install - 1) (omega (arith, range.0, range.1))).0 in
+    let same : install ≡ 1 + (install - 1) = omega (arith, range.0) in
+    changed d
+    ∙ ap (λ n. slice_set rows (install - 1) (row_after n e (get_or rows (install - 1) d))) same
+    ∙ sym (rows_at 1 (install - 1) e rows d (sym is ∙ same) (omega (arith, range.0, range.1)))
+
+-- no row is that of the entry's install
+pub rows_same : (e : Entry) (install : ℕ) (rows : List GuestRow) → install ≡ lane_of e
+    → is_guest (length rows) install ≡ false → rows ≡ rows_after 1 e rows
+rows_same e install rows is beside = elim (guest_beside (length rows) install beside) [
+  | inl low ↦ sym (rows_in_front 1 e rows (omega (arith, is, low)))
+  | inr high ↦ sym (rows_behind 1 e rows (omega (arith, is, high)))
+]
 
 -- ---- Bounds
 

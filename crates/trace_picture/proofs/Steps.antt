@@ -95,13 +95,12 @@ some_hash (Some e) is = (e, refl, is)
 
 -- one hash more
 pub hash_on : (es : List Entry) (at : ℕ) → is_some_hash (slice_get es at) ≡ true
-    → (at < length es) × (prefix_len is_hash (drop at es) ≡ suc (prefix_len is_hash (drop (at + 1)
-    es)))
+    → (at < length es) × (prefix_len is_hash (drop at es) ≡ 1 + prefix_len is_hash (drop (at + 1) es))
 hash_on es at is =
     let found = some_hash (slice_get es at) is in (
       slice_get_within es at found.0 found.1,
       ap (prefix_len is_hash) (behind_some es at found.0 found.1)
-          ∙ ap (λ b. cond b (suc (prefix_len is_hash (drop (at + 1) es))) 0) found.2,
+          ∙ ap (λ b. cond b (1 + prefix_len is_hash (drop (at + 1) es)) 0) found.2,
     )
 
 end_by : (es : List Entry) (at : ℕ) (o : Option Entry) → slice_get es at ≡ o
@@ -109,7 +108,7 @@ end_by : (es : List Entry) (at : ℕ) (o : Option Entry) → slice_get es at ≡
 end_by es at None none is = rw (drop_all at es (past_end es at none)) refl
 end_by es at (Some e) some is =
     ap (prefix_len is_hash) (behind_some es at e some)
-    ∙ ap (λ b. cond b (suc (prefix_len is_hash (drop (at + 1) es))) 0) is
+    ∙ ap (λ b. cond b (1 + prefix_len is_hash (drop (at + 1) es)) 0) is
 
 -- no hash more
 pub hash_end : (es : List Entry) (at : ℕ) → is_some_hash (slice_get es at) ≡ false
@@ -168,3 +167,15 @@ pub then_piece : (r : Result (Unit {0}) NoMemory) (start next end piece rest : L
 then_piece (Ok done) start next end piece rest is more =
     more ∙ ap (λ (t : List ℕ). t ++ rest) is ∙ append_assoc start piece rest
 then_piece (Err why) start next end piece rest is more = tt
+
+-- the same of a text that was made whole
+pub behind_piece : (start next end piece rest : List ℕ) → next ≡ start ++ piece → end ≡ next ++ rest
+    → end ≡ start ++ (piece ++ rest)
+behind_piece start next end piece rest is more =
+    more ∙ ap (λ (t : List ℕ). t ++ rest) is ∙ append_assoc start piece rest
+
+-- a last piece that is the same as another one
+pub same_end : (r : Result (Unit {0}) NoMemory) (old new piece other : List ℕ)
+    → OnOk r (new ≡ old ++ piece) → piece ≡ other → OnOk r (new ≡ old ++ other)
+same_end (Ok done) old new piece other is same = same_piece old new piece other is same
+same_end (Err why) old new piece other is same = tt

@@ -1,5 +1,5 @@
 -- The table of a picture's guests: what a journal records of each install. This project's own.
-use Rattle.std.specs.Prelude.{ℕ, ◌+◌, ◌^◌, ◌<◌, ◌==◌, Bool, true, false, List, [], ◌∷◌, ◌++◌, Option, Some, None, codes, count_by, filter_map, if◌then◌else◌}
+use Rattle.std.specs.Prelude.{ℕ, ◌+◌, ◌^◌, ◌<◌, ◌==◌, Bool, true, false, List, [], ◌∷◌, ◌++◌, Option, Some, None, codes, count_by, filter_map, if◌then◌else◌, nat_lt, nat_le, ◌&&◌}
 use Rattle.std.specs.Fmt.{decimal}
 use Rattle.hex.specs.Hex.{encode_lower}
 use Rattle.xom_base.specs.declared.entry.Entry.{Entry}
@@ -91,6 +91,10 @@ guest_rows es = rows_with 1 es (filter_map fresh_row es)
 -- no count of the row is the largest number of 64 bits
 abbrev pub IsSmall : GuestRow → Type 0
 IsSmall row = (row.steps + 1 < 2 ^ 64) × (row.traps + 1 < 2 ^ 64)
+
+-- whether this is the number of one of so many installs
+abbrev pub is_guest : ℕ → ℕ → Bool
+is_guest guests n = nat_lt 0 n && nat_le n guests
 
 -- a row with one more entry, of this install or of another one
 abbrev pub row_after : ℕ → Entry → GuestRow → GuestRow

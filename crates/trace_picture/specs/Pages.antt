@@ -75,12 +75,17 @@ frame_text columns lanes =
     ++ (column_width_text columns ++ (codes ");height:calc(" ++ (decimal lanes
     ++ codes "*24px)\">\n")))))))))
 
--- the names of the lanes on the left, and the picture beside them: a lane for memory and one a guest
+-- the names of the lanes on the left: a lane for memory and one a guest
+abbrev pub lanes_text : List GuestRow → List ℕ
+lanes_text rows =
+    codes "<div class=\"picture\"><ol><li>memory\n"
+    ++ (lane_names_text 1 rows ++ codes "</ol><div class=\"time\">\n")
+
+-- the lanes, and beside their names all marks
 abbrev pub picture_text : List Entry → List GuestRow → List ℕ
 picture_text es rows =
-    (codes "<div class=\"picture\"><ol><li>memory\n" ++ (lane_names_text 1 rows
-    ++ (codes "</ol><div class=\"time\">\n" ++ frame_text (length (columns_of es)) (length rows + 1))))
-    ++ (flat_map mark_text (marks_of es) ++ codes "</svg></div></div>\n")
+    lanes_text rows ++ (frame_text (length (columns_of es)) (length rows + 1)
+    ++ (flat_map mark_text (marks_of es) ++ codes "</svg></div></div>\n"))
 
 -- the table of the guests
 abbrev pub table_text : List GuestRow → List ℕ

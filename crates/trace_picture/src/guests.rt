@@ -1,6 +1,6 @@
-ghost use Rattle.std.specs.Prelude.{◌≡◌, ◌++◌, [], All, IfOk, OnOk};
+ghost use Rattle.std.specs.Prelude.{◌≡◌, ◌-◌, ◌++◌, [], All, IfOk, OnOk, length, slice_index_or, slice_set, true};
 ghost use Rattle.std.specs.List.{cons_option, filter_map};
-ghost use Rattle.trace_picture.specs.GuestTable.{IsSmall, end_told_by as end_told_by_entry, exit_in as exit_in_step, first_end as first_end_of, fresh_row as fresh_row_of, guest_rows as guest_rows_of, is_step_of, is_trap_of, row_after, rows_after};
+ghost use Rattle.trace_picture.specs.GuestTable.{IsSmall, end_told_by as end_told_by_entry, exit_in as exit_in_step, first_end as first_end_of, fresh_row as fresh_row_of, guest_rows as guest_rows_of, is_guest, is_step_of, is_trap_of, row_after, rows_after};
 
 use crate::lanes::lane;
 use std::alloc::Global;
@@ -88,15 +88,31 @@ fn fresh_row(entry: &Entry) -> Option<GuestRow>
 }
 
 /// Counts an entry in the row of its install.
-#[tactic(auto, using(crate::proofs::GuestLaws::rows_in_front, crate::proofs::GuestLaws::rows_behind, crate::proofs::GuestLaws::rows_at))]
+#[tactic(auto, using(crate::proofs::GuestLaws::rows_changed, crate::proofs::GuestLaws::rows_same))]
 fn count(rows: &mut Vec<GuestRow>, entry: &Entry)
     requires { All IsSmall rows.old.items }
     ensures { rows.new.items ≡ rows_after 1 entry.now rows.old.items }
 {
     let install = lane(entry);
-    if install == 0 || install > rows.len() as u64 {
-        return;
+    let guests = rows.len() as u64;
+    if is_of_guest(install, guests) {
+        count_at(rows, install, entry);
     }
+}
+
+/// Whether this is the number of one of so many guests.
+fn is_of_guest(install: u64, guests: u64) -> bool
+    ensures { result ≡ is_guest guests install }
+{
+    install > 0 && install <= guests
+}
+
+/// Counts an entry of an install that has a row.
+fn count_at(rows: &mut Vec<GuestRow>, install: u64, entry: &Entry)
+    requires small { All IsSmall rows.old.items }
+    requires within { is_guest (length rows.old.items) install ≡ true }
+    ensures { (d : GuestRow) → rows.new.items ≡ slice_set rows.old.items (install - 1) (row_after install entry.now (slice_index_or rows.old.items (install - 1) d)) }
+{
     let place = (install - 1) as usize;
     let row = counted(&rows[place], install, entry);
     rows[place] = row;

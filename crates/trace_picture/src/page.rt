@@ -1,7 +1,7 @@
 ghost use Rattle.std.specs.Prelude.{◌≡◌, ◌≤◌, ◌+◌, ◌++◌, IfOk, OnOk, length};
 ghost use Rattle.trace_picture.specs.Lanes.{column_size as column_size_of, columns_of};
 ghost use Rattle.trace_picture.specs.Marks.{ShowEachOnce, marks_of};
-ghost use Rattle.trace_picture.specs.Pages.{column_width_text, fit_text, frame_text, head_text, journal_page, key_text, kinds_text, layout_text, page_text, picture_text, summary_text};
+ghost use Rattle.trace_picture.specs.Pages.{column_width_text, fit_text, frame_text, head_text, journal_page, key_text, kinds_text, lanes_text, layout_text, page_text, picture_text, summary_text};
 
 use crate::GuestRow;
 use crate::columns::{column_count, column_size};
@@ -106,7 +106,6 @@ fn fit() -> &'static str
 }
 
 /// Adds the lanes with their names and their marks.
-#[tactic(auto, unfolding(crate::specs::Pages::picture_text))]
 fn push_picture(
     alloc: Global,
     text: &mut Vec<u8>,
@@ -115,13 +114,33 @@ fn push_picture(
 ) -> Result<(), NoMemory>
     ensures { OnOk result (text.new.items ≡ text.old.items ++ picture_text journal.now.entries rows.now) }
 {
-    let size = column_size(journal.len());
+    push_lanes(text, rows)?;
+    push_frame(text, columns(journal), lane_count(rows))?;
+    push_marks(alloc, text, journal, column_size(journal.len()))?;
+    push_text(text, "</svg></div></div>\n")
+}
+
+/// How many columns a journal has.
+fn columns(journal: &Journal) -> u64
+    ensures { result ≡ length (columns_of journal.now.entries) }
+{
+    column_count(journal, column_size(journal.len()))
+}
+
+/// How many lanes there are: one for memory and one a guest.
+fn lane_count(rows: &[GuestRow]) -> u64
+    ensures { result ≡ length rows.now + 1 }
+{
+    rows.len() as u64 + 1
+}
+
+/// Adds the names of the lanes.
+fn push_lanes(text: &mut Vec<u8>, rows: &[GuestRow]) -> Result<(), NoMemory>
+    ensures { OnOk result (text.new.items ≡ text.old.items ++ lanes_text rows.now) }
+{
     push_text(text, "<div class=\"picture\"><ol><li>memory\n")?;
     push_lane_names(text, rows)?;
-    push_text(text, "</ol><div class=\"time\">\n")?;
-    push_frame(text, column_count(journal, size), rows.len() as u64 + 1)?;
-    push_marks(alloc, text, journal, size)?;
-    push_text(text, "</svg></div></div>\n")
+    push_text(text, "</ol><div class=\"time\">\n")
 }
 
 /// Adds the picture's frame: so many columns and lanes.

@@ -3,9 +3,9 @@ use Rattle.trace_picture.proofs.columns.column_count.Goals as goal
 
 pub loop-start-preserved : goal.loop-start-preserved
 loop-start-preserved c =
-    let more = ap length c.column_length.ensures.columns in
+    let more = ap length c.column_length-start.ensures.columns in
     record {
-      within = omega (arith, c.column_length.ensures.within);
-      few = omega (arith, c.column_length.ensures.some, c.loop-start.invariant.few);
+      within = omega (arith, c.column_length-start.ensures.within);
+      few = omega (arith, c.column_length-start.ensures.some, c.loop-start.invariant.few);
       columns = omega (arith, more, c.loop-start.invariant.columns);
     }

@@ -11,9 +11,10 @@ returns c =
     let lane = c.lane-lane.ensures in
     let telling = c.telling.ensures
     ∙ ap (λ l. telling_of c.args.entry.now (entries_in l c.args.behind.now)) lane in
-    then_piece _ _ _ _ _ _ (same_piece _ _ _ _ c.in_ok-push_rectangle.ensures
-    (λ i. rectangle_text c.args.column (lane i) (telling i)))
-    (then_piece _ _ _ _ _ _ c.in_ok-push_line.ensures
-    (then_piece _ _ _ _ _ _ (same_piece _ _ _ _ c.in_ok-push_lines.ensures
-    (ap (λ l. flat_map journal_line_text (entries_in l c.args.behind.now)) lane))
+    then_piece c.push_text.result c.args.text.now.items c.push_rectangle.new.text.items c.push_text.new.text.items _ _
+    (same_piece c.args.text.now.items c.push_rectangle.new.text.items _ _ c.in_ok-push_rectangle.ensures (λ i. rectangle_text c.args.column (lane i) (telling i)))
+    (then_piece c.push_text.result c.push_rectangle.new.text.items c.push_line.new.text.items c.push_text.new.text.items _ _
+    c.in_ok-push_line.ensures
+    (then_piece c.push_text.result c.push_line.new.text.items c.push_lines.new.text.items c.push_text.new.text.items _ _
+    (same_piece c.push_line.new.text.items c.push_lines.new.text.items _ _ c.in_ok-push_lines.ensures (ap (λ l. flat_map journal_line_text (entries_in l c.args.behind.now)) lane))
     (c.push_text.ensures.ok)))
