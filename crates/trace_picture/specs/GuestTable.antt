@@ -4,6 +4,7 @@ use Rattle.std.specs.Fmt.{decimal}
 use Rattle.hex.specs.Hex.{encode_lower}
 use Rattle.xom_base.specs.declared.entry.Entry.{Entry}
 use Rattle.xom_base.specs.declared.entry.Entry.TheVariants as entry
+use Rattle.xom_base.specs.declared.key.ImageId.{ImageId}
 use Rattle.xom_base.specs.declared.step.StepEnd.{StepEnd}
 use Rattle.xom_base.specs.declared.step.StepEnd.TheVariants as step_end
 use Rattle.journal_text.specs.JournalTexts.{journal_rule_text}
@@ -113,12 +114,20 @@ rows_after n e (row ∷ rows) = row_after n e row ∷ rows_after (n + 1) e rows
 
 -- ---- Their texts
 
+-- a cell with a number
+abbrev pub cell_text : ℕ → List ℕ
+cell_text n = codes "<td>" ++ decimal n
+
+-- the cell of an id, in hexadecimal digits
+abbrev pub id_cell_text : ImageId → List ℕ
+id_cell_text id = codes "<td class=\"id\">" ++ encode_lower id.0
+
 -- the row of an install, as cells of a table
 abbrev pub guest_row_text : ℕ → GuestRow → List ℕ
 guest_row_text n row =
-    codes "<tr><td>" ++ (decimal n ++ (codes "<td>" ++ (decimal row.slot ++ (codes "<td class=\"id\">"
-    ++ (encode_lower row.id.0 ++ (codes "<td>" ++ (decimal row.steps ++ (codes "<td>"
-    ++ (decimal row.traps ++ (codes "<td>" ++ (install_end_text row.end ++ codes "\n")))))))))))
+    codes "<tr>" ++ (cell_text n ++ (cell_text row.slot ++ (id_cell_text row.id
+    ++ (cell_text row.steps ++ (cell_text row.traps
+    ++ (codes "<td>" ++ (install_end_text row.end ++ codes "\n")))))))
 
 -- the rows from this install on
 abbrev pub guest_rows_text : ℕ → List GuestRow → List ℕ

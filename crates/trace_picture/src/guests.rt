@@ -111,7 +111,8 @@ fn is_of_guest(install: u64, guests: u64) -> bool
 fn count_at(rows: &mut Vec<GuestRow>, install: u64, entry: &Entry)
     requires small { All IsSmall rows.old.items }
     requires within { is_guest (length rows.old.items) install ≡ true }
-    ensures { (d : GuestRow) → rows.new.items ≡ slice_set rows.old.items (install - 1) (row_after install entry.now (slice_index_or rows.old.items (install - 1) d)) }
+    ensures of_guest { is_guest (length rows.old.items) install ≡ true }
+    ensures changed { (d : GuestRow) → rows.new.items ≡ slice_set rows.old.items (install - 1) (row_after install entry.now (slice_index_or rows.old.items (install - 1) d)) }
 {
     let place = (install - 1) as usize;
     let row = counted(&rows[place], install, entry);

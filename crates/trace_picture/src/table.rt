@@ -1,11 +1,11 @@
 ghost use Rattle.std.specs.Prelude.{◌≡◌, ◌+◌, ◌++◌, OnOk};
-ghost use Rattle.trace_picture.specs.GuestTable.{guest_row_text, guest_rows_text, install_end_text, lane_name_text, lane_names_text};
+ghost use Rattle.trace_picture.specs.GuestTable.{cell_text, guest_row_text, guest_rows_text, id_cell_text, install_end_text, lane_name_text, lane_names_text};
 ghost use Rattle.trace_picture.specs.Pages.{table_text};
 
 use crate::{GuestRow, InstallEnd};
 use journal_text::push_rule;
-use text_pieces::{push_decimal, push_decimal64, push_hex, push_text};
-use xom_base::NoMemory;
+use text_pieces::{push_decimal64, push_hex, push_text};
+use xom_base::{ImageId, NoMemory};
 
 /// Adds the table of the guests, and the end of the page.
 pub fn push_table(text: &mut Vec<u8>, rows: &[GuestRow]) -> Result<(), NoMemory>
@@ -34,19 +34,38 @@ fn push_row(
 ) -> Result<(), NoMemory>
     ensures { OnOk result (text.new.items ≡ text.old.items ++ guest_row_text install row.now) }
 {
-    push_text(text, "<tr><td>")?;
-    push_decimal64(text, install)?;
-    push_text(text, "<td>")?;
-    push_decimal(text, u32::from(row.slot))?;
-    push_text(text, "<td class=\"id\">")?;
-    push_hex(text, row.id.0.as_slice())?;
-    push_text(text, "<td>")?;
-    push_decimal64(text, row.steps)?;
-    push_text(text, "<td>")?;
-    push_decimal64(text, row.traps)?;
+    push_text(text, "<tr>")?;
+    push_cell(text, install)?;
+    push_slot(text, row.slot)?;
+    push_id(text, &row.id)?;
+    push_cell(text, row.steps)?;
+    push_cell(text, row.traps)?;
     push_text(text, "<td>")?;
     push_end(text, row.end)?;
     push_text(text, "\n")
+}
+
+/// Adds a cell with a number.
+fn push_cell(text: &mut Vec<u8>, n: u64) -> Result<(), NoMemory>
+    ensures { OnOk result (text.new.items ≡ text.old.items ++ cell_text n) }
+{
+    push_text(text, "<td>")?;
+    push_decimal64(text, n)
+}
+
+/// Adds the cell of a slot.
+fn push_slot(text: &mut Vec<u8>, slot: u8) -> Result<(), NoMemory>
+    ensures { OnOk result (text.new.items ≡ text.old.items ++ cell_text slot) }
+{
+    push_cell(text, u64::from(slot))
+}
+
+/// Adds the cell of an id.
+fn push_id(text: &mut Vec<u8>, id: &ImageId) -> Result<(), NoMemory>
+    ensures { OnOk result (text.new.items ≡ text.old.items ++ id_cell_text id.now) }
+{
+    push_text(text, "<td class=\"id\">")?;
+    push_hex(text, id.0.as_slice())
 }
 
 /// Adds how an install ended, in the words of a judge's report.
