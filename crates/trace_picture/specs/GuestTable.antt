@@ -120,7 +120,7 @@ cell_text n = codes "<td>" ++ decimal n
 
 -- the cell of an id, in hexadecimal digits
 abbrev pub id_cell_text : ImageId → List ℕ
-id_cell_text id = codes "<td class=\"id\">" ++ encode_lower id.0
+id_cell_text id = codes "<td>" ++ encode_lower id.0
 
 -- the row of an install, as cells of a table
 abbrev pub guest_row_text : ℕ → GuestRow → List ℕ

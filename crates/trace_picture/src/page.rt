@@ -55,7 +55,7 @@ fn layout() -> &'static str
      li{height:24px;line-height:24px}.time{flex:1;overflow-x:auto}\n\
      svg{display:block;background:repeating-linear-gradient(#f1f3f6 0 23px,#fff 23px 24px)}\n\
      #fit:checked~.picture svg{width:100%!important}\n\
-     th,td{padding:2px 12px 2px 0;text-align:left}.id{font-family:monospace}\n\
+     th,td{padding:2px 12px 2px 0;text-align:left}td:nth-child(3){font-family:monospace}\n\
      .key span{border-left:12px solid;padding:0 16px 0 4px}\n"
 }
 

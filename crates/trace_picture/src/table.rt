@@ -64,7 +64,7 @@ fn push_slot(text: &mut Vec<u8>, slot: u8) -> Result<(), NoMemory>
 fn push_id(text: &mut Vec<u8>, id: &ImageId) -> Result<(), NoMemory>
     ensures { OnOk result (text.new.items ≡ text.old.items ++ id_cell_text id.now) }
 {
-    push_text(text, "<td class=\"id\">")?;
+    push_text(text, "<td>")?;
     push_hex(text, id.0.as_slice())
 }
 
