@@ -11,5 +11,5 @@ mod reading;
 mod rows;
 
 pub use line_reader::{BadLine, LineReader};
-pub use printing::print_journal;
+pub use printing::{print_journal, push_line, push_rule};
 pub use reading::read_journal;

@@ -23,9 +23,9 @@ pub fn print_journal(alloc: Global, journal: &Journal) -> Result<ByteList, NoMem
     Ok(ByteList::from_vec(text))
 }
 
-/// Adds the line of an entry, with its end.
+/// Adds the line of an entry to a text, with its end. Where memory runs out, a part may have been added.
 #[tactic(auto, unfolding(crate::specs::JournalTexts::journal_line_text))]
-fn push_line(text: &mut Vec<u8>, entry: &Entry) -> Result<(), NoMemory>
+pub fn push_line(text: &mut Vec<u8>, entry: &Entry) -> Result<(), NoMemory>
     ensures { OnOk result (text.new.items ≡ text.old.items ++ journal_line_text entry.now) }
 {
     push_entry(text, entry)?;
@@ -156,7 +156,8 @@ fn push_cause(text: &mut Vec<u8>, cause: Cause) -> Result<(), NoMemory>
     }
 }
 
-fn push_rule(text: &mut Vec<u8>, rule: Rule) -> Result<(), NoMemory>
+/// Adds a rule: its name, and its line, level or register.
+pub fn push_rule(text: &mut Vec<u8>, rule: Rule) -> Result<(), NoMemory>
     ensures { OnOk result (text.new.items ≡ text.old.items ++ journal_rule_text rule) }
 {
     match rule {

@@ -1,0 +1,4 @@
+pub mod ColumnLaws
+pub mod GuestLaws
+pub mod MarkLaws
+pub mod Steps

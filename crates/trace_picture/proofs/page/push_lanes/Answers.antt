@@ -1,0 +1,10 @@
+use Rattle.trace_picture.proofs.Steps.{then_piece}
+use Rattle.trace_picture.proofs.page.push_lanes.Goals as goal
+
+pub returns : goal.returns
+returns c =
+    then_piece c.push_text-2.result c.args.text.now.items c.push_text.new.text.items c.push_text-2.new.text.items _ _
+    c.in_ok-push_text.ensures.ok
+    (then_piece c.push_text-2.result c.push_text.new.text.items c.push_lane_names.new.text.items c.push_text-2.new.text.items _ _
+    c.in_ok-push_lane_names.ensures
+    (c.push_text-2.ensures.ok))
