@@ -186,8 +186,7 @@ pub rows_small : (n : ℕ) (es : List Entry) (rows : List GuestRow) → length e
     → All IsSmall (rows_with n es rows)
 rows_small n es [] few = All-nil IsSmall
 rows_small n es (row ∷ rows) few =
-    All-cons IsSmall (row_with n es row) (rows_with (n + 1) es rows)
-    (
+    All-cons IsSmall (row_with n es row) (rows_with (n + 1) es rows) (
       omega (arith, few, count_by-le-length (is_step_of n) es),
       omega (arith, few, count_by-le-length (is_trap_of n) es),
     )

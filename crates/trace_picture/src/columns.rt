@@ -47,7 +47,8 @@ fn cut(journal: &Journal, start: u64, size: u64) -> u64
     requires { start ≤ length journal.now.entries }
     ensures { result ≡ min (column_length_of size (drop start journal.now.entries)) (length (drop start journal.now.entries)) }
 {
-    size.max(hash_run(journal, start)).min(journal.len() - start)
+    size.max(hash_run(journal, start))
+        .min(journal.len() - start)
 }
 
 /// The same where there is such an entry.

@@ -80,12 +80,7 @@ fn push_mark(
 }
 
 /// Adds a rectangle that is drawn as an entry.
-fn push_rectangle(
-    text: &mut Vec<u8>,
-    column: u64,
-    lane: u64,
-    entry: &Entry,
-) -> Result<(), NoMemory>
+fn push_rectangle(text: &mut Vec<u8>, column: u64, lane: u64, entry: &Entry) -> Result<(), NoMemory>
     ensures { OnOk result (text.new.items ≡ text.old.items ++ rectangle_text column lane entry.now) }
 {
     push_text(text, "<rect class=\"")?;

@@ -11,7 +11,10 @@ use xom_base::{ImageId, NoMemory};
 pub fn push_table(text: &mut Vec<u8>, rows: &[GuestRow]) -> Result<(), NoMemory>
     ensures { OnOk result (text.new.items ≡ text.old.items ++ table_text rows.now) }
 {
-    push_text(text, "<table>\n<tr><th>install<th>slot<th>id<th>steps<th>traps<th>end\n")?;
+    push_text(
+        text,
+        "<table>\n<tr><th>install<th>slot<th>id<th>steps<th>traps<th>end\n",
+    )?;
     push_rows(text, rows)?;
     push_text(text, "</table>\n</html>\n")
 }
@@ -27,11 +30,7 @@ fn push_rows(text: &mut Vec<u8>, rows: &[GuestRow]) -> Result<(), NoMemory>
 }
 
 /// Adds the row of an install.
-fn push_row(
-    text: &mut Vec<u8>,
-    install: u64,
-    row: &GuestRow,
-) -> Result<(), NoMemory>
+fn push_row(text: &mut Vec<u8>, install: u64, row: &GuestRow) -> Result<(), NoMemory>
     ensures { OnOk result (text.new.items ≡ text.old.items ++ guest_row_text install row.now) }
 {
     push_text(text, "<tr>")?;
