@@ -130,8 +130,7 @@ module _ (before after : Outside) where
   text_shown held names answer u (Err refusal) is draws puts prints = absurd (cc)
   text_shown held names answer u (Ok text) is draws puts prints =
       let put : PutsFile before.disk after.disk (page_answer draws.0 names.page).file (Ok u) =
-      subst (λ (a : Answer). PutsFile before.disk after.disk a.file (Ok u)) draws.2 puts in
-      (
+      subst (λ (a : Answer). PutsFile before.disk after.disk a.file (Ok u)) draws.2 puts in (
         text,
         draws.0,
         fetched_text held names.journal text drawn_limit is,
