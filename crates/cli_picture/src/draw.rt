@@ -1,5 +1,5 @@
-ghost use Rattle.std.specs.Prelude.{◌≡◌, IfOk, string_bytes};
-ghost use Rattle.cli_base.specs.Commands.{IsDone};
+ghost use Rattle.std.specs.Prelude.{◌≡◌, [], IfOk, string_bytes};
+ghost use Rattle.cli_base.specs.Commands.{IsDone, writes};
 ghost use Rattle.cli_base.specs.Readings.{Meets};
 ghost use Rattle.cli_picture.specs.Picture.{Draws, IsDrawn, page_answer as page_answer_of};
 
@@ -53,6 +53,13 @@ fn page_answer(alloc: Global, journal: &Journal, page: &String) -> Result<Answer
     ensures { IfOk result (λ answer. answer ≡ page_answer_of journal.now.entries (string_bytes page.now)) }
 {
     let bytes = print_page(alloc, journal)?;
-    let name = Name::new(page.clone()?);
+    file_answer(alloc, bytes, page)
+}
+
+/// The answer that writes a file of this name and prints nothing.
+fn file_answer(alloc: Global, bytes: ByteList, name: &String) -> Result<Answer, NoMemory>
+    ensures { IfOk result (λ answer. answer ≡ writes [] (string_bytes name.now) bytes) }
+{
+    let name = Name::new(name.clone()?);
     Ok(Answer::of_file(ByteList::new(alloc), name, bytes))
 }
