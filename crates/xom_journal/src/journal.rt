@@ -83,8 +83,8 @@ impl Journal {
         }
     }
 
-    /// Adds a Hash of this text, of at most 260 bytes, with this digest, at the end. It takes no memory,
-    /// and time linear in the text.
+    /// Adds a Hash of this text, of at most 260 bytes, at the end. It takes no memory, and time
+    /// linear in the text.
     pub fn push_hash(&mut self, text: &[u8], digest: &[u8; 32])
         requires size { length text.now ≤ 260 }
         requires room { 80 + length text.now ≤ self.old.spare }
@@ -135,7 +135,7 @@ impl Journal {
         Some(entry_of(record, &self.bytes))
     }
 
-    /// The byte that the entry at a place wrote to the console, if it is an Out. It copies no payload.
+    /// The byte that the entry at a place wrote to the console, if it is an Out.
     #[tactic(auto, using(crate::proofs::RecordLaws::get_entries))]
     pub fn byte_at(&self, i: u64) -> Option<u8>
         ensures { result ≡ option_and_then byte_in (slice_get self.now.entries i) }
@@ -146,7 +146,7 @@ impl Journal {
         }
     }
 
-    /// The rule by which the entry at a place stopped a guest, if it is a Stop. It copies no payload.
+    /// The rule by which the entry at a place stopped a guest, if it is a Stop.
     #[tactic(auto, using(crate::proofs::RecordLaws::get_entries))]
     pub fn stop_rule_at(&self, i: u64) -> Option<Rule>
         ensures { result ≡ option_and_then stop_rule_in (slice_get self.now.entries i) }

@@ -1,5 +1,5 @@
-/// For each first byte of a digest, the number of the Hash whose text was added to the block last. It
-/// says where to look, and nothing rests on it: whoever looks there compares the texts.
+/// For each first byte of a digest, the number of the Hash whose text was added to the block last.
+/// It says where to look, and nothing rests on it: whoever looks there compares the texts.
 #[derive(Drop)]
 pub struct RecentHashes {
     numbers: [u64; 256],
