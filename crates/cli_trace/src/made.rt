@@ -15,7 +15,7 @@ use cli_runs::{GuestImageList, KernelFile, Parts};
 use kernels::{ImageKernel, ScriptKernel};
 use power_on::{ShippedMachine, power_on};
 use std::alloc::Global;
-use trace_judge::{Report, is_stop, is_suspect, judge};
+use trace_judge::{Report, is_suspect, judge};
 use xom_base::{NoMemory, PlainImage};
 use xom_journal::Journal;
 use xom_machine::{Chunk, Kernel, run};
@@ -163,14 +163,13 @@ pub fn status(made: &JudgedRun) -> u8
     }
 }
 
+/// Whether a guest was stopped. It copies no entry.
 fn has_stop(journal: &Journal) -> bool
     ensures { result ≡ list_any is_stop_by journal.now.entries }
 {
     for i in 0..journal.len() {
-        if let Some(entry) = journal.get(i) {
-            if is_stop(&entry) {
-                return true;
-            }
+        if journal.stop_rule_at(i).is_some() {
+            return true;
         }
     }
     false
