@@ -4,7 +4,8 @@ use Rattle.std.specs.Prelude.{option_and_then, slice_get}
 use Rattle.std.specs.List.{cons_option, filter_map}
 use Rattle.std.specs.Option.{option_to_list}
 use Rattle.xom_base.specs.declared.entry.Entry.{Entry}
-use Rattle.run_text.specs.Console.{byte_in, console_of}
+use Rattle.xom_journal.specs.EntryParts.{byte_in}
+use Rattle.run_text.specs.Console.{console_of}
 
 cons_option-nil : {A : Type 0} (o : Option A) → cons_option o [] ≡ option_to_list o
 cons_option-nil None = refl

@@ -2,19 +2,7 @@
 use Rattle.std.specs.Prelude.{ℕ, ◌-◌, ◌==◌, List, [], ◌∷◌, ◌++◌, length, slice_get, Option, Some, None, if◌then◌else◌}
 use Rattle.std.specs.List.{filter_map}
 use Rattle.xom_base.specs.declared.entry.Entry.{Entry}
-use Rattle.xom_base.specs.declared.entry.Entry.TheVariants as entry
-
--- the byte that an entry wrote to the console, if it is an Out
-abbrev pub byte_in : Entry → Option ℕ
-byte_in (entry.Install n slot id place at lines) = None
-byte_in (entry.Step n step) = None
-byte_in (entry.Trap n why) = None
-byte_in (entry.Seal key message) = None
-byte_in (entry.Accept key message place) = None
-byte_in (entry.Hash preimage digest) = None
-byte_in (entry.Stop n rule) = None
-byte_in (entry.Kill n) = None
-byte_in (entry.Out byte) = Some byte
+use Rattle.xom_journal.specs.EntryParts.{byte_in}
 
 -- the bytes that the kernel wrote, in order
 abbrev pub console_of : List Entry → List ℕ

@@ -1,12 +1,33 @@
 -- The entry at the place is the first of those that are left.
-use Rattle.std.proofs.Common.{◌≡◌, ℕ, ◌+◌, ◌<◌, ◌≤◌, length, Bool, true, false, ◌||◌, List, drop, Some, None, refl, sym, ap, ◌∙◌, arith}
+use Rattle.std.proofs.Common.{◌≡◌, ℕ, zero, suc, add-one, ◌+◌, Bool, true, false, ◌||◌, List, [], ◌∷◌, drop, refl, sym, ap, ◌∙◌}
 use Rattle.std.specs.List.{list_any}
-use Rattle.std.specs.Prelude.{slice_get}
+use Rattle.std.specs.Option.{is_some}
+use Rattle.std.specs.Prelude.{option_and_then, slice_get}
 use Rattle.trace_judge.specs.Suspicion.{is_stop}
 use Rattle.xom_base.specs.declared.entry.Entry.{Entry}
-use Rattle.xom_journal.proofs.PlaceLaws.{behind_some, past_end}
+use Rattle.xom_base.specs.declared.entry.Entry.TheVariants as entry
+use Rattle.xom_journal.specs.EntryParts.{stop_rule_in}
 use Rattle.run_text.proofs.stops.has_stop.Goals as goal
-use Rattle.run_text.proofs.stops.has_stop.Goals.{in-Some+else-is_stop, in_default}
+
+-- an entry is a Stop where it has a rule
+is_stop-by_rule : (e : Entry) → is_some (stop_rule_in e) ≡ is_stop e
+is_stop-by_rule (entry.Install n slot id place at lines) = refl
+is_stop-by_rule (entry.Step n step) = refl
+is_stop-by_rule (entry.Trap n why) = refl
+is_stop-by_rule (entry.Seal key message) = refl
+is_stop-by_rule (entry.Accept key message place) = refl
+is_stop-by_rule (entry.Hash preimage digest) = refl
+is_stop-by_rule (entry.Stop n rule) = refl
+is_stop-by_rule (entry.Kill n) = refl
+is_stop-by_rule (entry.Out byte) = refl
+
+-- whether the entries from a place on have a Stop, by the one that stands there
+stops-from : (es : List Entry) (i : ℕ) → list_any is_stop (drop i es)
+    ≡ (is_some (option_and_then stop_rule_in (slice_get es i)) || list_any is_stop (drop (suc i) es))
+stops-from [] zero = refl
+stops-from [] (suc i) = refl
+stops-from (e ∷ es) zero = ap (λ b. b || list_any is_stop es) (sym (is_stop-by_rule e))
+stops-from (e ∷ es) (suc i) = stops-from es i
 
 any_true : (b c : Bool) → b ≡ true → (b || c) ≡ true
 any_true b c is = rw is refl
@@ -14,32 +35,20 @@ any_true b c is = rw is refl
 any_false : (b c : Bool) → b ≡ false → (b || c) ≡ c
 any_false b c is = rw is refl
 
-stop_here : (es : List Entry) (i : ℕ) (e : Entry) → slice_get es i ≡ Some e → is_stop e ≡ true
-    → list_any is_stop (drop i es) ≡ true
-stop_here es i e some is =
-    ap (list_any is_stop) (behind_some es i e some)
-    ∙ any_true (is_stop e) (list_any is_stop (drop (i + 1) es)) is
+stops-next : (es : List Entry) (i : ℕ) → list_any is_stop (drop i es)
+    ≡ (is_some (option_and_then stop_rule_in (slice_get es i)) || list_any is_stop (drop (i + 1) es))
+stops-next es i = rw (add-one i) (stops-from es i)
 
-no_stop_here : (es : List Entry) (i : ℕ) (e : Entry) → slice_get es i ≡ Some e → is_stop e ≡ false
-    → list_any is_stop (drop i es) ≡ list_any is_stop (drop (i + 1) es)
-no_stop_here es i e some is =
-    ap (list_any is_stop) (behind_some es i e some)
-    ∙ any_false (is_stop e) (list_any is_stop (drop (i + 1) es)) is
-
-none_past : (es : List Entry) (i n : ℕ) → slice_get es i ≡ None → i < n → n ≡ length es → ⊥
-none_past es i n none within is = let past : length es ≤ i = past_end es i none in omega arith
-
-pub returns-then-is_stop : goal.returns-then-is_stop
-returns-then-is_stop c =
-    sym (sym c.loop-i.invariant ∙ stop_here c.args.journal.now.entries c.loop-i.i c.in-Some.entry
-    (sym c.get.ensures ∙ c.in-Some.is) (sym c.is_stop.ensures ∙ c.if-is_stop.true))
+pub returns-then-is_some : goal.returns-then-is_some
+returns-then-is_some c =
+    let es = c.args.journal.now.entries in
+    let has = sym (c.is_some.ensures ∙ ap is_some c.stop_rule_at.ensures) ∙ c.if-is_some.true in
+    sym (sym c.loop-i.invariant ∙ stops-next es c.loop-i.i
+      ∙ any_true _ (list_any is_stop (drop (c.loop-i.i + 1) es)) has)
 
 pub loop-i-preserved : goal.loop-i-preserved
 loop-i-preserved c =
-    elim c.match-get.branch [
-      | in-Some+else-is_stop w ↦
-          sym (no_stop_here c.args.journal.now.entries c.loop-i.i w.in-Some.entry (sym c.get.ensures
-          ∙ w.in-Some.is) (sym w.is_stop.ensures ∙ w.if-is_stop.false)) ∙ c.loop-i.invariant
-      | in_default w ↦ absurd (none_past c.args.journal.now.entries c.loop-i.i c.len-i-end.result
-          (sym c.get.ensures ∙ w.in_default.is) c.loop-i-test.true c.len-i-end.ensures)
-    ]
+    let es = c.args.journal.now.entries in
+    let lacks = sym (c.is_some.ensures ∙ ap is_some c.stop_rule_at.ensures) ∙ c.if-is_some.false in
+    sym (stops-next es c.loop-i.i
+      ∙ any_false _ (list_any is_stop (drop (c.loop-i.i + 1) es)) lacks) ∙ c.loop-i.invariant
