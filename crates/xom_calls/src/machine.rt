@@ -12,7 +12,6 @@ use std::alloc::Global;
 use std::test::Fail;
 use tag_regs::Cells;
 use xom_base::{Event, ImageId, Interrupts, Key256, NoMemory, NumberList, Op, PokeList, Schedule};
-use xom_debug::{debug, read_commands};
 use xom_machine::{Chunk, Kernel, Machine, View, next_event, run};
 use xom_model::outcome::{Outcome, RunEnd, Turn};
 use xom_private::Core;
@@ -167,33 +166,5 @@ fn an_event_is_made_by_itself(rt: HostRuntime) -> Result<(), Fail> {
     assert!(rt; machine.fits(&event));
     assert!(rt; matches!(machine.step(event, &chunk), Outcome::Went));
     assert!(rt; !machine.is_guest_running());
-    Ok(())
-}
-
-#[test]
-fn a_debugger_shows_a_run(rt: HostRuntime) -> Result<(), Fail> {
-    let mut machine: Machine<ChipVersions> = machine_of_twelve(rt.alloc())?;
-    let schedule = Schedule {
-        interrupts: Interrupts::Never,
-        pokes: PokeList::new(rt.alloc()),
-    };
-    let mut chunk = Chunk::new(rt.alloc())?;
-    let commands = read_commands(
-        rt.alloc(),
-        b"step 3\nlast\nslot 1\nram 8192 4\nuntil trap\nreg 9\n",
-    )?;
-    let text = debug(
-        rt.alloc(),
-        &mut machine,
-        &mut resumes_it(0),
-        &schedule,
-        100,
-        &commands,
-        &mut chunk,
-    )?;
-    assert!(rt;
-        text.as_slice()
-            == b"1 do install\n2 do map\n3 do enter\nslot 1 Running epoch 0\n00000000\n$9 null 0000000c\n".as_slice()
-    );
     Ok(())
 }

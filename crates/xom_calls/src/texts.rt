@@ -8,7 +8,6 @@ use xom_base::{
     Block, ByteList, Interrupts, LineFault, LineFormat, NumberList, Op, Payload, Short, TextFault,
     read_lines, split_lines, words,
 };
-use xom_debug::{Command, read_commands};
 use xom_script::{KernelLine, ScriptLine, read_run, read_script};
 
 #[test]
@@ -128,28 +127,5 @@ fn the_fields_of_a_run_file_are_read(rt: HostRuntime) -> Result<(), Fail> {
     };
     assert!(rt; times.len() == 9986);
     assert!(rt; times.as_slice().starts_with(&[1, 16, 17]));
-    Ok(())
-}
-
-#[test]
-fn commands_of_a_debugger_are_read(rt: HostRuntime) -> Result<(), Fail> {
-    let text = repeated(rt.alloc(), b"last\n", 13_107)?;
-    assert!(rt; read_commands(rt.alloc(), &text)?.as_slice().len() == 13_107);
-    let commands = read_commands(rt.alloc(), b"step 3\n\nuntil trap\nram 4294967295 64\n")?;
-    assert!(rt;
-        matches!(
-            commands.as_slice(),
-            [
-                Command::Step(3),
-                Command::UntilTrap,
-                Command::Ram {
-                    address: 4_294_967_295,
-                    count: 64
-                }
-            ]
-        )
-    );
-    let fault = read_commands(rt.alloc(), b"last\nreg 34\n").err();
-    assert!(rt; fault == Some(TextFault::Line(2)));
     Ok(())
 }

@@ -19,17 +19,18 @@ use Rattle.xom_cli.specs.Endings.{Disk, Ends, EndsRow, EndsWords, Finishes, IsSi
 use Rattle.cli_base.specs.Commands.{IsDone}
 use Rattle.cli_base.specs.Inputs.{Held, held_without}
 use Rattle.xom_cli.specs.Outcome.{IsOutcome, IsPrinted, IsPrintedBy, Printed, printed_text, printed_words}
-use Rattle.xom_cli.specs.Promises.{AsksForRun, ChangesOnly, FailsWriting, IsReadBy, IsRunDebugged, IsUnprinted, IsJudged, IsUnput, Promises, WritesFile, WritesPrefix, WritesWhole, target_in}
+use Rattle.xom_cli.specs.Promises.{AsksForRun, ChangesOnly, FailsWriting, IsReadBy, IsUnprinted, IsJudged, IsUnput, Promises, WritesFile, WritesPrefix, WritesWhole, target_in}
 use Rattle.cli_base.specs.Readings.{FilesRefuse, IsRead, Meets}
 use Rattle.cli_base.specs.Refusals.{refusal_status, refusal_text, words_line}
 use Rattle.xom_cli.specs.Rows.{Debug, Judge, Row, Run, Trace, row_of_words, target_of}
-use Rattle.cli_debug.specs.Debug.{debug_answer}
+use Rattle.xom_debug.specs.declared.command.Command.{Command}
+use Rattle.cli_debug.specs.Debug.{commands_of, debug_answer, text_by}
 use Rattle.cli_trace.specs.Console.{console_of}
 use Rattle.cli_trace.specs.Run.{console_run}
 use Rattle.cli_trace.specs.Trace.{GuestsFollow, NamesFinding, journal_file, last_record, report_of, trace_answer, trace_of, trace_text}
 use Rattle.xom_cli.proofs.Delivered.{done_not_1, done_not_2, done_not_3, done_not_4, done_not_5, fails-rising, lacks-count, lacks-held, never-long, puts-changes, puts-count, puts-file, puts-nothing, same-changes, same-count, takes-prefix}
 use Rattle.cli_trace.proofs.Statuses.{nine-names}
-use Rattle.xom_cli.proofs.Targets.{commands-text, debug-answer, journal-text, judge-answer, parts-traced, run-answer, trace-answer}
+use Rattle.xom_cli.proofs.Targets.{debug-answer, journal-text, judge-answer, parts-traced, run-answer, trace-answer}
 use Rattle.xom_cli.proofs.Unread.{row-unread}
 
 -- the sink took a text, and answered this
@@ -359,23 +360,22 @@ module _ (words : List (List ℕ)) (before after : Outside) where
       debugs_here : Appends before.output.written after.output.written answer.text → (held : Held)
           → before.disk.held ≡ Some held → (run commands : List ℕ)
           → row_of_words words ≡ Some (Debug run commands)
-          → IsRunDebugged held before after run commands answer.status
+          → (parts : Parts) × (list : List Command) × (parts_of held run ≡ Ok parts)
+          × (commands_of held commands ≡ Ok list) × (answer.status ≡ 0)
+          × Appends before.output.written after.output.written
+          (text_by parts.file parts.guests parts.kernel list)
       unfolding debug_answer
       debugs_here whole held told run commands named =
           let found = debug-answer held run commands answer (is_wanted (Debug run commands) named
-          held told) in
-          let text = commands-text held commands found.1 found.3 in
-          record {
-            parts = found.0;
-            text = text.0;
-            list = found.1;
-            parts_are = found.2;
-            text_is = text.1;
-            list_is = text.2;
-            status_is = ap (λ (a : Answer). a.status) found.4;
-            prints = subst (λ (a : Answer). Appends before.output.written after.output.written
-                a.text) found.4 whole;
-          }
+          held told) in (
+            found.0,
+            found.1,
+            found.2,
+            found.3,
+            ap (λ (a : Answer). a.status) found.4,
+            subst (λ (a : Answer). Appends before.output.written after.output.written a.text)
+                found.4 whole,
+          )
 
       -- the file was put, and all of the text
       delivered : (u : Unit {0}) → PutsFile before.disk after.disk answer.file (Ok u)

@@ -18,14 +18,12 @@ use Rattle.xom_cli.specs.Outcome.{IsOutcome}
 use Rattle.cli_programs.specs.Programs.{disasm_of, plain_of, seal_answer, values_of}
 use Rattle.xom_cli.specs.Rows.{Row, Asm, Disasm, Plain, Seal, Run, Trace, Judge, Debug, target_of}
 use Rattle.journal_text.specs.Readings.{IsJournal}
-use Rattle.cli_debug.specs.Debug.{commands_limit, commands_of, debug_answer, debug_of}
+use Rattle.cli_debug.specs.Debug.{commands_of, debug_answer, debug_of}
 use Rattle.cli_judge.proofs.Grammar.{entries-are}
 use Rattle.cli_judge.specs.Judge.{entries_at, journal_limit, journal_of, judge_answer, judge_of}
 use Rattle.cli_runs.specs.OwnerImages.{owners_of}
 use Rattle.cli_runs.specs.RunFiles.{run_file_of}
 use Rattle.cli_trace.specs.Run.{console_run, run_answer}
-use Rattle.xom_debug.proofs.CommandLaws.{commands_answer}
-use Rattle.xom_debug.specs.Commands.{AreCommands, commands_at}
 use Rattle.xom_debug.specs.declared.command.Command.{Command}
 use Rattle.xom_owners.specs.declared.owner.Owner.{Owner}
 use Rattle.xom_script.specs.declared.run_file.RunFile.{RunFile}
@@ -155,24 +153,6 @@ journal-text held name entries is =
       fetched-text held name read.0 journal_limit read.1,
       entries-are read.0 entries
           (entries-text name read.0 entries (entries_at read.0) read.2),
-    )
-
--- and the commands of a debugger are those of theirs
-lines-read : (name : List ℕ) (list : List Command) (read : Result (List Command) ℕ)
-    → in_file name (in_lines read) ≡ Ok list → read ≡ Ok list
-lines-read name list (Ok found) is = cc
-lines-read name list (Err line) is = absurd (cc)
-
-pub commands-text : (held : Held) (name : List ℕ) (list : List Command)
-    → commands_of held name ≡ Ok list
-    → (text : List ℕ) × (held name ≡ Some text) × AreCommands text list
-unfolding commands_of
-commands-text held name list is =
-    let read = bind-ok (file_or_refusal held name commands_limit) _ list is in
-    let given : commands_at read.0 ≡ Ok list = lines-read name list (commands_at read.0) read.2 in (
-      read.0,
-      fetched-text held name read.0 commands_limit read.1,
-      (commands_answer read.0 (Ok list) given).found,
     )
 
 asm_read-file : (source target : List ℕ) (read : Result (List ℕ) Refusal) (answer : Answer)

@@ -18,9 +18,8 @@ use Rattle.xom_script.specs.declared.run_file.RunFile.{RunFile}
 use Rattle.journal_text.specs.Readings.{IsJournal}
 use Rattle.trace_judge.specs.Judgement.{judgement}
 use Rattle.trace_judge.specs.ReportText.{report_text}
-use Rattle.xom_debug.specs.Commands.{AreCommands}
 use Rattle.xom_debug.specs.declared.command.Command.{Command}
-use Rattle.cli_debug.specs.Debug.{text_by}
+use Rattle.cli_debug.specs.Debug.{commands_of, text_by}
 use Rattle.cli_judge.specs.Judge.{judge_status}
 use Rattle.cli_runs.specs.OwnerImages.{owners_of}
 use Rattle.cli_runs.specs.RunFiles.{run_file_of}
@@ -222,26 +221,16 @@ JudgesJournal words before after status = (held : Held) → before.disk.held ≡
 
 -- ---- What a debugger prints
 
--- Where `debug` was carried out, the file of commands is the text of a list of commands, its status
--- is 0, and its text is that of just these commands over the run that `trace` makes of the same run
--- file: a function of the commands, of the events of this run, and of what is seen of the machine
--- before the first and after each.
-pub record IsRunDebugged (held : Held) (before after : Outside) (run commands : List ℕ)
-    (status : ℕ) : Type 0 where
-  pub parts : Parts
-  pub text : List ℕ
-  pub list : List Command
-  pub parts_are : parts_of held run ≡ Ok parts
-  pub text_is : held commands ≡ Some text
-  pub list_is : AreCommands text list
-  pub status_is : status ≡ 0
-  pub prints : Appends before.output.written after.output.written
-      (text_by parts.file parts.guests parts.kernel list)
-
+-- Where `debug` was carried out, its status is 0, and its text is that of the commands over the run
+-- that `trace` makes of the same run file: a function of the commands, of the events of this run,
+-- and of what is seen of the machine before the first and after each.
 abbrev pub PrintsDebug : List (List ℕ) → Outside → Outside → ℕ → Type 0
 PrintsDebug words before after status = (held : Held) → before.disk.held ≡ Some held
     → (run commands : List ℕ) → row_of_words words ≡ Some (Debug run commands) → IsDone status
-    → IsRunDebugged held before after run commands status
+    → (parts : Parts) × (list : List Command) × (parts_of held run ≡ Ok parts)
+    × (commands_of held commands ≡ Ok list) × (status ≡ 0)
+    × Appends before.output.written after.output.written
+    (text_by parts.file parts.guests parts.kernel list)
 
 -- all of this, of a call with these words
 pub record Promises (words : List (List ℕ)) (before after : Outside) (status : ℕ) : Type 0 where
