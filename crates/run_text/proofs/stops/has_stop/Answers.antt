@@ -44,11 +44,11 @@ returns-then-is_some c =
     let es = c.args.journal.now.entries in
     let has = sym (c.is_some.ensures ∙ ap is_some c.stop_rule_at.ensures) ∙ c.if-is_some.true in
     sym (sym c.loop-i.invariant ∙ stops-next es c.loop-i.i
-      ∙ any_true _ (list_any is_stop (drop (c.loop-i.i + 1) es)) has)
+    ∙ any_true _ (list_any is_stop (drop (c.loop-i.i + 1) es)) has)
 
 pub loop-i-preserved : goal.loop-i-preserved
 loop-i-preserved c =
     let es = c.args.journal.now.entries in
     let lacks = sym (c.is_some.ensures ∙ ap is_some c.stop_rule_at.ensures) ∙ c.if-is_some.false in
     sym (stops-next es c.loop-i.i
-      ∙ any_false _ (list_any is_stop (drop (c.loop-i.i + 1) es)) lacks) ∙ c.loop-i.invariant
+    ∙ any_false _ (list_any is_stop (drop (c.loop-i.i + 1) es)) lacks) ∙ c.loop-i.invariant
