@@ -32,13 +32,15 @@ pub record Outside : Type 0 where
   pub reads : ℕ
   pub output : Output
 
--- each of them, from what is told and counted
+-- the disk, from what is told and counted
 abbrev pub disk : FilesTold → ℕ → Disk
 disk held writes = record { held = held; writes = writes }
 
+-- the output that has these bytes written, and so many faults counted
 abbrev pub output : Option (List ℕ) → ℕ → Output
 output written faults = record { written = written; faults = faults }
 
+-- the outside with this disk, so many reads counted, and this output
 abbrev pub outside : Disk → ℕ → Output → Outside
 outside files reads sink = record { disk = files; reads = reads; output = sink }
 

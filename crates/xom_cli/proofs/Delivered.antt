@@ -9,7 +9,7 @@ use Rattle.xom_io.specs.declared.sink.SinkFault.TheVariants as sink_fault
 use Rattle.xom_io.specs.Answers.{Appends, FilesTold, KeepsOthers, Rises, TakesAll}
 use Rattle.cli_base.specs.declared.answer.Answer.{Answer}
 use Rattle.cli_base.specs.declared.answer.OutputFile.{OutputFile}
-use Rattle.xom_cli.specs.Endings.{Disk, PutsFile}
+use Rattle.cli_delivery.specs.Endings.{Disk, PutsFile}
 use Rattle.cli_base.specs.Commands.{IsDone}
 use Rattle.cli_base.specs.Inputs.{Held}
 use Rattle.xom_cli.specs.Outcome.{IsOutcome}

@@ -7,15 +7,16 @@ use Rattle.xom_io.specs.declared.sink.SinkFault.{SinkFault}
 use Rattle.xom_io.specs.declared.sink.SinkFault.TheVariants as sink_fault
 use Rattle.xom_io.specs.Answers.{Appends, FilesTold, KeepsOthers, Rises, TakesAll}
 use Rattle.cli_base.specs.declared.answer.Answer.{Answer}
-use Rattle.xom_cli.specs.declared.ending.Ending.{Ending}
-use Rattle.xom_cli.specs.declared.ending.Ending.TheVariants as ending
+use Rattle.cli_delivery.specs.declared.ending.Ending.{Ending}
+use Rattle.cli_delivery.specs.declared.ending.Ending.TheVariants as ending
 use Rattle.cli_base.specs.declared.refusal.Refusal.{Refusal}
 use Rattle.cli_base.specs.declared.refusal.Refusal.TheVariants.{Unread, Bad}
 use Rattle.cli_base.specs.declared.refusal.Stop.{Stop}
 use Rattle.cli_base.specs.declared.refusal.Stop.TheVariants as stop
 use Rattle.cli_runs.specs.declared.parts.Parts.{Parts}
 use Rattle.cli_runs.specs.Parts.{parts_of}
-use Rattle.xom_cli.specs.Endings.{Disk, Ends, EndsRow, EndsWords, Finishes, IsSilent, Output, Outside, PrintsBehind, PutsFile, RowFollows, ending_after, ending_of_refusal, status_of}
+use Rattle.cli_delivery.specs.Endings.{Disk, Finishes, IsSilent, Output, Outside, PrintsBehind, PutsFile, ending_after, ending_of_refusal, status_of}
+use Rattle.xom_cli.specs.Endings.{Ends, EndsRow, EndsWords, RowFollows}
 use Rattle.cli_base.specs.Commands.{IsDone}
 use Rattle.cli_base.specs.Inputs.{Held, held_without}
 use Rattle.xom_cli.specs.Outcome.{IsOutcome, IsPrinted, IsPrintedBy, Printed, printed_text, printed_words}

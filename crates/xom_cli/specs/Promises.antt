@@ -6,7 +6,7 @@ use Rattle.cli_base.specs.declared.answer.OutputFile.{OutputFile}
 use Rattle.cli_runs.specs.declared.parts.Parts.{Parts}
 use Rattle.cli_runs.specs.Parts.{parts_of}
 use Rattle.cli_base.specs.declared.refusal.Refusal.TheVariants.{Unread}
-use Rattle.xom_cli.specs.Endings.{Disk, Outside}
+use Rattle.cli_delivery.specs.Endings.{Disk, Outside}
 use Rattle.cli_base.specs.Commands.{IsDone}
 use Rattle.cli_base.specs.Inputs.{Held, held_without}
 use Rattle.xom_cli.specs.Outcome.{IsPrinted, Printed, printed_text}

@@ -1,16 +1,16 @@
 ghost use Rattle.std.specs.Prelude.{◌≡◌, IfOk, map, string_bytes};
-ghost use Rattle.xom_cli.specs.Endings.{Ends, RowFollows, disk, output, outside};
+ghost use Rattle.cli_delivery.specs.Endings.{disk, output, outside};
+ghost use Rattle.xom_cli.specs.Endings.{Ends, RowFollows};
 ghost use Rattle.cli_base.specs.Commands.{IsDone};
 ghost use Rattle.xom_cli.specs.Outcome.{IsOutcome};
 ghost use Rattle.xom_cli.specs.Promises.{Promises};
 ghost use Rattle.cli_base.specs.Readings.{Meets};
 ghost use Rattle.xom_cli.specs.Words.{row_of_words_of};
 
-use crate::delivery::{finish, print};
-use crate::ending::Ending;
 use crate::row::{Row, row_named};
 use cli_base::{Answer, Stop};
 use cli_debug::debug::debug;
+use cli_delivery::{Ending, finish, print};
 use cli_judge::judge::judge;
 use cli_programs::asm::asm;
 use cli_programs::disasm::disasm;

@@ -1,6 +1,7 @@
 use Rattle.std.proofs.Common.{subst, sym, map}
 use Rattle.std.specs.Prelude.{string_bytes}
-use Rattle.xom_cli.specs.Endings.{Ends, Outside, disk, output, outside}
+use Rattle.cli_delivery.specs.Endings.{Outside, disk, output, outside}
+use Rattle.xom_cli.specs.Endings.{Ends}
 use Rattle.xom_cli.specs.Promises.{Promises}
 use Rattle.xom_cli.proofs.Kept.{promises_kept}
 use Rattle.xom_cli.proofs.top.xom_main.Goals as goal
