@@ -11,7 +11,7 @@ use Rattle.mips_effect.specs.declared.seen.Mode.{Mode}
 use Rattle.mips_effect.specs.declared.seen.Seen.TheVariants.{Value}
 use Rattle.mips_effect.specs.Effects.{seen_at, sets, write_of_register}
 use Rattle.mips_plain.specs.Memory.{word_at_address}
-use Rattle.asm_laws.specs.Runs.{Cells, State, cells_after_writes, effect_on, state, state_after, state_after_effect, state_after_one}
+use Rattle.asm_laws.specs.Runs.{Cells, StateOfLaw, cells_after_writes, effect_on, state, state_after, state_after_effect, state_after_one}
 use Rattle.asm_laws.specs.ShortForms.{Sets}
 
 -- ---- The cells after a register was set
@@ -68,7 +68,7 @@ pub runs_one : (memory : List ℕ) (mode : Mode) (cells : Cells) (pc npc : ℕ) 
     → state_after 1 memory mode (state cells pc npc) ≡ (state_after_effect cells effect >>= state_after 0
     memory mode)
 runs_one memory mode cells pc npc i effect there comes =
-    ap (λ (o : Option State). o >>= state_after 0 memory mode)
+    ap (λ (o : Option StateOfLaw). o >>= state_after 0 memory mode)
     (after_one memory mode cells pc npc i effect there comes)
 
 -- it sets a register
@@ -98,7 +98,7 @@ sets_two memory mode cells pc npc reg first second value i j i_there j_there i_c
     let between : Cells = cells_after_writes cells (write_of_register reg first) in record {
       cells = cells_after_writes between (write_of_register reg second);
       runs =
-          ap (λ (o : Option State). o >>= state_after 1 memory mode)
+          ap (λ (o : Option StateOfLaw). o >>= state_after 1 memory mode)
           (after_one memory mode cells pc npc i (sets reg first npc) i_there i_comes)
           ∙ runs_one memory mode between npc (next_address npc) j (sets reg second (next_address npc)) j_there
           j_comes;

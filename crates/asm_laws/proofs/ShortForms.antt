@@ -12,7 +12,7 @@ use Rattle.asm_tokens.specs.Integers.{whole}
 use Rattle.asm_source.specs.declared.content.Content.TheVariants.{LoadNumber, LoadAddress}
 use Rattle.mips_asm.specs.Encoding.{AreWords, load_halves, load_number, one_instruction, twos_complement}
 use Rattle.mips_asm.specs.Layout.{in_range, limit}
-use Rattle.asm_laws.specs.Runs.{Cells, State, cells_after_writes, effect_on, state}
+use Rattle.asm_laws.specs.Runs.{Cells, StateOfLaw, cells_after_writes, effect_on, state}
 use Rattle.asm_laws.specs.ShortForms.{BGoesToItsTarget, LaLoadsThePlace, LiLoadsTheNumber, Loads, MoveCopies, NopGoesOn, Sets}
 use Rattle.asm_laws.proofs.Branching.{branch_field-target}
 use Rattle.asm_laws.proofs.Computing.{addiu_zero, addu_zero, beq_zero, lui_any, ori_own, ori_zero, sll_zero}
@@ -31,7 +31,7 @@ pub r_word-small : (rs rt rd function : ℕ) → rs < 32 → rt < 32 → rd < 32
 r_word-small rs rt rd function rs_fits rt_fits rd_fits function_fits = omega arith
 
 -- the same pair by other names
-paired : (memory : List ℕ) (mode : Mode) (before : State)
+paired : (memory : List ℕ) (mode : Mode) (before : StateOfLaw)
     (count pc npc reg value next following : ℕ)
     → pc ≡ next → npc ≡ following → Sets memory mode before count pc npc reg value
     → Sets memory mode before count next following reg value

@@ -33,42 +33,42 @@ cells_after_writes cells (writes.Pair hi lo) =
     λ cell. if cell == 32 then Value hi else (if cell == 33 then Value lo else cells cell)
 
 -- the cells, and the addresses of the next instruction and of the one after it
-pub record State : Type 0 where
+pub record StateOfLaw : Type 0 where
   pub cells : Cells
   pub pc : ℕ
   pub npc : ℕ
 
 -- the state that has these cells and these two addresses
-abbrev pub state : Cells → (pc npc : ℕ) → State
+abbrev pub state : Cells → (pc npc : ℕ) → StateOfLaw
 state cells pc npc = record { cells = cells; pc = pc; npc = npc }
 
 -- ---- Steps
 
 -- what an instruction comes to; what is none is Reserved
-abbrev pub effect_on : Mode → State → Option Ins → Result Effect OwnFault
+abbrev pub effect_on : Mode → StateOfLaw → Option Ins → Result Effect OwnFault
 effect_on mode before None = Err fault.Reserved
 effect_on mode before (Some i) =
     effect_of i mode (before.cells (sources_of i).0) (before.cells (sources_of i).1)
     (before.cells (sources_of i).2) before.pc before.npc
 
 -- the state, where nothing is wished: no load, no store, no call and no operation
-abbrev pub without_wish : Wish → State → Option State
+abbrev pub without_wish : Wish → StateOfLaw → Option StateOfLaw
 without_wish wish.Nothing next = Some next
 without_wish other next = None
 
 -- the state after an effect that only computes; none where it is a fault or wishes anything
-abbrev pub state_after_effect : Cells → Result Effect OwnFault → Option State
+abbrev pub state_after_effect : Cells → Result Effect OwnFault → Option StateOfLaw
 state_after_effect cells (Err fault) = None
 state_after_effect cells (Ok effect) =
     without_wish effect.wish (state (cells_after_writes cells effect.writes) effect.pc effect.npc)
 
 -- the state after the instruction whose word stands in memory at pc
-abbrev pub state_after_one : List ℕ → Mode → State → Option State
+abbrev pub state_after_one : List ℕ → Mode → StateOfLaw → Option StateOfLaw
 state_after_one memory mode before =
     state_after_effect before.cells (effect_on mode before (instruction_of_word (word_at_address memory before.pc)))
 
 -- the state after so many instructions, each fetched from memory, where all of them only compute
-abbrev pub state_after : ℕ → List ℕ → Mode → State → Option State
+abbrev pub state_after : ℕ → List ℕ → Mode → StateOfLaw → Option StateOfLaw
 state_after zero memory mode before = Some before
 state_after (suc n) memory mode before =
     state_after_one memory mode before >>= state_after n memory mode

@@ -22,7 +22,7 @@ use Rattle.mips_asm.specs.Encoding.{StatementGives, value_number}
 use Rattle.mips_asm.specs.Layout.{layout, limit}
 use Rattle.mips_asm.specs.Passes.{Labels}
 use Rattle.mips_asm.specs.Sources.{IsImageOf, labels_of}
-use Rattle.asm_laws.specs.Runs.{Cells, State, state, state_after}
+use Rattle.asm_laws.specs.Runs.{Cells, StateOfLaw, state, state_after}
 
 -- ---- Statements in memory
 
@@ -56,7 +56,7 @@ ImagesHaveTheirStatements =
 -- So many instructions set the register to the value and come to this pair. They don't fault, and
 -- write
 -- no other cell; a write to $0 is dropped.
-pub record Sets (memory : List ℕ) (mode : Mode) (before : State) (count pc npc reg value : ℕ) : Type
+pub record Sets (memory : List ℕ) (mode : Mode) (before : StateOfLaw) (count pc npc reg value : ℕ) : Type
     0 where
   pub cells : Cells
   pub runs : state_after count memory mode before ≡ Some (state cells pc npc)

@@ -27,7 +27,7 @@ use Rattle.asm_syntax.specs.declared.lexeme.Lexeme.TheVariants.{Number, Register
 use Rattle.asm_syntax.specs.Arguments.{argument_of, arguments_of, is_comma}
 use Rattle.asm_syntax.specs.Forms.{map_some}
 use Rattle.asm_syntax.specs.Lines.{may_be, may_be_all}
-use Rattle.asm_round_trip.specs.Printed.{Shows}
+use Rattle.asm_round_trip.specs.Printed.{PrintsArgument}
 use Rattle.asm_round_trip.proofs.Lexed.{Lexes, lexes_none, lexes_space, lexes_token}
 use Rattle.asm_round_trip.proofs.Numerals.{address-integer, printed, signed-integer, signed_16-small, whole-printed}
 
@@ -193,7 +193,7 @@ argument-lexed pc (operand.Register r) = refl
 argument-lexed pc _ = refl
 
 -- which shows the operand
-shows-shown : (pc : ℕ) (v : Operand) → Shows pc v (shown pc v)
+shows-shown : (pc : ℕ) (v : Operand) → PrintsArgument pc v (shown pc v)
 shows-shown pc (operand.Register r) = refl
 shows-shown pc (operand.Offset imm base) =
     (printed (signed_16 imm), whole-printed (signed_16 imm), refl)
@@ -290,7 +290,7 @@ arguments-lexed pc [] = refl
 arguments-lexed pc (v ∷ vs) = arguments-cut pc v vs ∙ arguments-split pc v vs
 
 -- each shows its operand
-pub all_shown : (pc : ℕ) (vs : List Operand) → AllZip (Shows pc) vs (map (shown pc) vs)
+pub all_shown : (pc : ℕ) (vs : List Operand) → AllZip (PrintsArgument pc) vs (map (shown pc) vs)
 all_shown pc [] = tt
 all_shown pc (v ∷ vs) = (shows-shown pc v, all_shown pc vs)
 

@@ -10,12 +10,12 @@ use Rattle.asm_source.specs.declared.argument.Argument.{Argument}
 use Rattle.mips_forms.proofs.FormTable.{built_form, kinds_of_forms, operands_fit}
 use Rattle.mips_asm.specs.Encoding.{field_of, instruction_at, one_instruction, operand_of, operands_of}
 use Rattle.mips_asm.specs.Passes.{Labels}
-use Rattle.asm_round_trip.specs.Printed.{PrintedIsAssembled, Shows}
+use Rattle.asm_round_trip.specs.Printed.{PrintedIsAssembled, PrintsArgument}
 use Rattle.asm_round_trip.proofs.FieldLaws.{branch-read, jump-read, signed-read, unsigned-read}
 
 -- an operand as it is printed is read as itself
 operand-read : (labels : Labels) (pc : ℕ) (v : Operand) (shown : Argument) → pc % 4 ≡ 0
-    → pc + 4 < 2 ^ 32 → InRange v → Shows pc v shown
+    → pc + 4 < 2 ^ 32 → InRange v → PrintsArgument pc v shown
     → operand_of labels pc (operand_kind_of v) shown ≡ Some v
 unfolding operand_of field_of
 operand-read labels pc (Register r) shown even below fits is = rw is refl
@@ -42,7 +42,7 @@ operand-read labels pc (Offset m base) shown even below fits is =
 
 -- and so are all of them
 operands-read : (labels : Labels) (pc : ℕ) (vs : List Operand) (arguments : List Argument)
-    → pc % 4 ≡ 0 → pc + 4 < 2 ^ 32 → AllByRecursion InRange vs → AllZip (Shows pc) vs arguments
+    → pc % 4 ≡ 0 → pc + 4 < 2 ^ 32 → AllByRecursion InRange vs → AllZip (PrintsArgument pc) vs arguments
     → operands_of labels pc (map operand_kind_of vs) arguments ≡ Some vs
 unfolding operands_of
 operands-read labels pc [] [] even below fits is = refl
@@ -57,7 +57,7 @@ operands-read labels pc (v ∷ vs) (shown ∷ arguments) even below fits is =
 
 -- and so is the instruction
 instruction-read : (labels : Labels) (pc : ℕ) (i : Ins) (arguments : List Argument) → pc % 4 ≡ 0
-    → pc + 4 < 2 ^ 32 → Fits i → AllZip (Shows pc) (form_of i).1 arguments
+    → pc + 4 < 2 ^ 32 → Fits i → AllZip (PrintsArgument pc) (form_of i).1 arguments
     → instruction_at labels pc (form_of i).0 arguments ≡ Some i
 unfolding instruction_at
 instruction-read labels pc i arguments even below fits shows =

@@ -20,12 +20,12 @@ use Rattle.mips_asm.specs.Passes.{Labels}
 -- The operand as the instruction at an address shows it: a register as it is, an offset as its
 -- number and
 -- its base register, and any other operand as the number that stands for it.
-abbrev pub Shows : (pc : ℕ) → Operand → Argument → Type 0
-Shows pc (operand.Register r) shown = shown ≡ argument.Register r
-Shows pc (operand.Offset imm base) shown =
+abbrev pub PrintsArgument : (pc : ℕ) → Operand → Argument → Type 0
+PrintsArgument pc (operand.Register r) shown = shown ≡ argument.Register r
+PrintsArgument pc (operand.Offset imm base) shown =
     (n : Integer) × (whole n ≡ operand_value pc (operand.Offset imm base))
     × (shown ≡ argument.Offset (values.Number n) base)
-Shows pc v shown =
+PrintsArgument pc v shown =
     (n : Integer) × (whole n ≡ operand_value pc v) × (shown ≡ argument.Value (values.Number n))
 
 -- at a multiple of 4 before the last word of 2^32 bytes, an instruction as it is printed writes its
@@ -33,5 +33,5 @@ Shows pc v shown =
 abbrev pub PrintedIsAssembled : Type 0
 PrintedIsAssembled =
     (labels : Labels) (pc : ℕ) (i : Ins) (arguments : List Argument) → pc % 4 ≡ 0 → pc + 4 < 2 ^ 32
-    → Fits i → AllZip (Shows pc) (form_of i).1 arguments
+    → Fits i → AllZip (PrintsArgument pc) (form_of i).1 arguments
     → StatementGives labels pc (Instruction (form_of i).0 arguments) (to_be_bytes w32 (word_of i))

@@ -9,6 +9,6 @@ bytes_of_name (Short size bytes) = take size bytes
 bytes_of_name (Long bytes) = bytes.value
 
 -- a short name has no more bytes than there is room for
-abbrev pub HasRoom : NameBytes → Type 0
-HasRoom (Short size bytes) = size ≤ 14
-HasRoom (Long bytes) = Unit {0}
+abbrev pub IsShortEnough : NameBytes → Type 0
+IsShortEnough (Short size bytes) = size ≤ 14
+IsShortEnough (Long bytes) = Unit {0}

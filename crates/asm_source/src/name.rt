@@ -1,5 +1,5 @@
 ghost use Rattle.std.specs.Prelude.{◌≡◌, ◌≤◌, IfOk, length};
-ghost use Rattle.asm_source.specs.Names.{HasRoom, bytes_of_name};
+ghost use Rattle.asm_source.specs.Names.{IsShortEnough, bytes_of_name};
 
 use std::alloc::Global;
 use std::marker::Model;
@@ -26,13 +26,13 @@ enum NameBytes {
 
 impl Model for SourceName {
     ghost use Rattle.std.specs.Prelude.{ℕ, List};
-    ghost use Rattle.asm_source.specs.Names.{HasRoom, bytes_of_name};
+    ghost use Rattle.asm_source.specs.Names.{IsShortEnough, bytes_of_name};
 
     ghost Value = { List ℕ };
 
     ghost view = { λ name. bytes_of_name name.bytes };
 
-    ghost invariant = { λ name. HasRoom name.bytes };
+    ghost invariant = { λ name. IsShortEnough name.bytes };
 }
 
 impl SourceName {
@@ -63,7 +63,7 @@ impl SourceName {
 fn short(name: &[u8]) -> NameBytes
     requires { length name.now ≤ 14 }
     ensures bytes { bytes_of_name result ≡ name.now }
-    ensures room { HasRoom result }
+    ensures room { IsShortEnough result }
 {
     let mut bytes = [0; SHORT];
     bytes[..name.len()].copy_from_slice(name);

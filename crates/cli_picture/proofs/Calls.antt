@@ -5,7 +5,7 @@ use Rattle.xom_io.specs.declared.files.FileFault.{FileFault}
 use Rattle.xom_io.specs.declared.files.FileFault.TheVariants as file_fault
 use Rattle.xom_io.specs.declared.sink.SinkFault.{SinkFault}
 use Rattle.xom_io.specs.declared.sink.SinkFault.TheVariants as sink_fault
-use Rattle.xom_io.specs.Answers.{Appends, TakesAll}
+use Rattle.xom_io.specs.Answers.{AppendsToSink, TakesAll}
 use Rattle.trace_picture.proofs.MarkLaws.{show_each_once}
 use Rattle.cli_base.specs.Commands.{IsDone}
 use Rattle.cli_base.specs.Inputs.{Held, fetched_bytes, file_or_refusal}
@@ -59,7 +59,7 @@ five_unrefused refused = let range = refused_range 5 refused in omega (arith, ra
 
 -- what was put whole
 whole_taken : (old new : Option (List ℕ)) (text : List ℕ) (n m : ℕ) (u : Unit {0})
-    → TakesAll old new text n m (Ok u) → Appends old new text
+    → TakesAll old new text n m (Ok u) → AppendsToSink old new text
 whole_taken old new text n m u takes = takes.1
 
 -- the bytes of a file that isn't too long
@@ -125,7 +125,7 @@ module _ (before after : Outside) where
       → file_or_refusal held names.journal drawn_limit ≡ read
       → DrawsRead names.journal names.page read (Ok answer)
       → PutsFile before.disk after.disk answer.file (Ok u)
-      → Appends before.output.written after.output.written answer.text
+      → AppendsToSink before.output.written after.output.written answer.text
       → ShowsJournal held before after names
   text_shown held names answer u (Err refusal) is draws puts prints = absurd (cc)
   text_shown held names answer u (Ok text) is draws puts prints =
@@ -138,7 +138,7 @@ module _ (before after : Outside) where
         put.0.1,
         show_each_once draws.0,
         put.1,
-        subst (λ (a : Answer). Appends before.output.written after.output.written a.text) draws.2
+        subst (λ (a : Answer). AppendsToSink before.output.written after.output.written a.text) draws.2
             prints,
       )
 

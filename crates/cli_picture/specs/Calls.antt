@@ -1,6 +1,6 @@
 -- What may be said of every call of `picture`: how it ends, and what it wrote.
 use Rattle.std.specs.Prelude.{◌≡◌, ◌⊎◌, ℕ, List, [], ◌∷◌, Option, Some, None, Result, MatchOption}
-use Rattle.xom_io.specs.Answers.{Appends, Holds, KeepsOthers}
+use Rattle.xom_io.specs.Answers.{AppendsToSink, HoldsFile, KeepsOthers}
 use Rattle.xom_base.specs.declared.entry.Entry.{Entry}
 use Rattle.journal_text.specs.Readings.{IsJournal}
 use Rattle.trace_picture.specs.Marks.{ShowEachOnce, marks_of}
@@ -57,10 +57,10 @@ HasStatus words before after status =
 abbrev pub ShowsJournal : Held → Outside → Outside → PictureNames → Type 0
 ShowsJournal held before after names =
     (text : List ℕ) × (entries : List Entry) × (held names.journal ≡ Some text)
-    × IsJournal text entries × Holds after.disk.held names.page (journal_page entries)
+    × IsJournal text entries × HoldsFile after.disk.held names.page (journal_page entries)
     × ShowEachOnce entries (marks_of entries)
     × KeepsOthers before.disk.held after.disk.held names.page
-    × Appends before.output.written after.output.written []
+    × AppendsToSink before.output.written after.output.written []
 
 -- so it is where the status is 0
 abbrev pub DrawsJournal : List (List ℕ) → Outside → Outside → ℕ → Type 0

@@ -27,7 +27,7 @@ use Rattle.xom_model.specs.declared.reach.Reach.TheVariants as reach
 use Rattle.xom_model.specs.Versions.{StandsFor}
 use Rattle.xom_model.specs.State.{CoreState, core_with_hashes, core_with_way, page_of, session_of, store_of, with_entry}
 use Rattle.xom_model.specs.Lines.{Who, accept_entry, ct_place, index_in_frame, is_image_at, keys_of, line_name_of, run_name, seal_entry, sealed_as, sealed_at, who_of, with_sealed}
-use Rattle.xom_model.specs.Access.{access, after_eviction, after_flush, after_leaving, after_opening, after_raise, after_seal, after_stop, after_victim, and_then, brought, cleared_at, or_stopped, reach_after_placing, reach_after_victim, reach_by_cache, reach_in_frame, read_from, sealed_by_raise, taken_out, with_pointers, without_guest}
+use Rattle.xom_model.specs.Access.{access, after_eviction, after_flush, after_leaving, after_opening, after_raise, after_seal, after_stop, after_victim, and_then, brought, cleared_at, or_stopped, reach_after_placing, reach_after_victim, reach_by_cache, reach_by_frame, reach_in_frame, sealed_by_raise, taken_out, with_pointers, without_guest}
 use Rattle.xom_model.specs.Holds.{IsLive}
 use Rattle.xom_model.proofs.RamSize.{area_stays}
 use Rattle.journal_laws.specs.RulesOfRecord.{StoresKeepRules, IsSoundWay, RulesHold}
@@ -278,7 +278,7 @@ module _ (v : Versions) (Stands : StandsFor) (law : VersionLaw v Stands)
   read_from-holds : (core : CoreState) (slot line frame version : ℕ)
       → frame_of core.pages slot (page_of line) ≡ Some frame → line < line_limit → IsLive core slot
       → RulesHold core
-      → Answers (read_from v core slot line frame version)
+      → Answers (reach_by_frame v core slot line frame version)
   read_from-holds core slot line frame version is low live holds =
       let who = who_of core slot in
       let sealed = sealed_at core.ram frame line in
@@ -301,7 +301,7 @@ module _ (v : Versions) (Stands : StandsFor) (law : VersionLaw v Stands)
       (stopped-holds core slot (rule.TreeNode torn.level) (level torn refl) live holds, tt)
   brought-holds core slot line frame (Ok version) level is low live holds =
       cond_both (version == 0) (reach_after_placing v core slot line (replicate 32 0))
-      (read_from v core slot line frame version) Answers
+      (reach_by_frame v core slot line frame version) Answers
       (λ _. placed-holds core slot line (replicate 32 0) (bytes-zeros 32) low holds)
       (λ _. read_from-holds core slot line frame version is low live holds)
 

@@ -9,7 +9,7 @@ use Rattle.xom_base.specs.declared.schedule.Poke.{Poke}
 use Rattle.xom_base.specs.declared.schedule.Schedule.{Schedule}
 use Rattle.journal_text.specs.JournalTexts.{journal_text}
 use Rattle.journal_text.specs.Readings.{IsJournal}
-use Rattle.journal_round_trip.specs.KeepsRules.{KeepsPayload, KeepsRules}
+use Rattle.journal_round_trip.specs.KeepsRules.{KeepsJournalRules, KeepsPayload}
 use Rattle.xom_versions.specs.Versions.{VersionLaw, Versions}
 use Rattle.xom_model.specs.Versions.{StandsFor}
 use Rattle.xom_model.specs.State.{Record, power_on}
@@ -55,7 +55,7 @@ JournalsKeepRules v Stands = VersionLaw v Stands → StoresKeepRules v
     → (machine : Key256) (boot : ℕ) (ram : List ℕ) (pc : ℕ) → IsPlainStart machine ram
     → (events : List (Event × List ℕ)) → All IsPlainEvent events
     → IsBounded (after_all v (power_on v machine boot ram pc) events).core.entries
-    → KeepsRules (after_all v (power_on v machine boot ram pc) events).core.entries
+    → KeepsJournalRules (after_all v (power_on v machine boot ram pc) events).core.entries
 
 -- and the text that is printed of it is a journal of the same entries
 abbrev pub JournalsAreReadAgain : Versions → StandsFor → Type 0

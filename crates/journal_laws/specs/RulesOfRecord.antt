@@ -7,7 +7,7 @@ use Rattle.xom_base.specs.declared.event.Op.{Op}
 use Rattle.xom_base.specs.declared.event.Op.TheVariants.{Install, Enter, Resume, Save, Restore, Map, Unmap, SetReg, Kill, Out, Halt}
 use Rattle.xom_base.specs.Sizes.{compartment_count, id_size}
 use Rattle.journal_text.specs.JournalLines.{last_behind}
-use Rattle.journal_round_trip.specs.KeepsRules.{CameBefore, Is32Bit, KeepsPayload, KeepsRules}
+use Rattle.journal_round_trip.specs.KeepsRules.{CameBefore, Is32Bit, KeepsJournalRules, KeepsPayload}
 use Rattle.line_cache.specs.declared.way.Way.{Way}
 use Rattle.line_cache.specs.Ways.{way_at}
 use Rattle.tag_regs.specs.declared.cell.Cell.{Cell}
@@ -103,7 +103,7 @@ pub record IsSoundWay (sessions : List Session) (way : Way) : Type 0 where
 -- the journal keeps the rules of its text, and the processor is ready for the next entry
 pub record RulesHold (core : CoreState) : Type 0 where
   -- the last install of the journal has the processor's number
-  pub journal : KeepsRules core.entries
+  pub journal : KeepsJournalRules core.entries
   pub last : last_install core.entries ≡ core.installs
   -- what an entry may be made of is in its range
   pub machine : KeepsPayload 96 core.machine.0

@@ -30,7 +30,7 @@ use Rattle.step_text.specs.StepFields.{IsCell, IsEnd, IsHex8, IsNamedPair, IsRec
 use Rattle.journal_text.specs.JournalLines.{IsCause, IsInstalledBefore, IsPayload, IsRow, IsRule, JournalLine, journal_step, last_behind}
 use Rattle.journal_text.specs.Readings.{IsJournal}
 use Rattle.journal_text.proofs.RowLaws.{tells}
-use Rattle.journal_round_trip.specs.KeepsRules.{KeepsCell, CameBefore, Is32Bit, KeepsCause, KeepsEnd, KeepsEntry, KeepsPayload, KeepsReceived, KeepsReleased, KeepsRule, KeepsRules, KeepsRulesBehind, KeepsStep, KeepsStored, KeepsWrites}
+use Rattle.journal_round_trip.specs.KeepsRules.{CameBefore, Is32Bit, KeepsCause, KeepsCell, KeepsEnd, KeepsEntry, KeepsJournalRules, KeepsPayload, KeepsReceived, KeepsReleased, KeepsRule, KeepsRulesBehind, KeepsStep, KeepsStored, KeepsWrites}
 use Rattle.journal_round_trip.proofs.FieldLaws.{by_count}
 
 -- ---- bytes
@@ -200,9 +200,9 @@ keeps-reads last number (line ∷ lines) entries end (Some e, next, more, row, i
     (one.0, subst (λ n. KeepsRulesBehind n more) one.1 behind)
 
 pub keeps-journal : (text : List ℕ) (entries : List Entry) → IsJournal text entries
-    → KeepsRules entries
+    → KeepsJournalRules entries
 keeps-journal text entries (values, last, reads, same) =
-    subst KeepsRules (sym same) (keeps-reads 0 1 (lines_of text) values last reads)
+    subst KeepsJournalRules (sym same) (keeps-reads 0 1 (lines_of text) values last reads)
 
 -- reading is a function
 pub one_journal : (text : List ℕ) (a b : List Entry) → IsJournal text a → IsJournal text b → a ≡ b

@@ -8,7 +8,7 @@ use Rattle.xom_base.proofs.CutLaws.{cut_of-at, lines_of-cut}
 use Rattle.journal_text.specs.JournalLines.{IsRow, JournalLine, last_behind}
 use Rattle.journal_text.specs.JournalTexts.{entry_text, journal_line_text, journal_text}
 use Rattle.journal_text.specs.Readings.{IsJournal}
-use Rattle.journal_round_trip.specs.KeepsRules.{KeepsEntry, KeepsRules, KeepsRulesBehind}
+use Rattle.journal_round_trip.specs.KeepsRules.{KeepsEntry, KeepsJournalRules, KeepsRulesBehind}
 use Rattle.journal_round_trip.proofs.WordLaws.{one_line, words_of-line}
 use Rattle.journal_round_trip.proofs.EntryLaws.{entry_words, entry-printed, line-entry}
 
@@ -60,7 +60,7 @@ reads-printed last number (e ∷ entries) small (first, others) =
     (sym (lines_of-entry last e (journal_text entries) small first))
     (Some e, next, entries, row-entry last e small first, refl, behind)
 
-pub printed_is_read : (entries : List Entry) → KeepsRules entries
+pub printed_is_read : (entries : List Entry) → KeepsJournalRules entries
     → IsJournal (journal_text entries) entries
 printed_is_read entries keeps =
     (entries, last_of 0 entries, reads-printed 0 1 entries (omega arith) keeps, refl)

@@ -123,5 +123,5 @@ KeepsRulesBehind last (e ∷ entries) =
     KeepsEntry last e × KeepsRulesBehind (last_behind last e) entries
 
 -- the entries of a whole journal keep the rules
-abbrev pub KeepsRules : List Entry → Type 0
-KeepsRules entries = KeepsRulesBehind 0 entries
+abbrev pub KeepsJournalRules : List Entry → Type 0
+KeepsJournalRules entries = KeepsRulesBehind 0 entries

@@ -4,14 +4,14 @@ use Rattle.std.proofs.lemmas.Bool.Decides.{eqb_tells}
 use Rattle.std.proofs.lemmas.List.{get_or-set_other, get_or-set_same, length-set}
 use Rattle.line_cache.specs.declared.way.Way.{Way}
 use Rattle.line_cache.specs.Ways.{Cache, free_way, place_of_line, way_at}
-use Rattle.line_cache.specs.Lines.{Holds, IsCache, IsFilled, cached_line, way_found}
+use Rattle.line_cache.specs.Lines.{IsCache, IsFilled, WayHolds, cached_line, way_found}
 use Rattle.line_cache.proofs.Search.{found-None, found-Some, found_at, found_none}
 
 -- the way may stand in this place
 pub record Fits (cache : Cache) (place : ℕ) (way : Way) : Type 0 where
   pub in_set : way.slot ≢ 0 → place / 4 ≡ way.line % 32
   pub alone : way.slot ≢ 0 → (other : ℕ) → other ≢ place
-      → ¬ Holds (way_at cache.ways other) way.slot way.line
+      → ¬ WayHolds (way_at cache.ways other) way.slot way.line
   pub known : way.slot ≤ 16
   pub inside : way.line < 2 ^ 15
 
@@ -25,8 +25,8 @@ free_fits cache place = record {
 }
 
 -- two ways of one slot and line hold the same
-pub other_Holds : (a b : Way) (slot line : ℕ) → a ≡ b → Holds a slot line → Holds b slot line
-other_Holds a b slot line same holds = subst (λ w. Holds w slot line) same holds
+pub other_Holds : (a b : Way) (slot line : ℕ) → a ≡ b → WayHolds a slot line → WayHolds b slot line
+other_Holds a b slot line same holds = subst (λ w. WayHolds w slot line) same holds
 
 module _ (cache : Cache) (sound : IsCache cache) (place : ℕ) (within : place < 128) (way : Way)
     (pointers : List ℕ) where
@@ -57,7 +57,7 @@ module _ (cache : Cache) (sound : IsCache cache) (place : ℕ) (within : place <
     ]
 
     once : (at other : ℕ) → IsFilled new.ways at
-        → Holds (way_at new.ways other) (way_at new.ways at).slot (way_at new.ways at).line
+        → WayHolds (way_at new.ways other) (way_at new.ways at).slot (way_at new.ways at).line
         → other ≡ at
     once at other filled holds = elim (new_is at) [
       | inl a ↦ elim (new_is other) [
@@ -102,7 +102,7 @@ module _ (cache : Cache) (sound : IsCache cache) (place : ℕ) (within : place <
       pub found-set : way.slot ≢ 0 → place_of_line new.ways way.slot way.line ≡ Some place
       found-set some = found_at new (IsCache-set sets) way.slot way.line some place
           (elim (new_is place) [
-            | inl s ↦ subst (λ w. Holds w way.slot way.line) (sym s.1)
+            | inl s ↦ subst (λ w. WayHolds w way.slot way.line) (sym s.1)
                 (record { its_slot = refl; its_line = refl })
             | inr o ↦ absurd (o.0 refl)
           ])
@@ -112,9 +112,9 @@ module _ (cache : Cache) (sound : IsCache cache) (place : ℕ) (within : place <
           ap (way_found new.ways) (found-set some)
           ∙ ap Some (elim (new_is place) [ inl s ↦ s.1 | inr o ↦ absurd (o.0 refl) ])
 
-      module _ (slot line : ℕ) (some : slot ≢ 0) (not_new : ¬ Holds way slot line) where
+      module _ (slot line : ℕ) (some : slot ≢ 0) (not_new : ¬ WayHolds way slot line) where
         -- the line that stood there is gone
-        pub found-gone : Holds (way_at cache.ways place) slot line → place_of_line new.ways slot line ≡ None
+        pub found-gone : WayHolds (way_at cache.ways place) slot line → place_of_line new.ways slot line ≡ None
         found-gone held = found_none new.ways slot line some (λ at holds. elim (new_is at) [
           | inl s ↦ not_new (other_Holds (way_at new.ways at) way slot line s.1 holds)
           | inr o ↦ o.0 (sound.once place at (λ free. some (sym held.its_slot ∙ free))
@@ -127,18 +127,18 @@ module _ (cache : Cache) (sound : IsCache cache) (place : ℕ) (within : place <
               }))
         ])
 
-        pub line_in-gone : Holds (way_at cache.ways place) slot line
+        pub line_in-gone : WayHolds (way_at cache.ways place) slot line
             → cached_line new.ways slot line ≡ None
         line_in-gone held = ap (way_found new.ways) (found-gone held)
 
         -- every other line is as it was
-        module _ (not_old : ¬ Holds (way_at cache.ways place) slot line) where
+        module _ (not_old : ¬ WayHolds (way_at cache.ways place) slot line) where
           line_found : (before : Option ℕ) → place_of_line cache.ways slot line ≡ before
               → cached_line new.ways slot line ≡ way_found cache.ways before
           line_found (Some at) is =
               let held = found-Some cache.ways slot line some at is in
               elim (new_is at) [
-                | inl s ↦ absurd (not_old (subst (λ n. Holds (way_at cache.ways n) slot line) s.0
+                | inl s ↦ absurd (not_old (subst (λ n. WayHolds (way_at cache.ways n) slot line) s.0
                     held))
                 | inr o ↦
                     ap (way_found new.ways) (found_at new (IsCache-set sets) slot line some at

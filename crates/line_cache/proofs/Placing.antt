@@ -4,7 +4,7 @@ use Rattle.std.proofs.lemmas.List.{length-set}
 use Rattle.line_cache.specs.declared.way.Victim.{Victim}
 use Rattle.line_cache.specs.declared.way.Way.{Way}
 use Rattle.line_cache.specs.Ways.{Cache, cache_with_line, first_place, free_in_set, free_or_pointed, moved_on, new_way, place_for, place_of_line, pointers_after, pushed_out, victim_for, victim_of, way_at, way_of_pointer}
-use Rattle.line_cache.specs.Lines.{BringsIn, HandsOut, Holds, IsCache, IsFilled, IsFull, IsLine, IsVictim, way_found}
+use Rattle.line_cache.specs.Lines.{BringsIn, HandsOut, IsCache, IsFilled, IsFull, IsLine, IsVictim, WayHolds, way_found}
 use Rattle.line_cache.proofs.Search.{found-None, found_at, free-None, free-Some, none_free}
 use Rattle.line_cache.proofs.Changes.{Fits, IsCache-set, found-set, line_in-gone, line_in-other, line_in-set}
 
@@ -82,7 +82,7 @@ module _ (cache : Cache) (sound : IsCache cache) (slot line : ℕ) (bytes : List
       found-set cache sound place within way (pointers_after cache.ways cache.pointers line)
       (fits _ low) sets some
 
-  not_there : (at : ℕ) → ¬ Holds (way_at cache.ways at) slot line
+  not_there : (at : ℕ) → ¬ WayHolds (way_at cache.ways at) slot line
   not_there at = found-None cache.ways slot line some absent at
 
   handed_out : (free : Option ℕ) → free_in_set cache.ways line ≡ free → (at : ℕ)
@@ -106,14 +106,14 @@ module _ (cache : Cache) (sound : IsCache cache) (slot line : ℕ) (bytes : List
               its_line =
                   sym holds.its_line;
             }))
-            (subst (λ n. Holds (way_at cache.ways n) old.slot old.line) same
+            (subst (λ n. WayHolds (way_at cache.ways n) old.slot old.line) same
             (record { its_slot = refl; its_line = refl }));
       }
 
   others : (free : Option ℕ) → free_in_set cache.ways line ≡ free → (at : ℕ)
       → at ≡ first_place line + free_or_pointed free (way_of_pointer cache.pointers line)
       → (who other : ℕ) → who ≢ 0 → ¬ IsVictim (pushed_out free (way_at cache.ways at)) who other
-      → ¬ Holds (way_at cache.ways at) who other
+      → ¬ WayHolds (way_at cache.ways at) who other
   others (Some free) is at place_is who other some_who not_victim holds =
       some_who (sym holds.its_slot ∙ ap (λ n. (way_at cache.ways n).slot) place_is
       ∙ (free-Some cache sound line free is).1)

@@ -8,7 +8,7 @@ use Rattle.std.proofs.lemmas.List.Quantifiers.{position-Some}
 use Rattle.std.proofs.lemmas.List.Sums.{fails_before_first, position_or_len_is}
 use Rattle.line_cache.specs.declared.way.Way.{Way}
 use Rattle.line_cache.specs.Ways.{Cache, first_place, free_in_set, free_way, is_free, is_of, place_of_line, set_of, way_at}
-use Rattle.line_cache.specs.Lines.{Holds, IsCache, IsFilled, IsFull}
+use Rattle.line_cache.specs.Lines.{IsCache, IsFilled, IsFull, WayHolds}
 
 -- ---- Positions
 
@@ -40,8 +40,8 @@ none_passes p xs k d none within =
 
 -- a way holds a line or it doesn't, and the test tells
 pub tells : (slot line : ℕ) (way : Way)
-    → (Holds way slot line × (is_of slot line way ≡ true))
-    ⊎ ((¬ Holds way slot line) × (is_of slot line way ≡ false))
+    → (WayHolds way slot line × (is_of slot line way ≡ true))
+    ⊎ ((¬ WayHolds way slot line) × (is_of slot line way ≡ false))
 tells slot line way = elim (eqb_tells way.slot slot) [
   | inl a ↦ elim (eqb_tells way.line line) [
     | inl b ↦ inl (record { its_slot = a.1; its_line = b.1 }, rw (a.0, b.0) refl)
@@ -50,7 +50,7 @@ tells slot line way = elim (eqb_tells way.slot slot) [
   | inr a ↦ inr (λ h. a.1 h.its_slot, rw a.0 refl)
 ]
 
-pub is_of-Holds : (slot line : ℕ) (way : Way) → is_of slot line way ≡ true → Holds way slot line
+pub is_of-Holds : (slot line : ℕ) (way : Way) → is_of slot line way ≡ true → WayHolds way slot line
 is_of-Holds slot line way is = elim (tells slot line way) [ inl h ↦ h.0 | inr n ↦ absurd (cc) ]
 
 -- a place that holds a line of a slot is a place of the cache
@@ -64,18 +64,18 @@ filled_within ways place filled = elim (cases_lt place (length ways)) [
 
 module _ (ways : List Way) (slot line : ℕ) (some : slot ≢ 0) where
   pub found-Some : (place : ℕ) → place_of_line ways slot line ≡ Some place
-      → Holds (way_at ways place) slot line
+      → WayHolds (way_at ways place) slot line
   found-Some place is = is_of-Holds slot line (way_at ways place)
       (position-Some (is_of slot line) ways place free_way is).1
 
   -- a line that no place holds isn't found
-  pub found_none : ((place : ℕ) → ¬ Holds (way_at ways place) slot line)
+  pub found_none : ((place : ℕ) → ¬ WayHolds (way_at ways place) slot line)
       → place_of_line ways slot line ≡ None
   found_none absent = position_none (is_of slot line) ways free_way (λ j _.
       elim (tells slot line (way_at ways j)) [ inl h ↦ absurd (absent j h.0) | inr n ↦ n.1 ])
 
   -- a line that isn't found is held by no place
-  pub found-None : place_of_line ways slot line ≡ None → (place : ℕ) → ¬ Holds (way_at ways place) slot line
+  pub found-None : place_of_line ways slot line ≡ None → (place : ℕ) → ¬ WayHolds (way_at ways place) slot line
   found-None none place holds =
       let filled : IsFilled ways place = λ free. some (sym holds.its_slot ∙ free) in
       let fails = none_passes (is_of slot line) ways place free_way none
@@ -155,7 +155,7 @@ module _ (cache : Cache) (sound : IsCache cache) (line : ℕ) where
 
 module _ (cache : Cache) (sound : IsCache cache) (slot line : ℕ) (some : slot ≢ 0) where
   -- a place that holds the line is the one that is found
-  pub found_at : (place : ℕ) → Holds (way_at cache.ways place) slot line
+  pub found_at : (place : ℕ) → WayHolds (way_at cache.ways place) slot line
       → place_of_line cache.ways slot line ≡ Some place
   found_at place holds =
       let filled : IsFilled cache.ways place = λ free. some (sym holds.its_slot ∙ free) in

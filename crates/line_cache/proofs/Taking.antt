@@ -4,7 +4,7 @@ use Rattle.std.proofs.lemmas.Bool.Decides.{eqb_tells}
 use Rattle.line_cache.specs.declared.way.Victim.{Victim}
 use Rattle.line_cache.specs.declared.way.Way.{Way}
 use Rattle.line_cache.specs.Ways.{Cache, cache_with_way, free_way, place_of_line, victim_of, way_at}
-use Rattle.line_cache.specs.Lines.{HasNoLine, Holds, HoldsLeast, IsCache, IsFilled, IsLeastAmong, TakesLeast, is_in_page}
+use Rattle.line_cache.specs.Lines.{HasNoLine, HoldsLeast, IsCache, IsFilled, IsLeastAmong, TakesLeast, WayHolds, is_in_page}
 use Rattle.line_cache.proofs.Search.{filled_within, found_at, found_none}
 use Rattle.line_cache.proofs.Changes.{IsCache-set, free_fits, line_in-gone, line_in-other}
 
@@ -109,7 +109,7 @@ module _ (cache : Cache) (sound : IsCache cache) (slot page : ℕ) (some : 1 ≤
   not_null : slot ≢ 0
   not_null none = absurd (omega arith)
 
-  cached_within : (at line : ℕ) → Holds (way_at cache.ways at) slot line → at < 128
+  cached_within : (at line : ℕ) → WayHolds (way_at cache.ways at) slot line → at < 128
   cached_within at line holds =
       let filled : IsFilled cache.ways at = λ free. not_null (sym holds.its_slot ∙ free) in
       let low = filled_within cache.ways at filled in
@@ -130,7 +130,7 @@ module _ (cache : Cache) (sound : IsCache cache) (slot page : ℕ) (some : 1 ≤
     of_its_page : (way.slot ≡ slot) × (way.line / 128 ≡ page)
     of_its_page = in_page slot page way holds.its_page
 
-    own : Holds way slot way.line
+    own : WayHolds way slot way.line
     own = record { its_slot = of_its_page.0; its_line = refl }
 
     there : place_of_line cache.ways slot way.line ≡ Some place
@@ -139,7 +139,7 @@ module _ (cache : Cache) (sound : IsCache cache) (slot page : ℕ) (some : 1 ≤
     pub some_of_page : ¬ HasNoLine cache.ways slot page
     some_of_page none = let no = none way.line of_its_page.1 in let is = there in cc
 
-    not_free : (who line : ℕ) → who ≢ 0 → ¬ Holds free_way who line
+    not_free : (who line : ℕ) → who ≢ 0 → ¬ WayHolds free_way who line
     not_free who line some_who free = some_who (sym free.its_slot)
 
     pub taken_is_cache : IsCache (cache_with_way cache place free_way)

@@ -6,7 +6,7 @@ use Rattle.line_cache.specs.declared.way.Victim.{Victim}
 use Rattle.line_cache.specs.Ways.{Cache, cache_places, cache_sets, cache_with_way, first_place, free_way, new_way, place_of_line, victim_of, way_at, way_with_bytes}
 
 -- the way holds this line of this slot
-pub record Holds (way : Way) (slot line : ℕ) : Type 0 where
+pub record WayHolds (way : Way) (slot line : ℕ) : Type 0 where
   pub its_slot : way.slot ≡ slot
   pub its_line : way.line ≡ line
 
@@ -21,7 +21,7 @@ pub record IsCache (cache : Cache) : Type 0 where
   pub in_set : (place : ℕ) → IsFilled cache.ways place
       → place / 4 ≡ (way_at cache.ways place).line % cache_sets
   pub once : (place other : ℕ) → IsFilled cache.ways place
-      → Holds (way_at cache.ways other) (way_at cache.ways place).slot
+      → WayHolds (way_at cache.ways other) (way_at cache.ways place).slot
       (way_at cache.ways place).line
       → other ≡ place
   pub known : (place : ℕ) → (way_at cache.ways place).slot ≤ slot_limit
@@ -113,5 +113,5 @@ pub record DropsSlot (old new : List Way) (slot : ℕ) : Type 0 where
 pub record WritesLine (old new : List Way) (place : ℕ) (bytes : List ℕ) : Type 0 where
   pub this_line : cached_line new (way_at old place).slot (way_at old place).line
       ≡ Some (way_with_bytes (way_at old place) bytes)
-  pub other_lines : (who other : ℕ) → who ≢ 0 → ¬ Holds (way_at old place) who other
+  pub other_lines : (who other : ℕ) → who ≢ 0 → ¬ WayHolds (way_at old place) who other
       → cached_line new who other ≡ cached_line old who other

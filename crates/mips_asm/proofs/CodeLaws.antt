@@ -2,12 +2,12 @@
 use Rattle.std.proofs.Common.{◌≡◌, ℕ, ◌%◌, Bool, true, false, List, [], ◌∷◌, Some, refl, sym, subst}
 use Rattle.std.proofs.lemmas.Option.{same_Some}
 use Rattle.mips_instruction.specs.declared.instruction.Ins.{Ins}
-use Rattle.mips_asm.specs.Encoding.{AreWords, IsCode, Tells, one_instruction}
+use Rattle.mips_asm.specs.Encoding.{AreWords, IsCode, TellsWhether, one_instruction}
 
 -- the code of one instruction are its words
 pub one_code : (place : ℕ) (i : Ins) (written : Bool) (bytes : List ℕ) → place % 4 ≡ 0
-    → Tells (AreWords (i ∷ [])) written bytes
-    → Tells (IsCode place (Some (one_instruction i))) written bytes
+    → TellsWhether (AreWords (i ∷ [])) written bytes
+    → TellsWhether (IsCode place (Some (one_instruction i))) written bytes
 one_code place i true bytes aligned words = (i ∷ [], aligned, refl, words)
 one_code place i false bytes aligned none =
     λ all code. none all (subst (λ (is : List Ins). AreWords is all)

@@ -10,7 +10,7 @@ use Rattle.std.proofs.lemmas.Bool.{cases_lt, lt-ltb, true≢false}
 use Rattle.std.proofs.lemmas.Bool.Decides.{nat_tests}
 use Rattle.asm_source.specs.declared.content.Part.{Part}
 use Rattle.mips_asm.specs.declared.placed.Placed.{Placed}
-use Rattle.mips_asm.specs.Layout.{IsInside, is_too_long, last_end, layout, limit, place_after, statement_end, statement_size}
+use Rattle.mips_asm.specs.Layout.{IsInsideImage, is_too_long, last_end, layout, limit, place_after, statement_end, statement_size}
 use Rattle.mips_asm.specs.Passes.{statement_line, too_long_line}
 
 -- ---- places
@@ -57,17 +57,17 @@ layout-push place xs x =
     (layout-none (place_after (place_behind place xs) x.content)))
 
 -- what is inside isn't too long
-inside_fits : (x : Placed) → IsInside x → is_too_long x ≡ false
+inside_fits : (x : Placed) → IsInsideImage x → is_too_long x ≡ false
 inside_fits x inside = grind (arith, nat_tests)
 
-pub none_too_long : (xs : List Placed) → All IsInside xs → find is_too_long xs ≡ None
+pub none_too_long : (xs : List Placed) → All IsInsideImage xs → find is_too_long xs ≡ None
 none_too_long [] all = refl
 none_too_long (x ∷ xs) all =
-    rw (inside_fits x (All-head IsInside x xs all)) (none_too_long xs (All-tail IsInside x xs all))
+    rw (inside_fits x (All-head IsInsideImage x xs all)) (none_too_long xs (All-tail IsInsideImage x xs all))
 
 -- the next one is the first that is too long
 pub too_long_next : (place : ℕ) (xs : List Part) (x : Part) (ys : List Part)
-    → All IsInside (layout place xs) → is_too_long (placed_at (place_behind place xs) x) ≡ true
+    → All IsInsideImage (layout place xs) → is_too_long (placed_at (place_behind place xs) x) ≡ true
     → too_long_line (layout place (xs ++ (x ∷ ys))) ≡ Some x.line
 too_long_next place xs x ys inside long =
     let at = place_behind place xs in
@@ -133,7 +133,7 @@ place_more xs i d within =
     ap (place_behind 0) (take_more xs i d within) ∙ place_behind-push 0 (take i xs) (get_or xs i d)
 
 pub too_long_at : (xs : List Part) (i : ℕ) (d : Part) → i < length xs
-    → All IsInside (layout 0 (take i xs))
+    → All IsInsideImage (layout 0 (take i xs))
     → is_too_long (placed_at (place_behind 0 (take i xs)) (get_or xs i d)) ≡ true
     → too_long_line (layout 0 xs) ≡ Some (get_or xs i d).line
 too_long_at xs i d within inside long =
@@ -141,7 +141,7 @@ too_long_at xs i d within inside long =
     ∙ ap (λ (rest : List Part). take i xs ++ rest) (drop_more xs i d within))
     ∙ too_long_next 0 (take i xs) (get_or xs i d) (drop (i + 1) xs) inside long
 
-pub too_long_none : (placed : List Placed) → All IsInside placed → too_long_line placed ≡ None
+pub too_long_none : (placed : List Placed) → All IsInsideImage placed → too_long_line placed ≡ None
 too_long_none placed inside =
     ap (λ (found : Option Placed). option_map statement_line found) (none_too_long placed inside)
 
@@ -220,7 +220,7 @@ place_step xs n m x place em within is b =
 
 -- the next part is too long
 pub too_long_step : (xs : List Part) (n : ℕ) (x : Part) (place : ℕ) → n < length xs
-    → x ≡ get_or xs n x → place ≡ place_behind 0 (take n xs) → All IsInside (layout 0 (take n xs))
+    → x ≡ get_or xs n x → place ≡ place_behind 0 (take n xs) → All IsInsideImage (layout 0 (take n xs))
     → past place (statement_size place x.content) ≡ true → too_long_line (layout 0 xs) ≡ Some x.line
 too_long_step xs n x place within is b inside long =
     let there : is_too_long (placed_at (place_behind 0 (take n xs)) (get_or xs n x)) ≡ true =

@@ -152,9 +152,9 @@ AppendsFound found old false new = found ≡ None
 
 -- What was answered of bytes that have a property: true and such bytes, or false where no bytes
 -- have it.
-abbrev pub Tells : (List ℕ → Type 0) → Bool → List ℕ → Type 0
-Tells P true bytes = P bytes
-Tells P false bytes = (all : List ℕ) → ¬ P all
+abbrev pub TellsWhether : (List ℕ → Type 0) → Bool → List ℕ → Type 0
+TellsWhether P true bytes = P bytes
+TellsWhether P false bytes = (all : List ℕ) → ¬ P all
 
 -- the same of bytes that come of a function
 abbrev pub ComesOf : Option (List ℕ) → Bool → List ℕ → Type 0

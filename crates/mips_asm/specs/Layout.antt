@@ -60,8 +60,8 @@ abbrev pub is_too_long : Placed → Bool
 is_too_long placed = nat_lt 0 placed.size && nat_lt limit (placed.place + placed.size)
 
 -- all that it writes is within the limit
-abbrev pub IsInside : Placed → Type 0
-IsInside placed = 0 < placed.size → placed.place + placed.size ≤ limit
+abbrev pub IsInsideImage : Placed → Type 0
+IsInsideImage placed = 0 < placed.size → placed.place + placed.size ≤ limit
 
 -- the place behind its last byte, or 0 where it writes none
 abbrev pub statement_end : Placed → ℕ

@@ -1,7 +1,7 @@
 ghost use Rattle.xom_base.specs.declared.image.PlainImage.{PlainImage};
 ghost use Rattle.xom_base.specs.Memory.{OrOut};
 ghost use Rattle.std.specs.Prelude.{Err, IfErr, IfOk, Ok, All, MatchResult};
-ghost use Rattle.mips_asm.specs.Layout.{IsInside, IsSized};
+ghost use Rattle.mips_asm.specs.Layout.{IsInsideImage, IsSized};
 ghost use Rattle.mips_asm.specs.Sources.{IsFaultOf, IsImageOf, IsPlacedFault, IsPlacedImage, OrNoMemory};
 
 use crate::AsmFault;
@@ -48,7 +48,7 @@ fn assembled(alloc: Global, text: &[u8]) -> Result<PlainImage, AsmFault>
 /// The image of labels and statements that are laid out.
 #[tactic(auto, using(crate::proofs::WrittenLaws::placed_image))]
 fn image_of(alloc: Global, placed: &[Placed]) -> Result<PlainImage, AsmFault>
-    requires inside { All IsInside placed.now }
+    requires inside { All IsInsideImage placed.now }
     requires sized { All IsSized placed.now }
     ensures { MatchResult result (IsPlacedImage placed.now) (OrNoMemory (IsPlacedFault placed.now)) }
 {

@@ -2,7 +2,7 @@ ghost use Rattle.std.specs.Prelude.{◌≡◌, ◌<◌, ◌≤◌, ◌+◌, ◌%
 ghost use Rattle.asm_syntax.specs.Forms.{map_some};
 ghost use Rattle.mips_asm.specs.LabelMaps.{place_in};
 ghost use Rattle.mips_asm.specs.Layout.{limit, padding, statement_size};
-ghost use Rattle.mips_asm.specs.Encoding.{ComesOf, GivesWords, IsCode, IsPadding, StatementGives, Tells, byte_value, join_some, one_instruction, word_bytes, word_value};
+ghost use Rattle.mips_asm.specs.Encoding.{ComesOf, GivesWords, IsCode, IsPadding, StatementGives, TellsWhether, byte_value, join_some, one_instruction, word_bytes, word_value};
 
 use crate::fields::{number_of, wrapped};
 use crate::instructions::{instruction_at, load_address, load_number, words};
@@ -27,7 +27,7 @@ pub fn add_bytes(
 ) -> Result<bool, NoMemory>
     requires inside { 0 < statement_size place content.now → place + statement_size place content.now ≤ limit }
     requires clear { bytes.old.items ≡ [] }
-    ensures { IfOk result (λ written. Tells (StatementGives (place_in labels.now) place content.now) written bytes.new.items) }
+    ensures { IfOk result (λ written. TellsWhether (StatementGives (place_in labels.now) place content.now) written bytes.new.items) }
 {
     match content {
         Content::Label(_) | Content::Org(_) | Content::Entry(_) => Ok(true),
@@ -66,7 +66,7 @@ fn add_words(
     bytes: &mut Vec<u8>,
 ) -> Result<bool, NoMemory>
     requires { bytes.old.items ≡ [] }
-    ensures { IfOk result (λ written. Tells (GivesWords (place_in labels.now) place values.now) written bytes.new.items) }
+    ensures { IfOk result (λ written. TellsWhether (GivesWords (place_in labels.now) place values.now) written bytes.new.items) }
 {
     if place % 4 != 0 {
         return Ok(false);
@@ -133,7 +133,7 @@ fn byte_value(number: Integer) -> Option<u8>
 /// Zeros up to a multiple of 2^power, which is at most 12.
 fn align(power: u64, place: u64, bytes: &mut Vec<u8>) -> Result<bool, NoMemory>
     requires { bytes.old.items ≡ [] }
-    ensures { IfOk result (λ written. Tells (IsPadding power place) written bytes.new.items) }
+    ensures { IfOk result (λ written. TellsWhether (IsPadding power place) written bytes.new.items) }
 {
     if power > 12 {
         return Ok(false);
@@ -149,7 +149,7 @@ fn add_code(
     bytes: &mut Vec<u8>,
 ) -> Result<bool, NoMemory>
     requires { bytes.old.items ≡ [] }
-    ensures { IfOk result (λ written. Tells (IsCode place instructions) written bytes.new.items) }
+    ensures { IfOk result (λ written. TellsWhether (IsCode place instructions) written bytes.new.items) }
 {
     if place % 4 != 0 {
         return Ok(false);
@@ -167,7 +167,7 @@ fn add_instruction(
     bytes: &mut Vec<u8>,
 ) -> Result<bool, NoMemory>
     requires { bytes.old.items ≡ [] }
-    ensures { IfOk result (λ written. Tells (IsCode place (option_map one_instruction instruction)) written bytes.new.items) }
+    ensures { IfOk result (λ written. TellsWhether (IsCode place (option_map one_instruction instruction)) written bytes.new.items) }
 {
     if place % 4 != 0 {
         return Ok(false);

@@ -1,6 +1,6 @@
 ghost use Rattle.std.specs.Prelude.{◌≡◌, ◌<◌, ◌^◌, ◌∷◌, [], IfOk};
 ghost use Rattle.mips_asm.specs.LabelMaps.{place_in};
-ghost use Rattle.mips_asm.specs.Encoding.{AppendsFound, AreWords, Tells, instruction_at, load_address, load_halves, load_number, operands_of};
+ghost use Rattle.mips_asm.specs.Encoding.{AppendsFound, AreWords, TellsWhether, instruction_at, load_address, load_halves, load_number, operands_of};
 
 use crate::fields::{operand_of, wrapped};
 use crate::labels::Labels;
@@ -18,7 +18,7 @@ use xom_base::{List, NoMemory};
 #[tactic(auto, using(crate::proofs::JoinLaws::AreWords_more, crate::proofs::JoinLaws::AreWords_fits))]
 pub fn words(instructions: &[Ins], bytes: &mut Vec<u8>) -> Result<bool, NoMemory>
     requires { bytes.old.items ≡ [] }
-    ensures { IfOk result (λ written. Tells (AreWords instructions.now) written bytes.new.items) }
+    ensures { IfOk result (λ written. TellsWhether (AreWords instructions.now) written bytes.new.items) }
 {
     for ins in instructions {
         if !fits(ins) {

@@ -1,5 +1,5 @@
 ghost use Rattle.std.specs.Prelude.{◌≡◌, ◌+◌, ◌-◌, ◌^◌, ◌<◌, ◌≤◌, ◌&&◌, nat_lt, All, IfOk, min};
-ghost use Rattle.mips_asm.specs.Layout.{IsInside, IsSized, in_range, layout as layout_of, limit, padding, place_after, statement_size, takes_one_word};
+ghost use Rattle.mips_asm.specs.Layout.{IsInsideImage, IsSized, in_range, layout as layout_of, limit, padding, place_after, statement_size, takes_one_word};
 ghost use Rattle.mips_asm.specs.Passes.{AnswersPass, too_long_line};
 
 use crate::AsmFault;
@@ -15,7 +15,7 @@ pub const LIMIT: u64 = 1 << 20;
 /// Gives each label and statement its place. It costs time linear in their number.
 pub fn layout(alloc: Global, parts: List<Part>) -> Result<Vec<Placed>, AsmFault>
     ensures placed { IfOk result (λ placed. placed.items ≡ layout_of 0 parts) }
-    ensures inside { IfOk result (λ placed. All IsInside placed.items) }
+    ensures inside { IfOk result (λ placed. All IsInsideImage placed.items) }
     ensures sized { IfOk result (λ placed. All IsSized placed.items) }
     ensures fault { AnswersPass AsmFault.TooLong (too_long_line (layout_of 0 parts)) result }
 {

@@ -1,6 +1,6 @@
 ghost use Rattle.std.specs.Prelude.{◌≡◌, ◌<◌, ◌≤◌, ◌&&◌, ◌||◌, ℕ, true, false, nat_le, nat_lt, All, IfOk, length, slice_index_or};
 ghost use Rattle.std.specs.Bool.{OnTrue, OnFalse};
-ghost use Rattle.mips_asm.specs.Layout.{IsInside, last_end as last_end_of, limit};
+ghost use Rattle.mips_asm.specs.Layout.{IsInsideImage, last_end as last_end_of, limit};
 ghost use Rattle.mips_asm.specs.Passes.{AnswersPass, overlap_line};
 
 use crate::AsmFault;
@@ -11,7 +11,7 @@ use xom_base::NoMemory;
 /// Looks for the first statement that writes where an earlier one did. It costs time linear in the
 /// number of statements and of bytes, and a byte of memory for each byte of the image.
 pub fn no_overlap(alloc: Global, placed: &[Placed]) -> Result<(), AsmFault>
-    requires { All IsInside placed.now }
+    requires { All IsInsideImage placed.now }
     ensures { AnswersPass AsmFault.Overlap (overlap_line placed.now) result }
 {
     let mut written = unwritten(alloc, last_end(placed))?;
@@ -24,7 +24,7 @@ pub fn no_overlap(alloc: Global, placed: &[Placed]) -> Result<(), AsmFault>
 /// The line of the first statement that writes where an earlier one did. It lets the places that are
 /// written be so.
 fn first_overlap(written: &mut [bool], placed: &[Placed]) -> Option<u64>
-    requires inside { All IsInside placed.now }
+    requires inside { All IsInsideImage placed.now }
     requires whole { length written.old ≡ last_end_of placed.now }
     requires clear { (k : ℕ) → slice_index_or written.old k false ≡ false }
     ensures { result ≡ overlap_line placed.now }
@@ -45,7 +45,7 @@ fn first_overlap(written: &mut [bool], placed: &[Placed]) -> Option<u64>
 /// The place behind the last byte that is written.
 #[tactic(auto, using(crate::proofs::LayoutLaws::last_end_more, crate::proofs::LayoutLaws::last_end_none))]
 pub fn last_end(placed: &[Placed]) -> usize
-    requires { All IsInside placed.now }
+    requires { All IsInsideImage placed.now }
     ensures value { result ≡ last_end_of placed.now }
     ensures inside { result ≤ limit }
 {

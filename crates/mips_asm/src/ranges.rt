@@ -1,6 +1,6 @@
 ghost use Rattle.std.specs.Prelude.{◌≡◌, ◌+◌, ◌<◌, ◌≤◌, ◌⊎◌, ℕ, Some, All, IfOk, IfErr, OnOk, length, slice_index};
 ghost use Rattle.mips_asm.specs.LabelMaps.{place_in};
-ghost use Rattle.mips_asm.specs.Layout.{IsInside, IsSized, last_end as last_end_of, limit};
+ghost use Rattle.mips_asm.specs.Layout.{IsInsideImage, IsSized, last_end as last_end_of, limit};
 ghost use Rattle.mips_asm.specs.Passes.{statement_line};
 ghost use Rattle.mips_asm.specs.Sources.{HasBytes, IsFirst, IsOutOfRange, StandsOver, WritesOne};
 
@@ -23,7 +23,7 @@ pub fn written(
     bad_entry: Option<u64>,
     placed: &[Placed],
 ) -> Result<ByteList, AsmFault>
-    requires inside { All IsInside placed.now }
+    requires inside { All IsInsideImage placed.now }
     requires sized { All IsSized placed.now }
     ensures found { IfOk result (HasBytes (place_in labels.now) placed.now) }
     ensures small { IfOk result (λ bytes. length bytes ≤ limit) }
@@ -43,7 +43,7 @@ fn write_all(
     placed: &[Placed],
     image: &mut [u8],
 ) -> Result<(), AsmFault>
-    requires inside { All IsInside placed.now }
+    requires inside { All IsInsideImage placed.now }
     requires sized { All IsSized placed.now }
     requires whole { length image.old ≡ last_end_of placed.now }
     requires clear { (k : ℕ) → slice_index image.old k ≡ 0 }
@@ -76,7 +76,7 @@ fn write_one(
     bytes: &mut Vec<u8>,
     image: &mut [u8],
 ) -> Result<bool, NoMemory>
-    requires inside { IsInside placed.now }
+    requires inside { IsInsideImage placed.now }
     requires sized { IsSized placed.now }
     requires room { 0 < placed.now.size → placed.now.place + placed.now.size ≤ length image.old }
     ensures { IfOk result (λ written. WritesOne (place_in labels.now) placed.now image.old written image.new) }

@@ -12,7 +12,7 @@ use Rattle.mips_forms.specs.declared.operand.Operand.TheVariants.{Register, Shif
 use Rattle.mips_forms.specs.declared.operand.OperandKind.{OperandKind}
 use Rattle.mips_forms.specs.declared.operand.OperandKind.TheVariants as kinds
 use Rattle.mips_forms.specs.Forms.{FormTakes, IsNoMnemonic, form_of, operand_kind_of}
-use Rattle.mips_forms.specs.Builds.{Row, access_rows, build_of, coded_rows, compare_rows, in_rows, jump_rows, kinds_of, plain_rows, register_rows, rows_of_shifts, rows_with_operands, sample_of, shapes, signed_rows, slot_rows, sum_rows, takes, test_rows, three_registers_rows, two_registers_rows, unsigned_rows, upper_rows}
+use Rattle.mips_forms.specs.Builds.{FormRow, access_rows, build_of, coded_rows, compare_rows, in_rows, jump_rows, kinds_of, plain_rows, register_rows, rows_of_shifts, rows_with_operands, sample_of, shapes, signed_rows, slot_rows, sum_rows, takes, test_rows, three_registers_rows, two_registers_rows, unsigned_rows, upper_rows}
 use Rattle.mips_forms.specs.FormLaws.{FormsDiffer, KindsOfForms, OperandsFit}
 
 -- ---- From the instruction to its form and back
@@ -111,7 +111,7 @@ forms_differ i j same =
 -- ---- From the form to the instruction
 
 -- a row makes an instruction with the row's mnemonic and these operands
-abbrev Holds : List Operand → Row → Type 0
+abbrev Holds : List Operand → FormRow → Type 0
 Holds operands row = form_of row.1 ≡ (row.0, operands)
 
 -- the row that is found is this one, or stands behind it
@@ -120,7 +120,7 @@ found_row : (here : Bool) (i j : Ins) (behind : Option Ins) → cond here (Some 
 found_row true i j behind is = inl (refl, cc)
 found_row false i j behind is = inr is
 
-in_rows-form : (name : List ℕ) (operands : List Operand) (i : Ins) (rows : List Row)
+in_rows-form : (name : List ℕ) (operands : List Operand) (i : Ins) (rows : List FormRow)
     → AllByRecursion (Holds operands) rows → in_rows name rows ≡ Some i
     → form_of i ≡ (name, operands)
 in_rows-form name operands i [] all is = absurd (let none : None ≡ Some i = is in cc)

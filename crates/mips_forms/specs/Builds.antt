@@ -10,21 +10,21 @@ use Rattle.mips_forms.specs.declared.operand.OperandKind.{OperandKind}
 use Rattle.mips_forms.specs.declared.operand.OperandKind.TheVariants as kinds
 
 -- a row: a mnemonic, and the instruction that it makes
-abbrev pub Row : Type 0
-Row = List ℕ × Ins
+abbrev pub FormRow : Type 0
+FormRow = List ℕ × Ins
 
 -- the instruction of the row with this mnemonic
-abbrev pub in_rows : List ℕ → List Row → Option Ins
+abbrev pub in_rows : List ℕ → List FormRow → Option Ins
 in_rows name [] = None
 in_rows name (row ∷ rows) = if bytes_eq name row.0 then Some row.1 else in_rows name rows
 
 -- no operand
-unfoldable pub plain_rows : List Row
+unfoldable pub plain_rows : List FormRow
 plain_rows =
     (codes "xexit", Xexit) ∷ (codes "xsigret", Xsigret) ∷ (codes "xhalt", Xhalt) ∷ []
 
 -- one register
-unfoldable pub register_rows : (a : ℕ) → List Row
+unfoldable pub register_rows : (a : ℕ) → List FormRow
 register_rows a =
     (codes "jr", Jr a) ∷ (codes "mfhi", Mfhi a) ∷ (codes "mthi", Mthi a) ∷ (codes "mflo", Mflo a) ∷
     (codes "mtlo", Mtlo a) ∷ (codes "xmvtn", Xmvtn a) ∷ (codes "xhand", Xhand a)
@@ -34,7 +34,7 @@ register_rows a =
     (codes "xarg", Xarg a) ∷ (codes "xwho", Xwho a) ∷ []
 
 -- two registers
-unfoldable pub two_registers_rows : (a b : ℕ) → List Row
+unfoldable pub two_registers_rows : (a b : ℕ) → List FormRow
 two_registers_rows a b =
     (codes "jalr", Jalr a b) ∷ (codes "mult", Mult a b) ∷ (codes "multu", Multu a b)
     ∷ (codes "div", Div a b) ∷
@@ -42,13 +42,13 @@ two_registers_rows a b =
     ∷ (codes "xunmap", Xunmap a b) ∷ []
 
 -- three registers, a slot first
-unfoldable pub slot_rows : (rs rt rd : ℕ) → List Row
+unfoldable pub slot_rows : (rs rt rd : ℕ) → List FormRow
 slot_rows rs rt rd =
     (codes "xinstall", Xinstall rs rt rd) ∷ (codes "xsave", Xsave rs rt rd)
     ∷ (codes "xrestore", Xrestore rs rt rd) ∷ (codes "xmap", Xmap rs rt rd) ∷ []
 
 -- three registers, the result first
-unfoldable pub sum_rows : (rd rs rt : ℕ) → List Row
+unfoldable pub sum_rows : (rd rs rt : ℕ) → List FormRow
 sum_rows rd rs rt =
     (codes "add", Add rd rs rt) ∷ (codes "addu", Addu rd rs rt) ∷ (codes "sub", Sub rd rs rt)
     ∷ (codes "subu", Subu rd rs rt) ∷
@@ -57,35 +57,35 @@ sum_rows rd rs rt =
     (codes "slt", Slt rd rs rt) ∷ (codes "sltu", Sltu rd rs rt) ∷ slot_rows rd rs rt
 
 -- three registers
-unfoldable pub three_registers_rows : (a b c : ℕ) → List Row
+unfoldable pub three_registers_rows : (a b c : ℕ) → List FormRow
 three_registers_rows a b c =
     (codes "sllv", Sllv a b c) ∷ (codes "srlv", Srlv a b c) ∷ (codes "srav", Srav a b c)
     ∷ sum_rows a b c
 
 -- two registers and a shift amount
-unfoldable pub rows_of_shifts : (a b amount : ℕ) → List Row
+unfoldable pub rows_of_shifts : (a b amount : ℕ) → List FormRow
 rows_of_shifts a b amount =
     (codes "sll", Sll a b amount) ∷ (codes "srl", Srl a b amount) ∷ (codes "sra", Sra a b amount)
     ∷ []
 
 -- two registers and an immediate with its sign
-unfoldable pub signed_rows : (a b imm : ℕ) → List Row
+unfoldable pub signed_rows : (a b imm : ℕ) → List FormRow
 signed_rows a b imm =
     (codes "addi", Addi a b imm) ∷ (codes "addiu", Addiu a b imm) ∷ (codes "slti", Slti a b imm)
     ∷ (codes "sltiu", Sltiu a b imm) ∷ []
 
 -- two registers and an immediate without a sign
-unfoldable pub unsigned_rows : (a b imm : ℕ) → List Row
+unfoldable pub unsigned_rows : (a b imm : ℕ) → List FormRow
 unsigned_rows a b imm =
     (codes "andi", Andi a b imm) ∷ (codes "ori", Ori a b imm) ∷ (codes "xori", Xori a b imm) ∷ []
 
 -- a register and an immediate without a sign
-unfoldable pub upper_rows : (a imm : ℕ) → List Row
+unfoldable pub upper_rows : (a imm : ℕ) → List FormRow
 upper_rows a imm =
     (codes "lui", Lui a imm) ∷ []
 
 -- a register, and an offset from a base register
-unfoldable pub access_rows : (a imm base : ℕ) → List Row
+unfoldable pub access_rows : (a imm base : ℕ) → List FormRow
 access_rows a imm base =
     (codes "lb", Lb a imm base) ∷ (codes "lh", Lh a imm base) ∷ (codes "lwl", Lwl a imm base)
     ∷ (codes "lw", Lw a imm base) ∷
@@ -96,29 +96,29 @@ access_rows a imm base =
     (codes "xlwn", Xlwn a imm base) ∷ (codes "xswn", Xswn a imm base) ∷ []
 
 -- two registers and a branch target
-unfoldable pub compare_rows : (a b imm : ℕ) → List Row
+unfoldable pub compare_rows : (a b imm : ℕ) → List FormRow
 compare_rows a b imm =
     (codes "beq", Beq a b imm) ∷ (codes "bne", Bne a b imm) ∷ []
 
 -- a register and a branch target
-unfoldable pub test_rows : (a imm : ℕ) → List Row
+unfoldable pub test_rows : (a imm : ℕ) → List FormRow
 test_rows a imm =
     (codes "bltz", Bltz a imm) ∷ (codes "bgez", Bgez a imm) ∷ (codes "bltzal", Bltzal a imm)
     ∷ (codes "bgezal", Bgezal a imm) ∷
     (codes "blez", Blez a imm) ∷ (codes "bgtz", Bgtz a imm) ∷ []
 
 -- a jump target
-unfoldable pub jump_rows : (index : ℕ) → List Row
+unfoldable pub jump_rows : (index : ℕ) → List FormRow
 jump_rows index =
     (codes "j", J index) ∷ (codes "jal", Jal index) ∷ []
 
 -- a code
-unfoldable pub coded_rows : (code : ℕ) → List Row
+unfoldable pub coded_rows : (code : ℕ) → List FormRow
 coded_rows code =
     (codes "syscall", Syscall code) ∷ (codes "break", Break code) ∷ []
 
 -- the rows whose instructions take these operands
-unfoldable pub rows_with_operands : List Operand → List Row
+unfoldable pub rows_with_operands : List Operand → List FormRow
 rows_with_operands [] = plain_rows
 rows_with_operands (Register a ∷ []) = register_rows a
 rows_with_operands (Register a ∷ Register b ∷ []) = two_registers_rows a b

@@ -17,7 +17,7 @@ use Rattle.mips_plain.proofs.Runs.{runs_follow}
 use Rattle.plain_run.specs.declared.ending.PlainEnd.{PlainEnd}
 use Rattle.plain_run.specs.declared.ending.PlainEnd.TheVariants as ending
 use Rattle.plain_run.specs.Laws.{EndsByExit, NoSignals, OneRun, Receives, RunStops, RunsAlone, is_signalled, value_from_outside, values_in}
-use Rattle.plain_run.specs.Runs.{Run, next, next_after, run_from, run_goes_on, run_of_image, stops, with_value}
+use Rattle.plain_run.specs.Runs.{Run, next, next_after, run_alone_from, run_goes_on, run_of_image, stops, with_value}
 use Rattle.plain_run.proofs.RunLaws.{none_more}
 use Rattle.plain_run.proofs.Steps.{exit_is, is_over, nothing_received, over_answers, over_of_exit, unfit_receives, value_needed}
 
@@ -51,46 +51,46 @@ after_none p (Over, q) unfit = cc
 -- a step to which nothing is given, in front of the run behind it
 run_did : (count : ℕ) (p : State) (values : List ℕ) (step : Step)
     → (plain p given.Nothing).0 ≡ Did step
-    → run_from (suc count) p values ≡ run_goes_on (Did step) (run_from count (plain p given.Nothing).1
+    → run_alone_from (suc count) p values ≡ run_goes_on (Did step) (run_alone_from count (plain p given.Nothing).1
     values)
-unfolding run_from next
+unfolding run_alone_from next
 run_did count p values step did =
     rw (after_other p (plain p given.Nothing) values (Did step) did (λ h. cc)) refl
 
 -- a step to which a value is given
 run_given : (count : ℕ) (p : State) (value : ℕ) (values : List ℕ) (step : Step)
     → (plain p (given.Value value)).0 ≡ Did step
-    → run_from (suc count) p (value ∷ values) ≡ run_goes_on (Did step)
-    (run_from count (plain p (given.Value value)).1 values)
-unfolding run_from next
+    → run_alone_from (suc count) p (value ∷ values) ≡ run_goes_on (Did step)
+    (run_alone_from count (plain p (given.Value value)).1 values)
+unfolding run_alone_from next
 run_given count p value values step did =
     rw (after_value p (plain p given.Nothing) value values (value_needed p value step did))
-    (ap (λ (answer : PlainStep). run_goes_on answer (run_from count (plain p (given.Value value)).1
+    (ap (λ (answer : PlainStep). run_goes_on answer (run_alone_from count (plain p (given.Value value)).1
     values)) did)
 
 -- a fault is next
 run_fault : (count : ℕ) (p : State) (values : List ℕ) (fault : OwnFault)
     → (plain p given.Nothing).0 ≡ Fault fault
-    → run_from (suc count) p values ≡ stops (ending.Fault fault)
-unfolding run_from next
+    → run_alone_from (suc count) p values ≡ stops (ending.Fault fault)
+unfolding run_alone_from next
 run_fault count p values fault is =
     rw (after_other p (plain p given.Nothing) values (Fault fault) is (λ h. cc)) refl
 
 -- nothing is next
 run_over : (count : ℕ) (p : State) (values : List ℕ) → (plain p given.Nothing).0 ≡ Over
-    → run_from (suc count) p values ≡ stops ending.Ended
-unfolding run_from next
+    → run_alone_from (suc count) p values ≡ stops ending.Ended
+unfolding run_alone_from next
 run_over count p values is =
     rw (after_other p (plain p given.Nothing) values Over is (λ h. cc)) refl
 
 -- a value is needed, and none is left
 run_waits : (count : ℕ) (p : State) → (plain p given.Nothing).0 ≡ Unfit
-    → run_from (suc count) p [] ≡ stops ending.Waiting
-unfolding run_from next
+    → run_alone_from (suc count) p [] ≡ stops ending.Waiting
+unfolding run_alone_from next
 run_waits count p is =
     ap
     (λ (answer : PlainStep). run_goes_on answer
-    (run_from count (next_after p (plain p given.Nothing) []).state
+    (run_alone_from count (next_after p (plain p given.Nothing) []).state
     (next_after p (plain p given.Nothing) []).values))
     (after_none p (plain p given.Nothing) is)
 
@@ -185,12 +185,12 @@ from_last p values false is = from_stops p 0 values ending.Steps (refl, is)
 -- a further step may be made
 from_next : (count : ℕ) (p : State) (values : List ℕ) (answer : PlainStep)
     → (plain p given.Nothing).0 ≡ answer
-    → ((q : State) (others : List ℕ) → From q count others (run_from count q others))
-    → From p (suc count) values (run_from (suc count) p values)
+    → ((q : State) (others : List ℕ) → From q count others (run_alone_from count q others))
+    → From p (suc count) values (run_alone_from (suc count) p values)
 from_next count p values (Did step) is behind =
     let nothing = nothing_received p step is in
     rw (run_did count p values step is)
-    (from_given p count values values given.Nothing step (run_from count (plain p given.Nothing).1
+    (from_given p count values values given.Nothing step (run_alone_from count (plain p given.Nothing).1
     values) (ap given_of nothing) is
     (sym (ap (λ (r : Received). cons_option (value_from_outside r) values) nothing)) (ap is_signalled nothing)
     (behind (plain p given.Nothing).1 values))
@@ -205,13 +205,13 @@ from_next count p (value ∷ values) Unfit is behind =
     let came = given_value taken.0.received value taken.2 in
     rw (run_given count p value values taken.0 taken.1)
     (from_given p count (value ∷ values) values (given.Value value) taken.0
-    (run_from count (plain p (given.Value value)).1 values) taken.2 taken.1
+    (run_alone_from count (plain p (given.Value value)).1 values) taken.2 taken.1
     (sym (ap (λ (o : Option ℕ). cons_option o values) came.0)) came.1
     (behind (plain p (given.Value value)).1 values))
 from_next count p values Over is behind =
     rw (run_over count p values is) (from_stops p (suc count) values ending.Ended (is_over p is))
 
-from_run : (count : ℕ) (p : State) (values : List ℕ) → From p count values (run_from count p values)
+from_run : (count : ℕ) (p : State) (values : List ℕ) → From p count values (run_alone_from count p values)
 from_run zero p values =
     rw (none_more 0 p values (omega arith) refl) (from_last p values p.over refl)
 from_run (suc count) p values =
@@ -298,7 +298,7 @@ runs_alone image count values =
 
 -- a run of no step stops for that reason
 one_stops : (p q : State) (count : ℕ) (values : List ℕ) (end : PlainEnd) → q ≡ p
-    → StopsAt end count [] q values → stops end ≡ run_from count p values
+    → StopsAt end count [] q values → stops end ≡ run_alone_from count p values
 one_stops p q zero values ending.Ended same why =
     sym (none_more 0 p values (omega arith) (ap (λ (s : State). s.over) (sym same) ∙ why))
 one_stops p q (suc count) values ending.Ended same why =
@@ -318,7 +318,7 @@ one_stops p q (suc count) values ending.Waiting same why =
     let taken = why.2 0 in
     let unfit : (plain p given.Nothing).0 ≡ Unfit = ap (λ (s : State). (plain s given.Nothing).0)
     (sym same) ∙ value_needed q 0 taken.0 taken.1 in
-    sym (ap (run_from (suc count) p) why.1 ∙ run_waits count p unfit)
+    sym (ap (run_alone_from (suc count) p) why.1 ∙ run_waits count p unfit)
 
 -- a reason in front of one step fewer
 stops_sooner : (end : PlainEnd) (count : ℕ) (step : Step) (steps : List Step) (p : State)
@@ -333,7 +333,7 @@ stops_sooner ending.Waiting count step steps p left h = (omega (arith, h.0), h.1
 one_step : (count : ℕ) (p : State) (values others : List ℕ) (step : Step) (got : Received)
     → step.received ≡ got → is_signalled got ≡ false → (plain p (given_of got)).0 ≡ Did step
     → values ≡ cons_option (value_from_outside got) others
-    → run_from (suc count) p values ≡ run_goes_on (Did step) (run_from count (plain p (given_of got)).1
+    → run_alone_from (suc count) p values ≡ run_goes_on (Did step) (run_alone_from count (plain p (given_of got)).1
     others)
 one_step count p values others step received.Nothing is no_signal did taken =
     rw taken (run_did count p others step did)
@@ -345,7 +345,7 @@ one_step count p values others step (received.Signal n) is no_signal did taken =
 
 one_from : (steps : List Step) (end : PlainEnd) (count : ℕ) (p q : State) (values left : List ℕ)
     → Reaches p steps q → length steps ≤ count → values ≡ values_in steps ++ left → NoSignals steps
-    → StopsAt end count steps q left → record { steps = steps; end = end } ≡ run_from count p values
+    → StopsAt end count steps q left → record { steps = steps; end = end } ≡ run_alone_from count p values
 one_from [] end count p q values left reaches few taken no_signals why =
     one_stops p q count values end reaches
     (subst (λ (values : List ℕ). StopsAt end count [] q values) (sym taken) why)

@@ -4,14 +4,14 @@ use Rattle.std.specs.List.{flat_map}
 use Rattle.xom_base.specs.declared.step.Step.{Step}
 use Rattle.mips_plain.specs.declared.given.PlainStep.TheVariants.{Did}
 use Rattle.mips_plain.specs.Machine.{State}
-use Rattle.plain_run.specs.Runs.{Next, Run, next, run_from, run_goes_on, step_line, stops, text_behind}
+use Rattle.plain_run.specs.Runs.{NextOfRun, Run, next, run_alone_from, run_goes_on, step_line, stops, text_behind}
 use Rattle.plain_run.specs.declared.ending.PlainEnd.{PlainEnd}
 use Rattle.plain_run.specs.declared.ending.PlainEnd.TheVariants as ending
 
 -- a run that may go on does what is next
-pub one_more : (count : ℕ) (p : State) (values : List ℕ) {m : Next} → 0 < count → m ≡ next p values
-    → run_from count p values ≡ run_goes_on m.answer (run_from (count - 1) m.state m.values)
-unfolding run_from
+pub one_more : (count : ℕ) (p : State) (values : List ℕ) {m : NextOfRun} → 0 < count → m ≡ next p values
+    → run_alone_from count p values ≡ run_goes_on m.answer (run_alone_from (count - 1) m.state m.values)
+unfolding run_alone_from
 one_more zero p values {m} some is = absurd (omega arith)
 one_more (suc count) p values {m} some is =
     let before : suc count - 1 ≡ count = omega arith in
@@ -19,8 +19,8 @@ one_more (suc count) p values {m} some is =
 
 -- a run of no further step
 pub none_more : (count : ℕ) (p : State) (values : List ℕ) {over : Bool} → count ≤ 0 → p.over ≡ over
-    → run_from count p values ≡ stops (if over then ending.Ended else ending.Steps)
-unfolding run_from
+    → run_alone_from count p values ≡ stops (if over then ending.Ended else ending.Steps)
+unfolding run_alone_from
 none_more zero p values {over} none is =
     ap (λ (b : Bool). stops (if b then ending.Ended else ending.Steps)) is
 none_more (suc count) p values {over} none is = absurd (omega arith)
@@ -45,12 +45,12 @@ stopped text {run} {end} is whole =
 
 -- the whole, where what is next is no step
 pub ended_next : {total : List ℕ × PlainEnd} (text : List ℕ) (count : ℕ) (p : State)
-    (values : List ℕ) {m : Next} {end : PlainEnd}
+    (values : List ℕ) {m : NextOfRun} {end : PlainEnd}
     → 0 < count → m ≡ next p values → ((run : Run) → run_goes_on m.answer run ≡ stops end)
-    → text_behind text (run_from count p values) ≡ total
+    → text_behind text (run_alone_from count p values) ≡ total
     → (text, end) ≡ total
 ended_next text count p values {m} {end} some is ends whole =
-    stopped text (one_more count p values some is ∙ ends (run_from (count - 1) m.state m.values))
+    stopped text (one_more count p values some is ∙ ends (run_alone_from (count - 1) m.state m.values))
     whole
 
 -- the whole, where one step is made

@@ -65,7 +65,7 @@ RunStops ending.Waiting count steps p left = (length steps < count) × (left ≡
 -- at most so many; what they received are the given values from the first on, and no signal; and it
 -- stopped for the
 -- reason that it says.
-pub record IsAlone (image : PlainImage) (count : ℕ) (values : List ℕ) (run : Run) : Type 0 where
+pub record IsRunAlone (image : PlainImage) (count : ℕ) (values : List ℕ) (run : Run) : Type 0 where
   pub state : State
   pub left : List ℕ
   pub reaches : Reaches (start image) run.steps state
@@ -79,10 +79,10 @@ pub record IsAlone (image : PlainImage) (count : ℕ) (values : List ℕ) (run :
 abbrev pub RunsAlone : Type 0
 RunsAlone =
     (image : PlainImage) (count : ℕ) (values : List ℕ)
-    → IsAlone image count values (run_of_image image count values)
+    → IsRunAlone image count values (run_of_image image count values)
 
 -- and there is no other
 abbrev pub OneRun : Type 0
 OneRun =
-    (image : PlainImage) (count : ℕ) (values : List ℕ) (run : Run) → IsAlone image count values run
+    (image : PlainImage) (count : ℕ) (values : List ℕ) (run : Run) → IsRunAlone image count values run
     → run ≡ run_of_image image count values

@@ -17,13 +17,13 @@ pub record Run : Type 0 where
   pub end : PlainEnd
 
 -- What the machine does next: its answer, its state behind it, and the values left then.
-pub record Next : Type 0 where
+pub record NextOfRun : Type 0 where
   pub answer : PlainStep
   pub state : State
   pub values : List ℕ
 
 -- given a value
-abbrev pub with_value : State → ℕ → List ℕ → Next
+abbrev pub with_value : State → ℕ → List ℕ → NextOfRun
 with_value p value values = record {
   answer = (plain p (given.Value value)).0;
   state =
@@ -32,12 +32,12 @@ with_value p value values = record {
 }
 
 -- an instruction that needs something to be given gets the next value, where one is left
-abbrev pub next_after : State → PlainStep × State → List ℕ → Next
+abbrev pub next_after : State → PlainStep × State → List ℕ → NextOfRun
 next_after p (Unfit, q) (value ∷ values) = with_value p value values
 next_after p (answer, q) values = record { answer = answer; state = q; values = values }
 
 -- what is done next: nothing is given but to an instruction that receives
-unfoldable pub next : State → List ℕ → Next
+unfoldable pub next : State → List ℕ → NextOfRun
 next p values = next_after p (plain p given.Nothing) values
 
 -- no further step
@@ -52,14 +52,14 @@ run_goes_on Unfit run = stops ending.Waiting
 run_goes_on Over run = stops ending.Ended
 
 -- the run of at most so many further steps from a state, with these values for what it receives
-unfoldable pub run_from : ℕ → State → List ℕ → Run
-run_from zero p values = stops (if p.over then ending.Ended else ending.Steps)
-run_from (suc count) p values =
-    run_goes_on (next p values).answer (run_from count (next p values).state (next p values).values)
+unfoldable pub run_alone_from : ℕ → State → List ℕ → Run
+run_alone_from zero p values = stops (if p.over then ending.Ended else ending.Steps)
+run_alone_from (suc count) p values =
+    run_goes_on (next p values).answer (run_alone_from count (next p values).state (next p values).values)
 
 -- the run of an image's program, of at most so many steps
 abbrev pub run_of_image : PlainImage → ℕ → List ℕ → Run
-run_of_image image count values = run_from count (start image) values
+run_of_image image count values = run_alone_from count (start image) values
 
 -- a step has a line of its own
 abbrev pub step_line : Step → List ℕ

@@ -1,6 +1,6 @@
 ghost use Rattle.std.specs.Prelude.{◌≡◌, ◌++◌, ◌∷◌, [], List, ℕ, codes, IfOk, OnOk};
 ghost use Rattle.mips_plain.specs.Machine.{start};
-ghost use Rattle.plain_run.specs.Runs.{Next, lines_text, next as next_of, plain_end_text, run_from, run_text, step_line, text_behind};
+ghost use Rattle.plain_run.specs.Runs.{NextOfRun, lines_text, next as next_of, plain_end_text, run_alone_from, run_text, step_line, text_behind};
 ghost use Rattle.std.specs.List.{flat_map};
 ghost use Rattle.step_text.specs.StepTexts.{own_fault_text};
 
@@ -37,7 +37,7 @@ fn push_run(
     steps: u64,
     received: &[u32],
 ) -> Result<PlainEnd, NoMemory>
-    ensures { IfOk result (λ end. (text.new.items, end) ≡ text_behind text.old.items (run_from steps plain.old received.now)) }
+    ensures { IfOk result (λ end. (text.new.items, end) ≡ text_behind text.old.items (run_alone_from steps plain.old received.now)) }
 {
     let mut left = steps;
     let mut values = received;

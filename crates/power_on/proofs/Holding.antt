@@ -8,13 +8,13 @@ use Rattle.xom_versions.specs.Versions.{Versions}
 use Rattle.xom_model.specs.Versions.{StandsFor}
 use Rattle.xom_model.specs.Holds.{Holds}
 use Rattle.xom_model.proofs.StartKept.{start_holds}
-use Rattle.xom_machine.specs.Whole.{Whole}
+use Rattle.xom_machine.specs.Whole.{WholeMachine}
 use Rattle.cli_runs.specs.declared.guest_image.GuestImage.{GuestImage}
 use Rattle.power_on.specs.Start.{first_record, ram_at_start}
 
 pub started_holds : {E : Type 0} (v : Versions) (Stands : StandsFor) (machine : Key256)
     (boot frames : ℕ) (kernel : Option PlainImage) (images : List GuestImage)
-    → boot < 2 ^ 64 → (started : Result Whole E)
+    → boot < 2 ^ 64 → (started : Result WholeMachine E)
     → IfOk started (λ m. m ≡ record {
       state = first_record v machine boot frames kernel images;
       spare = 0;
@@ -22,5 +22,5 @@ pub started_holds : {E : Type 0} (v : Versions) (Stands : StandsFor) (machine : 
     → IfOk started (λ m. (owners : List Owner) → Holds Stands owners m.state.core)
 started_holds v Stands machine boot frames kernel images low (Err why) is = tt
 started_holds v Stands machine boot frames kernel images low (Ok m) is =
-    λ (owners : List Owner). subst (λ (w : Whole). Holds Stands owners w.state.core) (sym is)
+    λ (owners : List Owner). subst (λ (w : WholeMachine). Holds Stands owners w.state.core) (sym is)
     (start_holds v Stands owners machine boot (ram_at_start frames kernel images) low)

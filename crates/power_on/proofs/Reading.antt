@@ -15,7 +15,7 @@ use Rattle.xom_model.specs.Operation.{envelope_size}
 use Rattle.cli_runs.specs.Places.{FitsAll, first_frame, frame_behind, frames_of_guest}
 use Rattle.cli_runs.specs.declared.guest_image.GuestImage.{GuestImage}
 use Rattle.power_on.specs.Start.{kernel_bytes, ram_with_guest, with_guests, with_lines}
-use Rattle.power_on.specs.ReadAgain.{GuestsAreRead, HasRoom, IsReadAt, IsWhole, IsWholeLine, KernelIsRead, StandsAt}
+use Rattle.power_on.specs.ReadAgain.{GuestsAreRead, IsReadAt, IsWholeGuest, IsWholeLine, KernelIsRead, RamHasRoom, StandsAt}
 
 -- where a line of this number has its ciphertext and its tag, where line 0 is the first of a frame
 abbrev cipher : ℕ → ℕ → ℕ
@@ -209,7 +209,7 @@ lines-size ram frame number (line ∷ lines) whole held =
 abbrev LiesIn : List ℕ → ℕ → GuestImage → Type 0
 LiesIn ram frame image = (frame + frames_of_guest image) * frame_size ≤ length ram
 
-module _ (ram : List ℕ) (frame : ℕ) (image : GuestImage) (whole : IsWhole image)
+module _ (ram : List ℕ) (frame : ℕ) (image : GuestImage) (whole : IsWholeGuest image)
     (lies : LiesIn ram frame image) where
   envelope-fits : HoldsRange ram (frame * frame_size) (length image.envelope)
   envelope-fits = omega (arith, whole.envelope)
@@ -282,12 +282,12 @@ stands-carried ram new frame image same stands = record {
 
 -- ---- All guests
 
-head-image : (image : GuestImage) (images : List GuestImage) → All IsWhole (image ∷ images)
-    → IsWhole image
+head-image : (image : GuestImage) (images : List GuestImage) → All IsWholeGuest (image ∷ images)
+    → IsWholeGuest image
 head-image image images whole = whole 0 image (omega arith)
 
-tail-images : (image : GuestImage) (images : List GuestImage) → All IsWhole (image ∷ images)
-    → All IsWhole images
+tail-images : (image : GuestImage) (images : List GuestImage) → All IsWholeGuest (image ∷ images)
+    → All IsWholeGuest images
 tail-images image images whole =
     λ (k : ℕ) (d : GuestImage) (within : k < length images). whole (suc k) d (omega arith)
 
@@ -297,7 +297,7 @@ lies-in frames ram frame image size fits = omega arith
 
 -- what lies before the first of them is read as before
 guests-missed : (frames : ℕ) (ram : List ℕ) (frame : ℕ) (images : List GuestImage) (other count : ℕ)
-    → length ram ≡ frames * frame_size → FitsAll frames frame images → All IsWhole images
+    → length ram ≡ frames * frame_size → FitsAll frames frame images → All IsWholeGuest images
     → other + count ≤ frame * frame_size
     → bytes_at (with_guests ram frame images) other count ≡ bytes_at ram other count
 guests-missed frames ram frame [] other count size fits whole before = refl
@@ -312,7 +312,7 @@ guests-missed frames ram frame (image ∷ images) other count size fits whole be
 guests-stand : (frames : ℕ) (ram : List ℕ) (frame : ℕ) (before : List GuestImage)
     (image : GuestImage) (behind : List GuestImage)
     → length ram ≡ frames * frame_size → FitsAll frames frame (before ++ image ∷ behind)
-    → All IsWhole (before ++ image ∷ behind)
+    → All IsWholeGuest (before ++ image ∷ behind)
     → StandsAt (with_guests ram frame (before ++ image ∷ behind)) (frame_behind frame before) image
 guests-stand frames ram frame [] image behind size fits whole =
     let own = head-image image behind whole in
@@ -333,7 +333,7 @@ guests-stand frames ram frame (first ∷ before) image behind size fits whole =
 -- ---- The start
 
 module _ (frames : ℕ) (kernel : Option PlainImage) (images : List GuestImage)
-    (room : HasRoom frames kernel images) where
+    (room : RamHasRoom frames kernel images) where
   zeros-size : length {A = ℕ} (replicate (frames * frame_size) 0) ≡ frames * frame_size
   zeros-size = length-replicate {A = ℕ} (frames * frame_size) 0
 

@@ -16,7 +16,7 @@ pub record IsWholeLine (line : SealedLine) : Type 0 where
   pub tag : length line.tag ≡ line_size
 
 -- an image has its bytes
-pub record IsWhole (image : GuestImage) : Type 0 where
+pub record IsWholeGuest (image : GuestImage) : Type 0 where
   pub envelope : length image.envelope ≡ envelope_size
   pub lines : All IsWholeLine image.lines
 
@@ -36,17 +36,17 @@ pub record StandsAt (ram : List ℕ) (frame : ℕ) (image : GuestImage) : Type 0
       → IsReadAt ram (frame + 1) number line
 
 -- RAM has room for the image of a kernel, in front of the guests, and for all guests
-pub record HasRoom (frames : ℕ) (kernel : Option PlainImage) (images : List GuestImage) : Type
+pub record RamHasRoom (frames : ℕ) (kernel : Option PlainImage) (images : List GuestImage) : Type
     0 where
   pub kernel_low : length (kernel_bytes kernel) ≤ kernel_limit
   pub kernel_fits : length (kernel_bytes kernel) ≤ frames * frame_size
   pub guests : FitsAll frames first_frame images
-  pub whole : All IsWhole images
+  pub whole : All IsWholeGuest images
 
 -- the image of the kernel is read from address 0 on
 abbrev pub KernelIsRead : Type 0
 KernelIsRead = (frames : ℕ) (kernel : Option PlainImage) (images : List GuestImage)
-    → HasRoom frames kernel images
+    → RamHasRoom frames kernel images
     → bytes_at (ram_at_start frames kernel images) 0 (length (kernel_bytes kernel)) ≡ kernel_bytes
     kernel
 
@@ -54,6 +54,6 @@ KernelIsRead = (frames : ℕ) (kernel : Option PlainImage) (images : List GuestI
 abbrev pub GuestsAreRead : Type 0
 GuestsAreRead = (frames : ℕ) (kernel : Option PlainImage) (before : List GuestImage)
     (image : GuestImage) (behind : List GuestImage)
-    → HasRoom frames kernel (before ++ image ∷ behind)
+    → RamHasRoom frames kernel (before ++ image ∷ behind)
     → StandsAt (ram_at_start frames kernel (before ++ image ∷ behind))
     (frame_behind first_frame before) image

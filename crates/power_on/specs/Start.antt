@@ -7,7 +7,7 @@ use Rattle.xom_seal.specs.declared.line.SealedLine.{SealedLine}
 use Rattle.line_ram.specs.Bytes.{frame_lines, ram_with_bytes, ram_with_line}
 use Rattle.xom_versions.specs.Versions.{Versions}
 use Rattle.xom_model.specs.State.{Record, power_on}
-use Rattle.xom_machine.specs.Whole.{Whole}
+use Rattle.xom_machine.specs.Whole.{WholeMachine}
 use Rattle.xom_script.specs.declared.run_file.RunFile.{RunFile}
 use Rattle.cli_runs.specs.Places.{first_frame, frames_of_guest}
 use Rattle.cli_runs.specs.declared.guest_image.GuestImage.{GuestImage}
@@ -74,9 +74,9 @@ first_of file guests k = first_record shipped_versions file.machine file.boot fi
 -- ---- How it is loaded
 
 -- the machine with other bytes in RAM
-abbrev pub whole_with_ram : Whole → List ℕ → Whole
+abbrev pub whole_with_ram : WholeMachine → List ℕ → WholeMachine
 whole_with_ram m ram = record m { state = record m.state { core = record m.state.core { ram = ram } } }
 
 -- the bytes of its RAM
-abbrev pub ram_of_whole : Whole → List ℕ
+abbrev pub ram_of_whole : WholeMachine → List ℕ
 ram_of_whole m = m.state.core.ram

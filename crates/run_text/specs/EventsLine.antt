@@ -27,6 +27,8 @@ abbrev pub stop_text : Option (ℕ × NullFault) → List ℕ
 stop_text None = codes " halted\n"
 stop_text (Some (at, why)) = kernel_fault_text at why
 
+-- how a run ended, as the end of a line: the kernel halted or faulted, or else the budget was
+-- reached
 abbrev pub ending_text : Bool → Option (ℕ × NullFault) → List ℕ
 ending_text true fault = stop_text fault
 ending_text false fault = codes " budget\n"

@@ -11,10 +11,10 @@ use Rattle.trace_judge.specs.declared.report.GuestEnd.{GuestEnd}
 use Rattle.trace_judge.specs.declared.report.GuestEnd.TheVariants.{Ended, Stopped, Killed, Running}
 use Rattle.trace_judge.specs.GuestWatch.{end_after_entry}
 use Rattle.trace_judge.specs.Judgement.{end_in, guest_end_of}
-use Rattle.trace_judge.specs.Trails.{Told, install_told, told_after}
+use Rattle.trace_judge.specs.Trails.{ToldOfInstall, install_told, told_after}
 use Rattle.trace_judge.proofs.GuestLaws.{never_running}
 
-abbrev told_with : List Step → GuestEnd → Told
+abbrev told_with : List Step → GuestEnd → ToldOfInstall
 told_with steps end = record { steps = steps; end = end }
 
 end_behind : (found : Option GuestEnd) (n : ℕ) (rest : GuestEnd) (e : Entry)

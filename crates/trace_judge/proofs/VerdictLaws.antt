@@ -16,7 +16,7 @@ use Rattle.xom_owners.specs.Owners.{owner_of}
 use Rattle.mips_plain.specs.declared.verdict.Verdict.{Verdict}
 use Rattle.trace_judge.specs.declared.verdicts.Verdicts.{Verdicts}
 use Rattle.trace_judge.specs.Judgement.{verdict_by}
-use Rattle.trace_judge.specs.Trails.{Told}
+use Rattle.trace_judge.specs.Trails.{ToldOfInstall}
 use Rattle.trace_judge.specs.Verdicts.{AreVerdicts, found_before, pair_cmp}
 use Rattle.trace_judge.proofs.Bytes.{same_bytes}
 
@@ -52,7 +52,7 @@ same_owner (owner ∷ owners) a b same =
     ∙ ap (λ rest. if bytes_eq owner.id.0 b.0 then Some owner else rest) (same_owner owners a b same)
 
 -- one more verdict was found
-pub verdicts_more : (owners : List Owner) (known : ℕ → Told) (old new : Verdicts) (n : ℕ)
+pub verdicts_more : (owners : List Owner) (known : ℕ → ToldOfInstall) (old new : Verdicts) (n : ℕ)
     (id : ImageId) (v : Verdict)
     → v ≡ verdict_by (owner_of owners id) (known n).steps
     → ((m : ℕ) → (other : List ℕ) → found_before new m other ≡ (if (n == m) && bytes_eq id.0 other

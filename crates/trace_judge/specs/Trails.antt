@@ -18,16 +18,16 @@ use Rattle.trace_judge.specs.GuestWatch.{end_after_entry}
 use Rattle.trace_judge.specs.Judgement.{guest_end_of, verdict_by}
 
 -- the steps of an install and its first end
-pub record Told : Type 0 where
+pub record ToldOfInstall : Type 0 where
   pub steps : List Step
   pub end : GuestEnd
 
 -- what entries tell of an install
-abbrev pub install_told : List Entry → ℕ → Told
+abbrev pub install_told : List Entry → ℕ → ToldOfInstall
 install_told entries n = record { steps = steps_of n entries; end = guest_end_of n entries }
 
 -- what is told of an install with one more entry
-abbrev pub told_after : Told → ℕ → Entry → Told
+abbrev pub told_after : ToldOfInstall → ℕ → Entry → ToldOfInstall
 told_after was n e = record {
   steps = was.steps ++ cons_option (step_in n e) [];
   end =
@@ -35,16 +35,16 @@ told_after was n e = record {
 }
 
 -- what a trail tells, if there is one
-abbrev pub trail_tells : Option Trail → Told
+abbrev pub trail_tells : Option Trail → ToldOfInstall
 trail_tells None = record { steps = []; end = Running }
 trail_tells (Some trail) = record { steps = trail.steps.items; end = trail.end }
 
 -- what the map tells of an install
-abbrev pub told_of_install : Trails → ℕ → Told
+abbrev pub told_of_install : Trails → ℕ → ToldOfInstall
 told_of_install trails n = trail_tells (get nat_cmp trails.trails n)
 
 -- the line of an Install entry, by what is told of each install
-abbrev pub line_by : List Owner → (ℕ → Told) → Entry → Option GuestLine
+abbrev pub line_by : List Owner → (ℕ → ToldOfInstall) → Entry → Option GuestLine
 line_by owners known (entry.Install n slot id place at lines) =
     Some (record {
       install = n;

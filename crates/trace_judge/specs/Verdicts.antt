@@ -10,7 +10,7 @@ use Rattle.xom_owners.specs.Owners.{owner_of}
 use Rattle.mips_plain.specs.declared.verdict.Verdict.{Verdict}
 use Rattle.trace_judge.specs.declared.verdicts.Verdicts.{Verdicts}
 use Rattle.trace_judge.specs.Judgement.{verdict_by}
-use Rattle.trace_judge.specs.Trails.{Told}
+use Rattle.trace_judge.specs.Trails.{ToldOfInstall}
 
 -- the order of pairs of an install number and an id
 abbrev pub pair_cmp : ℕ × List ℕ → ℕ × List ℕ → Ordering
@@ -21,7 +21,7 @@ abbrev pub found_before : Verdicts → ℕ → List ℕ → Option Verdict
 found_before verdicts n id = get pair_cmp verdicts.found (n, id)
 
 -- each is the verdict on what is told of its install
-abbrev pub AreVerdicts : List Owner → (ℕ → Told) → Verdicts → Type 0
+abbrev pub AreVerdicts : List Owner → (ℕ → ToldOfInstall) → Verdicts → Type 0
 AreVerdicts owners known verdicts =
     (n : ℕ) (id : ImageId) → IfSome (found_before verdicts n id.0)
     (λ v. v ≡ verdict_by (owner_of owners id) (known n).steps)

@@ -12,7 +12,7 @@ use Rattle.std.proofs.lemmas.List.{length-take}
 use Rattle.xom_journal.proofs.PlaceLaws.{front_none, front_some}
 use Rattle.xom_base.specs.declared.entry.Entry.{Entry}
 use Rattle.xom_base.specs.declared.entry.Entry.TheVariants as entry
-use Rattle.trace_picture.specs.GuestTable.{IsSmall, end_told_by, first_end, fresh_row, install_end, is_guest, is_step_of, is_trap_of, row_after, row_with, rows_after, rows_with}
+use Rattle.trace_picture.specs.GuestTable.{IsSmall, end_told_by, first_end, fresh_row, install_end, is_install_among, is_step_of, is_trap_of, row_after, row_with, rows_after, rows_with}
 use Rattle.trace_picture.specs.Lanes.{lane_of}
 use Rattle.trace_picture.specs.declared.guests.GuestRow.{GuestRow}
 use Rattle.trace_picture.specs.declared.guests.InstallEnd.{InstallEnd}
@@ -150,10 +150,10 @@ rows_at n (suc k) e (row ∷ rows) d is within =
     (arith, within)) i)
     ∙ ap (λ m. row ∷ slice_set rows k (row_after m e (get_or rows k d))) on
 
-guest_within : (guests n : ℕ) → is_guest guests n ≡ true → (1 ≤ n) × (n ≤ guests)
+guest_within : (guests n : ℕ) → is_install_among guests n ≡ true → (1 ≤ n) × (n ≤ guests)
 guest_within guests n is = (grind (arith, nat_tests, is), grind (arith, nat_tests, is))
 
-guest_beside : (guests n : ℕ) → is_guest guests n ≡ false → (n < 1) ⊎ (guests < n)
+guest_beside : (guests n : ℕ) → is_install_among guests n ≡ false → (n < 1) ⊎ (guests < n)
 guest_beside guests n is = elim (dec_le n guests) [
   | yes low ↦ inl (grind (arith, nat_tests, is, low))
   | no high ↦ inr (omega (arith, high))
@@ -161,7 +161,7 @@ guest_beside guests n is = elim (dec_le n guests) [
 
 -- the row of the entry's install was changed
 pub rows_changed : (e : Entry) (install : ℕ) (rows new : List GuestRow) → install ≡ lane_of e
-    → is_guest (length rows) install ≡ true
+    → is_install_among (length rows) install ≡ true
     → ((d : GuestRow) → new ≡ slice_set rows (install - 1) (row_after install e (get_or rows (install - 1) d)))
     → new ≡ rows_after 1 e rows
 rows_changed e install rows new is within changed =
@@ -174,7 +174,7 @@ rows_changed e install rows new is within changed =
 
 -- no row is that of the entry's install
 pub rows_same : (e : Entry) (install : ℕ) (rows : List GuestRow) → install ≡ lane_of e
-    → is_guest (length rows) install ≡ false → rows ≡ rows_after 1 e rows
+    → is_install_among (length rows) install ≡ false → rows ≡ rows_after 1 e rows
 rows_same e install rows is beside = elim (guest_beside (length rows) install beside) [
   | inl low ↦ sym (rows_in_front 1 e rows (omega (arith, is, low)))
   | inr high ↦ sym (rows_behind 1 e rows (omega (arith, is, high)))

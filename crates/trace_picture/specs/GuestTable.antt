@@ -94,8 +94,8 @@ abbrev pub IsSmall : GuestRow → Type 0
 IsSmall row = (row.steps + 1 < 2 ^ 64) × (row.traps + 1 < 2 ^ 64)
 
 -- whether this is the number of one of so many installs
-abbrev pub is_guest : ℕ → ℕ → Bool
-is_guest guests n = nat_lt 0 n && nat_le n guests
+abbrev pub is_install_among : ℕ → ℕ → Bool
+is_install_among guests n = nat_lt 0 n && nat_le n guests
 
 -- a row with one more entry, of this install or of another one
 abbrev pub row_after : ℕ → Entry → GuestRow → GuestRow
@@ -115,8 +115,8 @@ rows_after n e (row ∷ rows) = row_after n e row ∷ rows_after (n + 1) e rows
 -- ---- Their texts
 
 -- a cell with a number
-abbrev pub cell_text : ℕ → List ℕ
-cell_text n = codes "<td>" ++ decimal n
+abbrev pub number_cell_text : ℕ → List ℕ
+number_cell_text n = codes "<td>" ++ decimal n
 
 -- the cell of an id, in hexadecimal digits
 abbrev pub id_cell_text : ImageId → List ℕ
@@ -125,8 +125,8 @@ id_cell_text id = codes "<td>" ++ encode_lower id.0
 -- the row of an install, as cells of a table
 abbrev pub guest_row_text : ℕ → GuestRow → List ℕ
 guest_row_text n row =
-    codes "<tr>" ++ (cell_text n ++ (cell_text row.slot ++ (id_cell_text row.id
-    ++ (cell_text row.steps ++ (cell_text row.traps
+    codes "<tr>" ++ (number_cell_text n ++ (number_cell_text row.slot ++ (id_cell_text row.id
+    ++ (number_cell_text row.steps ++ (number_cell_text row.traps
     ++ (codes "<td>" ++ (install_end_text row.end ++ codes "\n")))))))
 
 -- the rows from this install on

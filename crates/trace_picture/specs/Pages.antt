@@ -42,6 +42,7 @@ key_text =
     ++ (codes "<span class=\"accept\">accept</span><span class=\"hash\">hash</span>\n"
     ++ codes "<span class=\"out\">console byte</span>\n")))
 
+-- how the page looks: the layout, and the colour of each kind of entry
 abbrev pub head_text : List ℕ
 head_text = layout_text ++ kinds_text
 
@@ -50,6 +51,7 @@ abbrev pub fit_text : List ℕ
 fit_text =
     codes "<input type=\"checkbox\" id=\"fit\"><label for=\"fit\">fit the window</label>\n"
 
+-- the first row of the table of guests, which names its columns
 abbrev pub table_head_text : List ℕ
 table_head_text =
     codes "<table>\n<tr><th>install<th>slot<th>id<th>steps<th>traps<th>end\n"

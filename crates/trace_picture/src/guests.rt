@@ -1,6 +1,6 @@
 ghost use Rattle.std.specs.Prelude.{◌≡◌, ◌-◌, ◌++◌, [], All, IfOk, OnOk, length, slice_index_or, slice_set, true};
 ghost use Rattle.std.specs.List.{cons_option, filter_map};
-ghost use Rattle.trace_picture.specs.GuestTable.{IsSmall, end_told_by as end_told_by_entry, exit_in as exit_in_step, first_end as first_end_of, fresh_row as fresh_row_of, guest_rows as guest_rows_of, is_guest, is_step_of, is_trap_of, row_after, rows_after};
+ghost use Rattle.trace_picture.specs.GuestTable.{IsSmall, end_told_by as end_told_by_entry, exit_in as exit_in_step, first_end as first_end_of, fresh_row as fresh_row_of, guest_rows as guest_rows_of, is_install_among, is_step_of, is_trap_of, row_after, rows_after};
 
 use crate::lanes::lane;
 use std::alloc::Global;
@@ -102,7 +102,7 @@ fn count(rows: &mut Vec<GuestRow>, entry: &Entry)
 
 /// Whether this is the number of one of so many guests.
 fn is_of_guest(install: u64, guests: u64) -> bool
-    ensures { result ≡ is_guest guests install }
+    ensures { result ≡ is_install_among guests install }
 {
     install > 0 && install <= guests
 }
@@ -110,8 +110,8 @@ fn is_of_guest(install: u64, guests: u64) -> bool
 /// Counts an entry of an install that has a row.
 fn count_at(rows: &mut Vec<GuestRow>, install: u64, entry: &Entry)
     requires small { All IsSmall rows.old.items }
-    requires within { is_guest (length rows.old.items) install ≡ true }
-    ensures of_guest { is_guest (length rows.old.items) install ≡ true }
+    requires within { is_install_among (length rows.old.items) install ≡ true }
+    ensures of_guest { is_install_among (length rows.old.items) install ≡ true }
     ensures changed { (d : GuestRow) → rows.new.items ≡ slice_set rows.old.items (install - 1) (row_after install entry.now (slice_index_or rows.old.items (install - 1) d)) }
 {
     let place = (install - 1) as usize;

@@ -1,5 +1,5 @@
 ghost use Rattle.std.specs.Prelude.{◌≡◌, ◌+◌, ◌++◌, OnOk};
-ghost use Rattle.trace_picture.specs.GuestTable.{cell_text, guest_row_text, guest_rows_text, id_cell_text, install_end_text, lane_name_text, lane_names_text};
+ghost use Rattle.trace_picture.specs.GuestTable.{guest_row_text, guest_rows_text, id_cell_text, install_end_text, lane_name_text, lane_names_text, number_cell_text};
 ghost use Rattle.trace_picture.specs.Pages.{table_text};
 
 use crate::{GuestRow, InstallEnd};
@@ -46,7 +46,7 @@ fn push_row(text: &mut Vec<u8>, install: u64, row: &GuestRow) -> Result<(), NoMe
 
 /// Adds a cell with a number.
 fn push_cell(text: &mut Vec<u8>, n: u64) -> Result<(), NoMemory>
-    ensures { OnOk result (text.new.items ≡ text.old.items ++ cell_text n) }
+    ensures { OnOk result (text.new.items ≡ text.old.items ++ number_cell_text n) }
 {
     push_text(text, "<td>")?;
     push_decimal64(text, n)
@@ -54,7 +54,7 @@ fn push_cell(text: &mut Vec<u8>, n: u64) -> Result<(), NoMemory>
 
 /// Adds the cell of a slot.
 fn push_slot(text: &mut Vec<u8>, slot: u8) -> Result<(), NoMemory>
-    ensures { OnOk result (text.new.items ≡ text.old.items ++ cell_text slot) }
+    ensures { OnOk result (text.new.items ≡ text.old.items ++ number_cell_text slot) }
 {
     push_cell(text, u64::from(slot))
 }

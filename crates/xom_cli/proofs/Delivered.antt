@@ -6,7 +6,7 @@ use Rattle.xom_io.specs.declared.files.FileFault.{FileFault}
 use Rattle.xom_io.specs.declared.files.FileFault.TheVariants as file_fault
 use Rattle.xom_io.specs.declared.sink.SinkFault.{SinkFault}
 use Rattle.xom_io.specs.declared.sink.SinkFault.TheVariants as sink_fault
-use Rattle.xom_io.specs.Answers.{Appends, FilesTold, KeepsOthers, Rises, TakesAll}
+use Rattle.xom_io.specs.Answers.{AppendsToSink, FilesTold, KeepsOthers, Rises, TakesAll}
 use Rattle.cli_base.specs.declared.answer.Answer.{Answer}
 use Rattle.cli_base.specs.declared.answer.OutputFile.{OutputFile}
 use Rattle.cli_delivery.specs.Endings.{Disk, PutsFile}
@@ -51,9 +51,9 @@ done_not_5 = not_done 5 (λ e. omega arith) (omega arith)
 
 pub takes-prefix : (old new : Option (List ℕ)) (text : List ℕ) (before after : ℕ)
     (put : Result (Unit {0}) SinkFault)
-    → TakesAll old new text before after put → (n : ℕ) × Appends old new (take n text)
+    → TakesAll old new text before after put → (n : ℕ) × AppendsToSink old new (take n text)
 takes-prefix old new text before after (Ok whole) takes =
-    (length text, subst (Appends old new) (sym (take-length text)) takes.1)
+    (length text, subst (AppendsToSink old new) (sym (take-length text)) takes.1)
 takes-prefix old new text before after (Err sink_fault.Failed) takes = (takes.0.0, takes.0.2)
 takes-prefix old new text before after (Err sink_fault.NoMemory) takes = (takes.0.0, takes.0.2)
 

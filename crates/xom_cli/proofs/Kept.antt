@@ -5,7 +5,7 @@ use Rattle.xom_io.specs.declared.files.FileFault.{FileFault}
 use Rattle.xom_io.specs.declared.files.FileFault.TheVariants as file_fault
 use Rattle.xom_io.specs.declared.sink.SinkFault.{SinkFault}
 use Rattle.xom_io.specs.declared.sink.SinkFault.TheVariants as sink_fault
-use Rattle.xom_io.specs.Answers.{Appends, FilesTold, KeepsOthers, Rises, TakesAll}
+use Rattle.xom_io.specs.Answers.{AppendsToSink, FilesTold, KeepsOthers, Rises, TakesAll}
 use Rattle.cli_base.specs.declared.answer.Answer.{Answer}
 use Rattle.cli_delivery.specs.declared.ending.Ending.{Ending}
 use Rattle.cli_delivery.specs.declared.ending.Ending.TheVariants as ending
@@ -117,7 +117,7 @@ module _ (words : List (List ℕ)) (before after : Outside) where
         p.2,
         (
           part.0,
-          subst (λ text. Appends before.output.written after.output.written
+          subst (λ text. AppendsToSink before.output.written after.output.written
               (take part.0 text)) (sym p.3) part.1,
         ),
       ))
@@ -130,7 +130,7 @@ module _ (words : List (List ℕ)) (before after : Outside) where
   whole_put : (said : List ℕ) (put : Result (Unit {0}) SinkFault)
       → Took before.output after.output said put → put ≢ Err sink_fault.NoMemory
       → ¬ Rises before.output.faults after.output.faults
-      → Appends before.output.written after.output.written said
+      → AppendsToSink before.output.written after.output.written said
   whole_put said (Ok done) takes found calm = takes.1
   whole_put said (Err sink_fault.Failed) takes found calm = absurd (calm takes.2)
   whole_put said (Err sink_fault.NoMemory) takes found calm = absurd (found refl)
@@ -276,11 +276,11 @@ module _ (words : List (List ℕ)) (before after : Outside) where
           let same : row ≡ asked = cc in
           subst (RowFollows before.disk.held) same follows
 
-      headline_here : Appends before.output.written after.output.written answer.text
+      headline_here : AppendsToSink before.output.written after.output.written answer.text
           → WritesFile before.disk after.disk answer.file → (held : Held)
           → before.disk.held ≡ Some held → (run : List ℕ) (journal : Option (List ℕ))
           → row_of_words words ≡ Some (Trace run journal)
-          → (parts : Parts) × (parts_of held run ≡ Ok parts) × Appends before.output.written
+          → (parts : Parts) × (parts_of held run ≡ Ok parts) × AppendsToSink before.output.written
           after.output.written (trace_text (report_of parts) (last_record parts))
           × WritesFile before.disk after.disk
           (journal_file journal (last_record parts).core.entries) × GuestsFollow parts
@@ -290,18 +290,18 @@ module _ (words : List (List ℕ)) (before after : Outside) where
           told) in (
             found.0,
             found.1,
-            subst (λ (a : Answer). Appends before.output.written after.output.written a.text)
+            subst (λ (a : Answer). AppendsToSink before.output.written after.output.written a.text)
                 found.2 whole,
             subst (λ (a : Answer). WritesFile before.disk after.disk a.file) found.2 put,
             as_asked (Trace run journal) named held told found.0 found.1,
           )
 
-      console_here : Appends before.output.written after.output.written answer.text → (held : Held)
+      console_here : AppendsToSink before.output.written after.output.written answer.text → (held : Held)
           → before.disk.held ≡ Some held → (run : List ℕ) → row_of_words words ≡ Some (Run run)
           → (parts : Parts) × (parts_of held run ≡ Ok parts)
           × (trace_of held run None ≡ Ok (trace_answer None parts))
           × (answer.status ≡ (trace_answer None parts).status)
-          × Appends before.output.written after.output.written
+          × AppendsToSink before.output.written after.output.written
           (console_of (last_record parts).core.entries) × GuestsFollow parts
       unfolding trace_answer console_run
       console_here whole held told run named =
@@ -310,7 +310,7 @@ module _ (words : List (List ℕ)) (before after : Outside) where
             found.1,
             parts-traced held run None found.0 found.1,
             ap (λ (a : Answer). a.status) found.2,
-            subst (λ (a : Answer). Appends before.output.written after.output.written a.text)
+            subst (λ (a : Answer). AppendsToSink before.output.written after.output.written a.text)
                 found.2 whole,
             as_asked (Run run) named held told found.0 found.1,
           )
@@ -335,7 +335,7 @@ module _ (words : List (List ℕ)) (before after : Outside) where
                 found.0 found.1) (sym (ap (λ (a : Answer). a.status) found.2) ∙ nine),
           )
 
-      judges_here : Appends before.output.written after.output.written answer.text → (held : Held)
+      judges_here : AppendsToSink before.output.written after.output.written answer.text → (held : Held)
           → before.disk.held ≡ Some held → (run journal : List ℕ)
           → row_of_words words ≡ Some (Judge run journal)
           → IsJudged held before after run journal answer.status
@@ -353,11 +353,11 @@ module _ (words : List (List ℕ)) (before after : Outside) where
             text_is = text.1;
             entries_are = text.2;
             status_is = ap (λ (a : Answer). a.status) found.6;
-            prints = subst (λ (a : Answer). Appends before.output.written after.output.written
+            prints = subst (λ (a : Answer). AppendsToSink before.output.written after.output.written
                 a.text) found.6 whole;
           }
 
-      debugs_here : Appends before.output.written after.output.written answer.text → (held : Held)
+      debugs_here : AppendsToSink before.output.written after.output.written answer.text → (held : Held)
           → before.disk.held ≡ Some held → (run commands : List ℕ)
           → row_of_words words ≡ Some (Debug run commands)
           → IsRunDebugged held before after run commands answer.status
@@ -374,7 +374,7 @@ module _ (words : List (List ℕ)) (before after : Outside) where
             text_is = text.1;
             list_is = text.2;
             status_is = ap (λ (a : Answer). a.status) found.4;
-            prints = subst (λ (a : Answer). Appends before.output.written after.output.written
+            prints = subst (λ (a : Answer). AppendsToSink before.output.written after.output.written
                 a.text) found.4 whole;
           }
 

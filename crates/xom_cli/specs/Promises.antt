@@ -1,7 +1,7 @@
 -- What may be said of every call: its status with its cause, what it wrote, and what the owner of a
 -- guest may believe.
 use Rattle.std.specs.Prelude.{◌≡◌, ◌≢◌, ◌⊎◌, ℕ, ◌<◌, List, ◌++◌, Option, Some, None, Ok, Err, IsSomeAnd, MatchOption, option_and_then, take}
-use Rattle.xom_io.specs.Answers.{Appends, Holds, KeepsOthers, Rises}
+use Rattle.xom_io.specs.Answers.{AppendsToSink, HoldsFile, KeepsOthers, Rises}
 use Rattle.cli_base.specs.declared.answer.OutputFile.{OutputFile}
 use Rattle.cli_runs.specs.declared.parts.Parts.{Parts}
 use Rattle.cli_runs.specs.Parts.{parts_of}
@@ -52,7 +52,7 @@ IsReadBy words held name = IsPrinted words (held_without name held) (printed_tex
 -- the command reads that file
 abbrev pub SaysUnread : List (List ℕ) → Outside → Outside → Type 0
 SaysUnread words before after =
-    (name : List ℕ) × Appends before.output.written after.output.written (refusal_text (Unread name))
+    (name : List ℕ) × AppendsToSink before.output.written after.output.written (refusal_text (Unread name))
     × ((held : Held) → before.disk.held ≡ Some held → IsReadBy words held name)
 
 -- where the count of reads rose, that is answered and said, unless memory ran out; the sink may
@@ -96,25 +96,25 @@ IsSure words before after status = (held : Held) → before.disk.held ≡ Some h
 abbrev pub WritesFile : Disk → Disk → Option OutputFile → Type 0
 WritesFile before after None = after.held ≡ before.held
 WritesFile before after (Some file) =
-    Holds after.held file.name file.bytes × KeepsOthers before.held after.held file.name
+    HoldsFile after.held file.name file.bytes × KeepsOthers before.held after.held file.name
 
 -- where no count rose, and memory was found, all of the defined text and file was written
 abbrev pub WritesAll : List (List ℕ) → Outside → Outside → ℕ → Type 0
 WritesAll words before after status = (held : Held) → before.disk.held ≡ Some held
     → ¬ Rises before.reads after.reads → ¬ FailsWriting before after → status ≢ 5
-    → (p : Printed) × IsPrinted words held p × Appends before.output.written after.output.written
+    → (p : Printed) × IsPrinted words held p × AppendsToSink before.output.written after.output.written
     p.text × WritesFile before.disk after.disk p.file
 
 -- A command that was carried out wrote all of the text and the file of the outcome whose status it
 -- has, whatever the counts stand at.
 abbrev pub WritesDone : List (List ℕ) → Outside → Outside → ℕ → Type 0
 WritesDone words before after status = (held : Held) → before.disk.held ≡ Some held → IsDone status
-    → (p : Printed) × IsPrinted words held p × (p.status ≡ status) × Appends before.output.written
+    → (p : Printed) × IsPrinted words held p × (p.status ≡ status) × AppendsToSink before.output.written
     after.output.written p.text × WritesFile before.disk after.disk p.file
 
 -- the first n bytes of the text were written
 abbrev pub WritesFirst : Outside → Outside → ℕ → List ℕ → Type 0
-WritesFirst before after n text = Appends before.output.written after.output.written (take n text)
+WritesFirst before after n text = AppendsToSink before.output.written after.output.written (take n text)
 
 -- Always some first bytes of the defined text were written, or none; where a read failed, of the
 -- line that says so of a file
@@ -170,7 +170,7 @@ abbrev pub GuestsRunAlone : List (List ℕ) → Outside → Outside → ℕ → 
 GuestsRunAlone words before after status = (held : Held) → before.disk.held ≡ Some held
     → (run : List ℕ) (journal : Option (List ℕ)) → row_of_words words ≡ Some (Trace run journal)
     → IsDone status
-    → (parts : Parts) × (parts_of held run ≡ Ok parts) × Appends before.output.written
+    → (parts : Parts) × (parts_of held run ≡ Ok parts) × AppendsToSink before.output.written
     after.output.written (trace_text (report_of parts) (last_record parts))
     × WritesFile before.disk after.disk (journal_file journal (last_record parts).core.entries)
     × GuestsFollow parts
@@ -182,7 +182,7 @@ PrintsConsole words before after status = (held : Held) → before.disk.held ≡
     → (run : List ℕ) → row_of_words words ≡ Some (Run run) → IsDone status
     → (parts : Parts) × (parts_of held run ≡ Ok parts)
     × (trace_of held run None ≡ Ok (trace_answer None parts)) × (status ≡ (trace_answer None parts).status)
-    × Appends before.output.written after.output.written
+    × AppendsToSink before.output.written after.output.written
     (console_of (last_record parts).core.entries) × GuestsFollow parts
 
 -- the words ask for the run of this run file
@@ -212,7 +212,7 @@ pub record IsJudged (held : Held) (before after : Outside) (run journal : List �
   pub text_is : held journal ≡ Some text
   pub entries_are : IsJournal text entries
   pub status_is : status ≡ judge_status (judgement file.machine owners entries) entries
-  pub prints : Appends before.output.written after.output.written
+  pub prints : AppendsToSink before.output.written after.output.written
       (report_text (judgement file.machine owners entries))
 
 -- where `judge` was carried out over files that tell what they hold, `IsJudged` says what it
@@ -237,9 +237,10 @@ pub record IsRunDebugged (held : Held) (before after : Outside) (run commands : 
   pub text_is : held commands ≡ Some text
   pub list_is : AreCommands text list
   pub status_is : status ≡ 0
-  pub prints : Appends before.output.written after.output.written
+  pub prints : AppendsToSink before.output.written after.output.written
       (text_by parts.file parts.guests parts.kernel list)
 
+-- that of a call whose words are a row of `debug`, over files that tell what they hold
 abbrev pub PrintsDebug : List (List ℕ) → Outside → Outside → ℕ → Type 0
 PrintsDebug words before after status = (held : Held) → before.disk.held ≡ Some held
     → (run commands : List ℕ) → row_of_words words ≡ Some (Debug run commands) → IsDone status

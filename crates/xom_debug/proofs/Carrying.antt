@@ -11,7 +11,7 @@ use Rattle.xom_model.specs.declared.outcome.Turn.{Turn}
 use Rattle.xom_model.specs.Seen.{View, view_of}
 use Rattle.xom_model.specs.State.{Record}
 use Rattle.xom_machine.specs.Runs.{IsRun, Made}
-use Rattle.xom_machine.specs.Whole.{Whole}
+use Rattle.xom_machine.specs.Whole.{WholeMachine}
 use Rattle.xom_debug.specs.declared.command.Command.{Command}
 use Rattle.xom_debug.specs.declared.session.Session.{Session}
 use Rattle.xom_debug.specs.DebugTexts.{Place, debug_text, last_events, place, place_after_command, said, text_from}
@@ -27,7 +27,7 @@ over-or false b is = inr is
 module _ {K : Type 0} (told : K → View → Option (Turn × (List ℕ × K))) (schedule : Schedule)
     (v : Versions) (budget : ℕ) (commands : List Command) where
   -- before the first command
-  pub carried-none : (s : Session) (m : Whole) (k : K) → s.guests ≡ 0 → m.state.events ≡ 0
+  pub carried-none : (s : Session) (m : WholeMachine) (k : K) → s.guests ≡ 0 → m.state.events ≡ 0
       → CarriedOut told schedule v budget commands s m k 0 s m k []
   carried-none s m k none first = record {
     events = [];
@@ -38,18 +38,18 @@ module _ {K : Type 0} (told : K → View → Option (Turn × (List ℕ × K))) (
   }
 
   -- what is kept is what all events so far leave
-  pub carried-noted : (s : Session) (m : Whole) (k : K) (count : ℕ) (s' : Session) (m' : Whole)
+  pub carried-noted : (s : Session) (m : WholeMachine) (k : K) (count : ℕ) (s' : Session) (m' : WholeMachine)
       (k' : K) (text : List ℕ)
       → m.state.events ≡ 0 → HasNoted [] s
       → (done : CarriedOut told schedule v budget commands s m k count s' m' k' text)
       → HasNoted (events_in done.events) s'
   carried-noted s m k count s' m' k' text first has done = done.goes.noted [] (sym first) has
 
-  module _ (s : Session) (m : Whole) (k : K) (count : ℕ) (s1 : Session) (m1 : Whole) (k1 : K)
+  module _ (s : Session) (m : WholeMachine) (k : K) (count : ℕ) (s1 : Session) (m1 : WholeMachine) (k1 : K)
       (text : List ℕ) (first : m.state.events ≡ 0) (has : HasNoted [] s)
       (done : CarriedOut told schedule v budget commands s m k count s1 m1 k1 text)
       (c : Command) (more : List Command) (here : drop count commands ≡ c ∷ more)
-      (s' : Session) (m' : Whole) (k' : K) (went : Advances told schedule v budget c s1 m1 k1 s' m'
+      (s' : Session) (m' : WholeMachine) (k' : K) (went : Advances told schedule v budget c s1 m1 k1 s' m'
       k') where
     abbrev past : List Event
     past = events_in done.events
@@ -119,7 +119,7 @@ module _ {K : Type 0} (told : K → View → Option (Turn × (List ℕ × K))) (
 
   -- ---- all of them
 
-  module _ (m : Whole) (k : K) (m' : Whole) (k' : K) (text : List ℕ) (first : m.state.events ≡ 0)
+  module _ (m : WholeMachine) (k : K) (m' : WholeMachine) (k' : K) (text : List ℕ) (first : m.state.events ≡ 0)
       (debugs : Debugs told schedule v budget commands m k m' k' text) where
     whole : (rest : List Moment) → (is_run_over budget m'.state ≡ true → rest ≡ [])
         → text ≡ debug_text commands (view_of m.state) (moments v m.state debugs.done.events

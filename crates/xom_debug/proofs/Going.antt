@@ -13,7 +13,7 @@ use Rattle.xom_model.specs.Run.{poke_at}
 use Rattle.xom_model.specs.Seen.{View, view_of}
 use Rattle.xom_model.specs.State.{Record}
 use Rattle.xom_machine.specs.Runs.{IsDueWhere, IsNextWhere, IsRun, Made, guest_events_in, guests_in}
-use Rattle.xom_machine.specs.Whole.{Whole}
+use Rattle.xom_machine.specs.Whole.{WholeMachine}
 use Rattle.xom_debug.specs.declared.command.Command.{Command}
 use Rattle.xom_debug.specs.declared.command.Command.TheVariants as command
 use Rattle.xom_debug.specs.declared.session.Session.{Session}
@@ -62,7 +62,7 @@ module _ {K : Type 0} (told : K → View → Option (Turn × (List ℕ × K))) (
   next-due g r k e chunk k' None (Some slot) next = next.0
   next-due g r k e chunk k' None None next = next.0
 
-  pub goes-none : (s : Session) (m : Whole) (k : K) → Goes told schedule v s m k [] s m k
+  pub goes-none : (s : Session) (m : WholeMachine) (k : K) → Goes told schedule v s m k [] s m k
   goes-none s m k = record {
     made = refl;
     counted = omega arith;
@@ -81,7 +81,7 @@ module _ {K : Type 0} (told : K → View → Option (Turn × (List ℕ × K))) (
         (IfSome-itself (moments_from v told schedule n s.guests m.state k)));
   }
 
-  pub goes-one : (s : Session) (m : Whole) (k : K) (e : Event) (s' : Session) (m' : Whole) (k' : K)
+  pub goes-one : (s : Session) (m : WholeMachine) (k : K) (e : Event) (s' : Session) (m' : WholeMachine) (k' : K)
       → (makes : Makes told schedule v s m k e s' m' k')
       → Goes told schedule v s m k ((e, makes.chunk) ∷ []) s' m' k'
   goes-one s m k e s' m' k' makes = record {
@@ -111,8 +111,8 @@ module _ {K : Type 0} (told : K → View → Option (Turn × (List ℕ × K))) (
         makes.next)));
   }
 
-  pub goes-then : (s : Session) (m : Whole) (k : K) (a : List Made) (s1 : Session) (m1 : Whole)
-      (k1 : K) (b : List Made) (s' : Session) (m' : Whole) (k' : K)
+  pub goes-then : (s : Session) (m : WholeMachine) (k : K) (a : List Made) (s1 : Session) (m1 : WholeMachine)
+      (k1 : K) (b : List Made) (s' : Session) (m' : WholeMachine) (k' : K)
       → Goes told schedule v s m k a s1 m1 k1 → Goes told schedule v s1 m1 k1 b s' m' k'
       → Goes told schedule v s m k (a ++ b) s' m' k'
   goes-then s m k a s1 m1 k1 b s' m' k' first then = record {
@@ -157,7 +157,7 @@ module _ {K : Type 0} (told : K → View → Option (Turn × (List ℕ × K))) (
   -- ---- Up to the end of a run
 
   module _ (budget : ℕ) where
-    pub gone-none : (s : Session) (m : Whole) (k : K) → s.guests ≤ m.state.events
+    pub gone-none : (s : Session) (m : WholeMachine) (k : K) → s.guests ≤ m.state.events
         → Gone told schedule v budget s m k 0 s m k
     gone-none s m k few = record {
       events = [];
@@ -170,7 +170,7 @@ module _ {K : Type 0} (told : K → View → Option (Turn × (List ℕ × K))) (
     }
 
     -- a run at whose beginning it was over stays over
-    over-still : (s : Session) (m : Whole) (k : K) (count : ℕ) (s' : Session) (m' : Whole) (k' : K)
+    over-still : (s : Session) (m : WholeMachine) (k : K) (count : ℕ) (s' : Session) (m' : WholeMachine) (k' : K)
         → (gone : Gone told schedule v budget s m k count s' m' k') → is_run_over budget m.state ≡ true
         → is_run_over budget m'.state ≡ true
     over-still s m k count s' m' k' gone over =
@@ -179,8 +179,8 @@ module _ {K : Type 0} (told : K → View → Option (Turn × (List ℕ × K))) (
         m'.state) none gone.goes.made in
         subst (λ (r : Record). is_run_over budget r ≡ true) (sym same) over
 
-    pub gone-more : (s : Session) (m : Whole) (k : K) (count : ℕ) (s1 : Session) (m1 : Whole)
-        (k1 : K) (e : Event) (s' : Session) (m' : Whole) (k' : K)
+    pub gone-more : (s : Session) (m : WholeMachine) (k : K) (count : ℕ) (s1 : Session) (m1 : WholeMachine)
+        (k1 : K) (e : Event) (s' : Session) (m' : WholeMachine) (k' : K)
         → Gone told schedule v budget s m k count s1 m1 k1 → is_run_over budget m1.state ≡ false
         → m1.state.events < budget → Makes told schedule v s1 m1 k1 e s' m' k'
         → Gone told schedule v budget s m k (count + 1) s' m' k'
@@ -197,7 +197,7 @@ module _ {K : Type 0} (told : K → View → Option (Turn × (List ℕ × K))) (
 
     -- ---- `step`
 
-    pub stepped_all : (s : Session) (m : Whole) (k : K) (count : ℕ) (s' : Session) (m' : Whole)
+    pub stepped_all : (s : Session) (m : WholeMachine) (k : K) (count : ℕ) (s' : Session) (m' : WholeMachine)
         (k' : K)
         → Gone told schedule v budget s m k count s' m' k'
         → Advances told schedule v budget (command.Step count) s m k s' m' k'
@@ -213,7 +213,7 @@ module _ {K : Type 0} (told : K → View → Option (Turn × (List ℕ × K))) (
           (steps_made schedule v s.guests m.state gone.events m'.state gone.goes.made past rest);
     }
 
-    pub stepped_to_end : (s : Session) (m : Whole) (k : K) (count n : ℕ) (s' : Session) (m' : Whole)
+    pub stepped_to_end : (s : Session) (m : WholeMachine) (k : K) (count n : ℕ) (s' : Session) (m' : WholeMachine)
         (k' : K)
         → Gone told schedule v budget s m k count s' m' k' → count ≤ n
         → is_run_over budget m'.state ≡ true
@@ -229,13 +229,13 @@ module _ {K : Type 0} (told : K → View → Option (Turn × (List ℕ × K))) (
 
     -- ---- `until trap`
 
-    pub stayed-none : (s : Session) (m : Whole) (k : K) → s.guests ≤ m.state.events
+    pub stayed-none : (s : Session) (m : WholeMachine) (k : K) → s.guests ≤ m.state.events
         → Stayed told schedule v budget s m k 0 s m k
     unfolding gone-none
     stayed-none s m k few = record { gone = gone-none s m k few; stays = tt }
 
-    pub stayed-more : (s : Session) (m : Whole) (k : K) (count : ℕ) (s1 : Session) (m1 : Whole)
-        (k1 : K) (e : Event) (s' : Session) (m' : Whole) (k' : K)
+    pub stayed-more : (s : Session) (m : WholeMachine) (k : K) (count : ℕ) (s1 : Session) (m1 : WholeMachine)
+        (k1 : K) (e : Event) (s' : Session) (m' : WholeMachine) (k' : K)
         → Stayed told schedule v budget s m k count s1 m1 k1 → is_run_over budget m1.state ≡ false
         → m1.state.events < budget → Makes told schedule v s1 m1 k1 e s' m' k'
         → has_left e (view_of m'.state) ≡ false
@@ -247,7 +247,7 @@ module _ {K : Type 0} (told : K → View → Option (Turn × (List ℕ × K))) (
           stayed.stays e makes.chunk m'.state makes.state here;
     }
 
-    pub trapped_at_end : (s : Session) (m : Whole) (k : K) (count : ℕ) (s' : Session) (m' : Whole)
+    pub trapped_at_end : (s : Session) (m : WholeMachine) (k : K) (count : ℕ) (s' : Session) (m' : WholeMachine)
         (k' : K)
         → Stayed told schedule v budget s m k count s' m' k' → is_run_over budget m'.state ≡ true
         → Advances told schedule v budget command.UntilTrap s m k s' m' k'
@@ -260,8 +260,8 @@ module _ {K : Type 0} (told : K → View → Option (Turn × (List ℕ × K))) (
           stayed.gone.goes.made stayed.stays past rest (ends over);
     }
 
-    trap-moved : (s : Session) (m : Whole) (k : K) (count : ℕ) (s1 : Session) (m1 : Whole) (k1 : K)
-        (e : Event) (s' : Session) (m' : Whole) (k' : K)
+    trap-moved : (s : Session) (m : WholeMachine) (k : K) (count : ℕ) (s1 : Session) (m1 : WholeMachine) (k1 : K)
+        (e : Event) (s' : Session) (m' : WholeMachine) (k' : K)
         → (stayed : Stayed told schedule v budget s m k count s1 m1 k1)
         → (makes : Makes told schedule v s1 m1 k1 e s' m' k') → has_left e (view_of m'.state) ≡ true
         → (past : List Event) (rest : List Moment)
@@ -289,8 +289,8 @@ module _ {K : Type 0} (told : K → View → Option (Turn × (List ℕ × K))) (
         (view_of m'.state) left past rest
         ∙ ap (λ p. place p (view_of m'.state) rest) joined
 
-    pub trapped : (s : Session) (m : Whole) (k : K) (count : ℕ) (s1 : Session) (m1 : Whole) (k1 : K)
-        (e : Event) (s' : Session) (m' : Whole) (k' : K)
+    pub trapped : (s : Session) (m : WholeMachine) (k : K) (count : ℕ) (s1 : Session) (m1 : WholeMachine) (k1 : K)
+        (e : Event) (s' : Session) (m' : WholeMachine) (k' : K)
         → Stayed told schedule v budget s m k count s1 m1 k1 → is_run_over budget m1.state ≡ false
         → m1.state.events < budget → Makes told schedule v s1 m1 k1 e s' m' k'
         → has_left e (view_of m'.state) ≡ true
@@ -312,7 +312,7 @@ module _ {K : Type 0} (told : K → View → Option (Turn × (List ℕ × K))) (
     pub stays_there : (c : Command)
         → ((past : List Event) (view : View) (rest : List Moment)
         → place_after_command c (place past view rest) ≡ place past view rest)
-        → (s : Session) (m : Whole) (k : K) → Advances told schedule v budget c s m k s m k
+        → (s : Session) (m : WholeMachine) (k : K) → Advances told schedule v budget c s m k s m k
     stays_there c same s m k = record {
       events = [];
       goes = goes-none s m k;

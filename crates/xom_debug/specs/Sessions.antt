@@ -9,7 +9,7 @@ use Rattle.xom_model.specs.Event.{fits, on}
 use Rattle.xom_model.specs.Seen.{View, view_of}
 use Rattle.xom_model.specs.State.{Record}
 use Rattle.xom_machine.specs.Runs.{IsNext, IsRun, Made, guest_events_in, guests_in}
-use Rattle.xom_machine.specs.Whole.{Whole}
+use Rattle.xom_machine.specs.Whole.{WholeMachine}
 use Rattle.xom_debug.specs.declared.command.Command.{Command}
 use Rattle.xom_debug.specs.declared.session.Session.{Session}
 use Rattle.xom_debug.specs.DebugTexts.{debug_text, kept_events, last_events, place, place_after_command, text_from}
@@ -48,7 +48,7 @@ Stays v r (first ∷ events) =
 module _ {K : Type 0} (told : K → View → Option (Turn × (List ℕ × K))) (schedule : Schedule)
     (v : Versions) where
   -- one event was made
-  pub record Makes (s : Session) (m : Whole) (k : K) (e : Event) (s' : Session) (m' : Whole)
+  pub record Makes (s : Session) (m : WholeMachine) (k : K) (e : Event) (s' : Session) (m' : WholeMachine)
       (k' : K) : Type 0 where
     pub chunk : List ℕ
     pub going : m.state.halted ≡ false
@@ -67,7 +67,7 @@ module _ {K : Type 0} (told : K → View → Option (Turn × (List ℕ × K))) (
       (rest : List Moment) × (later ≡ Some rest) × (run ≡ moments v r events ++ rest)
 
   -- these events were made
-  pub record Goes (s : Session) (m : Whole) (k : K) (events : List Made) (s' : Session) (m' : Whole)
+  pub record Goes (s : Session) (m : WholeMachine) (k : K) (events : List Made) (s' : Session) (m' : WholeMachine)
       (k' : K) : Type 0 where
     pub made : IsRun schedule v s.guests m.state events m'.state
     pub counted : m'.state.events ≡ m.state.events + length events
@@ -81,8 +81,8 @@ module _ {K : Type 0} (told : K → View → Option (Turn × (List ℕ × K))) (
         (GoesOn m.state events (moments_from v told schedule more s'.guests m'.state k'))
 
   -- so many events were made, at most up to the end of the run
-  pub record Gone (budget : ℕ) (s : Session) (m : Whole) (k : K) (count : ℕ) (s' : Session)
-      (m' : Whole) (k' : K) : Type 0 where
+  pub record Gone (budget : ℕ) (s : Session) (m : WholeMachine) (k : K) (count : ℕ) (s' : Session)
+      (m' : WholeMachine) (k' : K) : Type 0 where
     pub events : List Made
     pub goes : Goes s m k events s' m' k'
     pub all : length events ≡ count
@@ -91,14 +91,14 @@ module _ {K : Type 0} (told : K → View → Option (Turn × (List ℕ × K))) (
     pub still : is_run_over budget m.state ≡ true → events ≡ []
 
   -- the same, and no guest left
-  pub record Stayed (budget : ℕ) (s : Session) (m : Whole) (k : K) (count : ℕ) (s' : Session)
-      (m' : Whole) (k' : K) : Type 0 where
+  pub record Stayed (budget : ℕ) (s : Session) (m : WholeMachine) (k : K) (count : ℕ) (s' : Session)
+      (m' : WholeMachine) (k' : K) : Type 0 where
     pub gone : Gone budget s m k count s' m' k'
     pub stays : Stays v m.state gone.events
 
   -- a command made its events, behind which the debugger stands where the command leaves it
-  pub record Advances (budget : ℕ) (c : Command) (s : Session) (m : Whole) (k : K) (s' : Session)
-      (m' : Whole) (k' : K) : Type 0 where
+  pub record Advances (budget : ℕ) (c : Command) (s : Session) (m : WholeMachine) (k : K) (s' : Session)
+      (m' : WholeMachine) (k' : K) : Type 0 where
     pub events : List Made
     pub goes : Goes s m k events s' m' k'
     pub within : m.state.events ≤ budget → m'.state.events ≤ budget
@@ -110,8 +110,8 @@ module _ {K : Type 0} (told : K → View → Option (Turn × (List ℕ × K))) (
 
   -- So many of the commands were carried out, and this was printed: with what the others print it
   -- is the text of all of them.
-  pub record CarriedOut (budget : ℕ) (commands : List Command) (s : Session) (m : Whole) (k : K)
-      (count : ℕ) (s' : Session) (m' : Whole) (k' : K) (text : List ℕ) : Type 0 where
+  pub record CarriedOut (budget : ℕ) (commands : List Command) (s : Session) (m : WholeMachine) (k : K)
+      (count : ℕ) (s' : Session) (m' : WholeMachine) (k' : K) (text : List ℕ) : Type 0 where
     pub events : List Made
     pub goes : Goes s m k events s' m' k'
     pub few : s'.guests ≤ m'.state.events
@@ -121,7 +121,7 @@ module _ {K : Type 0} (told : K → View → Option (Turn × (List ℕ × K))) (
         ≡ debug_text commands (view_of m.state) (moments v m.state events ++ rest)
 
   -- all of them
-  pub record Debugs (budget : ℕ) (commands : List Command) (m : Whole) (k : K) (m' : Whole) (k' : K)
+  pub record Debugs (budget : ℕ) (commands : List Command) (m : WholeMachine) (k : K) (m' : WholeMachine) (k' : K)
       (text : List ℕ) : Type 0 where
     pub first : Session
     pub last : Session

@@ -27,7 +27,7 @@ use Rattle.xom_model.proofs.Gone.{less}
 use Rattle.xom_model.proofs.RamSize.{area_stays, frames_stay}
 use Rattle.xom_model.proofs.WayPuts.{each_put}
 use Rattle.slot_stores.specs.SlotStores.{store_at}
-use Rattle.xom_private.specs.Cores.{Fits, IsMapped, Serves}
+use Rattle.xom_private.specs.Cores.{IsMapped, PartsFit, Serves}
 use Rattle.xom_guest.specs.Places.{CanStore, IsPlaceFor, IsPlaceOf, StoresIn}
 
 -- ---- What a step stores
@@ -80,7 +80,7 @@ module _ (sessions : List Session) (pages : Pages) (ways : List Way) (ram : List
     (stores : List Store) (keys new_keys : List GuestKeys) (boot slot : ℕ) (s : Session)
     (live : IsLiveIn sessions slot) (lives : is_live s.state ≡ true)
     (serves : Serves (keys_at new_keys slot) boot s) (others : OthersKeep keys new_keys slot)
-    (fits : Fits sessions pages ways ram stores keys boot) where
+    (fits : PartsFit sessions pages ways ram stores keys boot) where
   within : slot < length sessions
   within = elim (less slot (length sessions)) [
     | inl low ↦ low
@@ -119,7 +119,7 @@ module _ (sessions : List Session) (pages : Pages) (ways : List Way) (ram : List
         (fits.ready k (was k alive)))
   ]
 
-  fits_session : Fits (set sessions slot s) pages ways ram stores new_keys boot
+  fits_session : PartsFit (set sessions slot s) pages ways ram stores new_keys boot
   fits_session = record {
     frames = fits.frames;
     owned = λ k page frame is. still k (fits.owned k page frame is);
@@ -136,8 +136,8 @@ module _ (sessions : List Session) (pages : Pages) (ways : List Way) (ram new_ra
     (stores : List Store) (keys : List GuestKeys) (boot slot place : ℕ) (some : 1 ≤ slot) where
   -- what is stored leaves each way's line
   fits_stored : (kept : Stored) → StoresIn ways slot place kept
-      → Fits sessions pages ways ram stores keys boot
-      → Fits sessions pages (stored_at ways place kept) ram stores keys boot
+      → PartsFit sessions pages ways ram stores keys boot
+      → PartsFit sessions pages (stored_at ways place kept) ram stores keys boot
   fits_stored stored.Nothing its fits = fits
   fits_stored (stored.Bytes address count value) its fits =
       let new = stored_way (way_at ways place) address (low_bytes count value) in
@@ -156,8 +156,8 @@ module _ (sessions : List Session) (pages : Pages) (ways : List Way) (ram new_ra
       }
 
   -- RAM of the same size serves as well
-  fits_ram : length new_ram ≡ length ram → Fits sessions pages ways ram stores keys boot
-      → Fits sessions pages ways new_ram stores keys boot
+  fits_ram : length new_ram ≡ length ram → PartsFit sessions pages ways ram stores keys boot
+      → PartsFit sessions pages ways new_ram stores keys boot
   fits_ram size fits = record {
     frames = frames_stay pages ram new_ram size fits.frames;
     owned = fits.owned;
@@ -175,8 +175,8 @@ pub fits_retired : (sessions : List Session) (pages : Pages) (ways new_ways : Li
     → s ≡ session_after_step (session_at sessions slot) effect step
     → StoresIn ways slot place step.stored → new_ways ≡ stored_at ways place step.stored
     → length new_ram ≡ length ram
-    → Fits sessions pages ways ram stores keys boot
-    → Fits (set sessions slot s) pages new_ways new_ram stores keys boot
+    → PartsFit sessions pages ways ram stores keys boot
+    → PartsFit (set sessions slot s) pages new_ways new_ram stores keys boot
 fits_retired sessions pages ways new_ways ram new_ram stores keys boot slot place s effect step some
     runs s_is its ways_are size fits =
     let live : IsLiveIn sessions slot = ap is_live runs in
@@ -203,8 +203,8 @@ pub fits_paused : (sessions : List Session) (pages : Pages) (ways : List Way) (r
     → keys_at new_keys slot ≡ with_registers (keys_at keys slot) (register_keys s.key boot s.install
     s.epoch)
     → OthersKeep keys new_keys slot
-    → Fits sessions pages ways ram stores keys boot
-    → Fits (set sessions slot s) pages ways ram stores new_keys boot
+    → PartsFit sessions pages ways ram stores keys boot
+    → PartsFit (set sessions slot s) pages ways ram stores new_keys boot
 fits_paused sessions pages ways ram stores keys new_keys boot slot s runs s_is keys_are others
     fits =
     let live : IsLiveIn sessions slot = ap is_live runs in

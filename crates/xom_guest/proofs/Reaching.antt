@@ -16,7 +16,7 @@ use Rattle.xom_model.specs.declared.reach.Reach.{Reach}
 use Rattle.xom_model.specs.declared.reach.Reach.TheVariants as reach
 use Rattle.xom_model.specs.State.{CoreState, core_with_hashes, core_with_way, page_of, session_of, store_of, with_entry}
 use Rattle.xom_model.specs.Lines.{accept_entry, ct_place, keys_of, line_name_of, sealed_at, who_of}
-use Rattle.xom_model.specs.Access.{access, after_opening, brought, cleared_at, reach_after_placing, reach_after_victim, reach_by_cache, reach_in_frame, read_from, with_pointers}
+use Rattle.xom_model.specs.Access.{access, after_opening, brought, cleared_at, reach_after_placing, reach_after_victim, reach_by_cache, reach_by_frame, reach_in_frame, with_pointers}
 use Rattle.xom_model.specs.Guest.{after_retirement, session_after_step}
 use Rattle.xom_model.specs.Holds.{IsRunning}
 use Rattle.xom_model.proofs.AccessKept.{found-low, place_for-low}
@@ -56,7 +56,7 @@ module _ (v : Versions) (slot line : ℕ) where
   low_brought core frame (Err torn) = tt
   low_brought core frame (Ok version) =
       cond_both (version == 0) (reach_after_placing v core slot line (replicate 32 0))
-      (read_from v core slot line frame version) (λ (r : CoreState × Reach). IsLow r.1)
+      (reach_by_frame v core slot line frame version) (λ (r : CoreState × Reach). IsLow r.1)
       (λ _. low_placed core (replicate 32 0))
       (λ _. low_opened core version (ct_place frame line) (sealed_at core.ram frame line).ct
       (unsealed_line (line_name_of (who_of core slot) line version)

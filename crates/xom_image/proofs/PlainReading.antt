@@ -9,8 +9,8 @@ use Rattle.xom_base.specs.declared.image.PlainImage.{PlainImage}
 use Rattle.xom_image.specs.declared.fault.ImageFault.{ImageFault}
 use Rattle.xom_base.proofs.Images.{PlainImage-equal}
 use Rattle.xom_image.proofs.Reading.{agreed-all, fields-told, whole-fields, AnswersBy-file}
-use Rattle.xom_image.specs.Fields.{AnswersFile, IsFormat, IsWhole, common_prefix_size, fields_at, number_in_file}
-use Rattle.xom_image.specs.PlainFiles.{ImageAnswers, IsFirstBad, IsPlainFile, plain_file, plain_format, plain_head, plain_image_at}
+use Rattle.xom_image.specs.Fields.{AnswersFile, IsFormat, IsWholeFile, common_prefix_size, fields_at, number_in_file}
+use Rattle.xom_image.specs.PlainFiles.{ImageAnswers, IsLeastBadOffset, IsPlainFile, plain_file, plain_format, plain_head, plain_image_at}
 
 pub plain_is_format : IsFormat plain_format
 plain_is_format = record { named = refl; behind = omega arith; before = omega arith }
@@ -50,7 +50,7 @@ pieces file =
     ∙ take-append-drop 8 file)
 
 -- a file that breaks no rule is that of its own parts
-IsWhole-file : (file : List ℕ) → ((i : ℕ) → get_or file i 0 < 256) → IsWhole plain_format file
+IsWhole-file : (file : List ℕ) → ((i : ℕ) → get_or file i 0 < 256) → IsWholeFile plain_format file
     → file ≡ plain_file (number_in_file file 8) (drop 16 file)
 unfolding plain_file
 IsWhole-file file bytes whole =
@@ -64,7 +64,7 @@ IsWhole-file file bytes whole =
 -- What is read of a file is in the grammar, and keeps the rules of an image.
 module _ (file : List ℕ) (entry count : ℕ)
     (is : fields_at plain_format file ≡ Ok (entry, count)) where
-  breaks_none : IsWhole plain_format file
+  breaks_none : IsWholeFile plain_format file
   breaks_none = (fields-told plain_format file (entry, count) plain_is_format is).0
 
   entry_told : entry ≡ number_in_file file 8
@@ -90,7 +90,7 @@ module _ (file : List ℕ) (entry count : ℕ)
 
 -- the file of an image breaks no rule
 plain_file-whole : (entry : ℕ) (bytes : List ℕ) → entry % 4 ≡ 0 → entry < 2 ^ 20
-    → length bytes ≤ 2 ^ 20 → IsWhole plain_format (plain_file entry bytes)
+    → length bytes ≤ 2 ^ 20 → IsWholeFile plain_format (plain_file entry bytes)
 unfolding plain_file number_in_file common_prefix_size
 plain_file-whole entry bytes aligned private fits =
     let entry_is : number_in_file (plain_file entry bytes) 8 ≡ entry = from_be_bytes-to_be_bytes_4 entry
@@ -126,7 +126,7 @@ IsPlainFile-read file image is =
 
 pub Answers-file : (file : List ℕ) (result : Result PlainImage ImageFault)
     → IfOk result (IsPlainFile file) → ImageAnswers (plain_image_at file) result
-    → AnswersFile (IsPlainFile file) (IsFirstBad file) result
+    → AnswersFile (IsPlainFile file) (IsLeastBadOffset file) result
 unfolding plain_image_at
 Answers-file file =
     AnswersBy-file (λ (image : PlainImage). (image.entry, image.bytes))

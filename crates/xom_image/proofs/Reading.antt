@@ -8,7 +8,7 @@ use Rattle.xom_base.specs.Results.{◌>>=◌}
 use Rattle.xom_image.specs.declared.fault.ImageFault.{ImageFault}
 use Rattle.xom_image.specs.declared.fault.ImageFault.TheVariants as fault
 use Rattle.xom_image.specs.declared.fields.Format.{Format}
-use Rattle.xom_image.specs.Fields.{AnswersBy, AnswersFile, DiffersAt, IsBadAt, IsFirstBadOf, IsFormat, IsWhole, common_prefix_size, count_of, entry_of_file, fields_at, is_entry_address, size_of_file}
+use Rattle.xom_image.specs.Fields.{AnswersBy, AnswersFile, DiffersAt, IsBadOffset, IsFormat, IsLeastBadOffsetOf, IsWholeFile, common_prefix_size, count_of, entry_of_file, fields_at, is_entry_address, size_of_file}
 
 -- ---- Where two texts agree
 
@@ -93,11 +93,11 @@ differs-above format file n (within, there, differs) =
 -- what is read is right: the file's own fields where it breaks no rule, else its first bad place
 abbrev pub IsRight : Format → List ℕ → Result (ℕ × ℕ) ℕ → Type 0
 IsRight format file (Ok fields) =
-    IsWhole format file × (fields ≡ (entry_of_file format file, count_of format file))
-IsRight format file (Err n) = IsFirstBadOf format file n
+    IsWholeFile format file × (fields ≡ (entry_of_file format file, count_of format file))
+IsRight format file (Err n) = IsLeastBadOffsetOf format file n
 
 module _ (format : Format) (file : List ℕ) (is_format : IsFormat format) where
-  bad_head : common_prefix_size format.head file < 8 → IsFirstBadOf format file (common_prefix_size format.head file)
+  bad_head : common_prefix_size format.head file < 8 → IsLeastBadOffsetOf format file (common_prefix_size format.head file)
   bad_head short =
       let within : common_prefix_size format.head file ≤ length file = (agreed_within format.head file).1 in
       record {
@@ -109,7 +109,7 @@ module _ (format : Format) (file : List ℕ) (is_format : IsFormat format) where
       }
 
   no_entry : common_prefix_size format.head file ≡ 8 → length file < format.entry + 4
-      → IsFirstBadOf format file (length file)
+      → IsLeastBadOffsetOf format file (length file)
   no_entry head short = record {
     bad = inr (inr (inr (inl (refl, omega arith))));
     least = λ m bad. grind (arith, differs-above);
@@ -117,7 +117,7 @@ module _ (format : Format) (file : List ℕ) (is_format : IsFormat format) where
 
   bad_entry : common_prefix_size format.head file ≡ 8 → format.entry + 4 ≤ length file
       → (entry_of_file format file % 4 ≢ 0) ⊎ (2 ^ 20 ≤ entry_of_file format file)
-      → IsFirstBadOf format file format.entry
+      → IsLeastBadOffsetOf format file format.entry
   bad_entry head there bad = record {
     bad = inr (inl (refl, there, bad));
     least = λ m bad. grind (arith, differs-above);
@@ -125,7 +125,7 @@ module _ (format : Format) (file : List ℕ) (is_format : IsFormat format) where
 
   no_count : common_prefix_size format.head file ≡ 8 → is_entry_address (entry_of_file format file) ≡ true
       → format.entry + 4 ≤ length file → length file < format.entry + 8
-      → IsFirstBadOf format file (length file)
+      → IsLeastBadOffsetOf format file (length file)
   no_count head entry there short = record {
     bad = inr (inr (inr (inl (refl, omega arith))));
     least = λ m bad. grind (arith, differs-above, is_entry-parts);
@@ -133,7 +133,7 @@ module _ (format : Format) (file : List ℕ) (is_format : IsFormat format) where
 
   bad_count : common_prefix_size format.head file ≡ 8 → is_entry_address (entry_of_file format file) ≡ true
       → format.entry + 8 ≤ length file → format.most < count_of format file
-      → IsFirstBadOf format file (format.entry + 4)
+      → IsLeastBadOffsetOf format file (format.entry + 4)
   bad_count head entry there bad = record {
     bad = inr (inr (inl (refl, there, bad)));
     least = λ m bad. grind (arith, differs-above, is_entry-parts);
@@ -142,7 +142,7 @@ module _ (format : Format) (file : List ℕ) (is_format : IsFormat format) where
   other_size : common_prefix_size format.head file ≡ 8 → is_entry_address (entry_of_file format file) ≡ true
       → format.entry + 8 ≤ length file → count_of format file ≤ format.most
       → (length file ≡ size_of_file format file → ⊥)
-      → IsFirstBadOf format file (min (length file) (size_of_file format file))
+      → IsLeastBadOffsetOf format file (min (length file) (size_of_file format file))
   other_size head entry there most differs = record {
     bad = elim (cases_lt (length file) (size_of_file format file)) [
       | inl early ↦ inr (inr (inr (inl (omega arith, early))))
@@ -185,19 +185,19 @@ module _ (format : Format) (file : List ℕ) (is_format : IsFormat format) where
       (λ entry. bad_entry head first (is_entry-not (entry_of_file format file) entry))))
 
 right-read : (format : Format) (file : List ℕ) (read : Result (ℕ × ℕ) ℕ) → IsRight format file read
-    → IfOk read (λ _. IsWhole format file)
+    → IfOk read (λ _. IsWholeFile format file)
 right-read format file (Ok fields) right = right.0
 right-read format file (Err n) right = tt
 
 -- a file whose fields are read breaks no rule
 pub fields_whole : (format : Format) (file : List ℕ) → IsFormat format
-    → IfOk (fields_at format file) (λ _. IsWhole format file)
+    → IfOk (fields_at format file) (λ _. IsWholeFile format file)
 fields_whole format file is_format =
     right-read format file (fields_at format file) (fields-right format file is_format)
 
 right-told : (format : Format) (file : List ℕ) (read : Result (ℕ × ℕ) ℕ) (fields : ℕ × ℕ)
     → IsRight format file read → read ≡ Ok fields
-    → IsWhole format file × (fields ≡ (entry_of_file format file, count_of format file))
+    → IsWholeFile format file × (fields ≡ (entry_of_file format file, count_of format file))
 right-told format file (Ok found) fields right is =
     let same : fields ≡ found = cc in (right.0, same ∙ right.1)
 right-told format file (Err n) fields right is = absurd (cc)
@@ -205,31 +205,31 @@ right-told format file (Err n) fields right is = absurd (cc)
 -- and they are its own
 pub fields-told : (format : Format) (file : List ℕ) (fields : ℕ × ℕ) → IsFormat format
     → fields_at format file ≡ Ok fields
-    → IsWhole format file × (fields ≡ (entry_of_file format file, count_of format file))
+    → IsWholeFile format file × (fields ≡ (entry_of_file format file, count_of format file))
 fields-told format file fields is_format is =
     right-told format file (fields_at format file) fields (fields-right format file is_format) is
 
 -- a file that breaks no rule is bad nowhere
-IsWhole-good : (format : Format) (file : List ℕ) (n : ℕ) → IsFormat format → IsWhole format file
-    → IsBadAt format file n → ⊥
+IsWhole-good : (format : Format) (file : List ℕ) (n : ℕ) → IsFormat format → IsWholeFile format file
+    → IsBadOffset format file n → ⊥
 IsWhole-good format file n is_format whole bad = grind (arith, differs-above)
 
 right-whole : (format : Format) (file : List ℕ) (read : Result (ℕ × ℕ) ℕ) → IsFormat format
-    → IsRight format file read → IsWhole format file
+    → IsRight format file read → IsWholeFile format file
     → read ≡ Ok (entry_of_file format file, count_of format file)
 right-whole format file (Ok fields) is_format right whole = ap Ok right.1
 right-whole format file (Err n) is_format right whole =
     absurd (IsWhole-good format file n is_format whole right.bad)
 
 -- the fields of a file that breaks no rule
-pub whole-fields : (format : Format) (file : List ℕ) → IsFormat format → IsWhole format file
+pub whole-fields : (format : Format) (file : List ℕ) → IsFormat format → IsWholeFile format file
     → fields_at format file ≡ Ok (entry_of_file format file, count_of format file)
 whole-fields format file is_format whole =
     right-whole format file (fields_at format file) is_format (fields-right format file is_format)
     whole
 
 right-bad : (format : Format) (file : List ℕ) (read : Result (ℕ × ℕ) ℕ) (n : ℕ) → IsFormat format
-    → IsRight format file read → IsFirstBadOf format file n → read ≡ Err n
+    → IsRight format file read → IsLeastBadOffsetOf format file n → read ≡ Err n
 right-bad format file (Ok fields) n is_format right first =
     absurd (IsWhole-good format file n is_format right.0 first.bad)
 right-bad format file (Err m) n is_format right first =
@@ -240,14 +240,14 @@ right-bad format file (Err m) n is_format right first =
 
 -- the first bad place is found
 pub bad-fields : (format : Format) (file : List ℕ) (n : ℕ) → IsFormat format
-    → IsFirstBadOf format file n → fields_at format file ≡ Err n
+    → IsLeastBadOffsetOf format file n → fields_at format file ≡ Err n
 bad-fields format file n is_format first =
     right-bad format file (fields_at format file) n is_format (fields-right format file is_format)
     first
 
 -- and nothing else is taken for it
 pub fields-bad : (format : Format) (file : List ℕ) (n : ℕ) → IsFormat format
-    → fields_at format file ≡ Err n → IsFirstBadOf format file n
+    → fields_at format file ≡ Err n → IsLeastBadOffsetOf format file n
 fields-bad format file n is_format is = rw is at (fields-right format file is_format)
 
 -- ---- What a reader answers
@@ -307,13 +307,13 @@ pub AnswersBy-file : {X Image : Type 0} (parts : Image → X)
     ≡ Ok (parts image))
     → (result : Result Image ImageFault) → IfOk result IsOf
     → AnswersBy parts (fields_at format file >>= (λ fields. Ok (make fields))) result
-    → AnswersFile IsOf (IsFirstBadOf format file) result
+    → AnswersFile IsOf (IsLeastBadOffsetOf format file) result
 AnswersBy-file parts equal format is_format file make IsOf is_read result found answers = record {
   found = found;
   only = λ image is. AnswersBy-only parts (fields_at format file >>= (λ fields. Ok (make fields)))
       equal image (is_read image is) result answers;
   bad = AnswersBy-bad parts (fields_at format file >>= (λ fields. Ok (make fields)))
-      (IsFirstBadOf format file)
+      (IsLeastBadOffsetOf format file)
       (λ n is. fields-bad format file n is_format (made-bad make (fields_at format file) n is))
       (λ n first. ap (λ read. read >>= (λ fields. Ok (make fields)))
       (bad-fields format file n is_format first))

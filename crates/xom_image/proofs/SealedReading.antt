@@ -13,7 +13,7 @@ use Rattle.xom_image.proofs.Images.{SealedImage-equal}
 use Rattle.xom_seal.proofs.WholeLines.{AreWhole}
 use Rattle.xom_image.proofs.LineBytes.{length-lines_at, lines_at-all, lines_at-lines, lines_at-whole, lines-length}
 use Rattle.xom_image.proofs.Reading.{agreed-all, fields-told, whole-fields, AnswersBy-file}
-use Rattle.xom_image.specs.Fields.{AnswersFile, IsFormat, IsWhole, common_prefix_size, fields_at, number_in_file}
+use Rattle.xom_image.specs.Fields.{AnswersFile, IsFormat, IsWholeFile, common_prefix_size, fields_at, number_in_file}
 use Rattle.xom_image.specs.SealedFiles.{AnswersSealed, IsFirstBadSealed, IsSealedFile, envelope_of_file, line_bytes, lines_at, sealed_file, sealed_format, sealed_head, sealed_image_at}
 
 pub sealed_is_format : IsFormat sealed_format
@@ -31,7 +31,7 @@ pieces file =
     ∙ take-append-drop 8 file
 
 -- a file that breaks no rule is that of its own parts
-pub IsWhole-sealed_file : (file : List ℕ) → IsWhole sealed_format file
+pub IsWhole-sealed_file : (file : List ℕ) → IsWholeFile sealed_format file
     → file ≡ sealed_file (envelope_of_file file) (lines_at file (number_in_file file 28))
 unfolding sealed_file
 IsWhole-sealed_file file whole =
@@ -62,7 +62,7 @@ lines_in-file file = ap (from_be_bytes w32) (field-in file 20 68 refl (omega ari
 -- What is read of a file keeps the rules of an image.
 module _ (file : List ℕ) (entry count : ℕ)
     (is : fields_at sealed_format file ≡ Ok (entry, count)) where
-  breaks_none : IsWhole sealed_format file
+  breaks_none : IsWholeFile sealed_format file
   breaks_none = (fields-told sealed_format file (entry, count) sealed_is_format is).0
 
   count_told : count ≡ number_in_file file 28
@@ -146,7 +146,7 @@ module _ (envelope : List ℕ) (lines : List SealedLine) (sized : length envelop
 
 -- the file of an image breaks no rule
 sealed_file-whole : (image : SealedImage)
-    → IsWhole sealed_format (sealed_file image.envelope image.lines)
+    → IsWholeFile sealed_format (sealed_file image.envelope image.lines)
 sealed_file-whole image =
     let entry : number_in_file (sealed_file image.envelope image.lines) 24 ≡ entry_of_envelope image.envelope =
     entry_is image.envelope image.lines image.sized in

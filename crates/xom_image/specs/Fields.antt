@@ -55,16 +55,16 @@ abbrev pub GoesOnAt : Format → List ℕ → ℕ → Type 0
 GoesOnAt format file n = (n ≡ size_of_file format file) × (n < length file)
 
 -- the file is bad at this place, for one of these causes
-abbrev pub IsBadAt : Format → List ℕ → ℕ → Type 0
-IsBadAt format file n =
+abbrev pub IsBadOffset : Format → List ℕ → ℕ → Type 0
+IsBadOffset format file n =
     DiffersAt format file n
     ⊎ (HasBadEntryAt format file n
     ⊎ (HasBadCountAt format file n ⊎ (EndsEarlyAt format file n ⊎ GoesOnAt format file n)))
 
 -- this is the least place at which the file is bad
-pub record IsFirstBadOf (format : Format) (file : List ℕ) (n : ℕ) : Type 0 where
-  pub bad : IsBadAt format file n
-  pub least : (m : ℕ) → IsBadAt format file m → n ≤ m
+pub record IsLeastBadOffsetOf (format : Format) (file : List ℕ) (n : ℕ) : Type 0 where
+  pub bad : IsBadOffset format file n
+  pub least : (m : ℕ) → IsBadOffset format file m → n ≤ m
 
 -- ---- The same as one function, to compute with
 
@@ -89,7 +89,7 @@ fields_at format file =
     else Err format.entry))
 
 -- a file that breaks no rule
-pub record IsWhole (format : Format) (file : List ℕ) : Type 0 where
+pub record IsWholeFile (format : Format) (file : List ℕ) : Type 0 where
   pub head : common_prefix_size format.head file ≡ 8
   pub aligned : entry_of_file format file % 4 ≡ 0
   pub private : entry_of_file format file < window_size

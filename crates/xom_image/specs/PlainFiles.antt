@@ -7,7 +7,7 @@ use Rattle.xom_base.specs.Sizes.{window_size}
 use Rattle.xom_base.specs.declared.image.PlainImage.{PlainImage}
 use Rattle.xom_image.specs.declared.fault.ImageFault.{ImageFault}
 use Rattle.xom_image.specs.declared.fields.Format.{Format}
-use Rattle.xom_image.specs.Fields.{AnswersBy, IsFirstBadOf, fields_at}
+use Rattle.xom_image.specs.Fields.{AnswersBy, IsLeastBadOffsetOf, fields_at}
 
 -- ---- What a file is
 
@@ -31,8 +31,8 @@ abbrev pub plain_format : Format
 plain_format = record { head = plain_head; entry = 8; start = 16; part = 1; most = window_size }
 
 -- this is the least place at which the file is bad
-abbrev pub IsFirstBad : List ℕ → ℕ → Type 0
-IsFirstBad file n = IsFirstBadOf plain_format file n
+abbrev pub IsLeastBadOffset : List ℕ → ℕ → Type 0
+IsLeastBadOffset file n = IsLeastBadOffsetOf plain_format file n
 
 -- ---- Both as one function, to compute with
 

@@ -8,7 +8,7 @@ use Rattle.xom_seal.specs.declared.line.SealedLine.{SealedLine}
 use Rattle.xom_image.specs.declared.fault.ImageFault.{ImageFault}
 use Rattle.xom_image.specs.declared.fields.Format.{Format}
 use Rattle.xom_seal.specs.declared.sealed_image.SealedImage.{SealedImage}
-use Rattle.xom_image.specs.Fields.{AnswersBy, IsFirstBadOf, fields_at}
+use Rattle.xom_image.specs.Fields.{AnswersBy, IsLeastBadOffsetOf, fields_at}
 
 -- ---- What a file is
 
@@ -37,7 +37,7 @@ sealed_format = record { head = sealed_head; entry = 24; start = 96; part = 64; 
 
 -- This is the least place at which the file is bad. No tag makes it bad.
 abbrev pub IsFirstBadSealed : List ℕ → ℕ → Type 0
-IsFirstBadSealed file n = IsFirstBadOf sealed_format file n
+IsFirstBadSealed file n = IsLeastBadOffsetOf sealed_format file n
 
 -- ---- Both as one function, to compute with
 

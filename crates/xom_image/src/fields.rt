@@ -1,5 +1,5 @@
 ghost use Rattle.std.specs.Prelude.{◌≡◌, ◌+◌, ◌*◌, ◌≤◌, IfOk, SomeIff, length};
-ghost use Rattle.xom_image.specs.Fields.{IsFormat, IsWhole, common_prefix_size as agreed_of, fields_at, number_in_file as number_of};
+ghost use Rattle.xom_image.specs.Fields.{IsFormat, IsWholeFile, common_prefix_size as agreed_of, fields_at, number_in_file as number_of};
 
 /// The size of private memory in bytes, which no entry reaches.
 const PRIVATE: u32 = 1 << 20;
@@ -26,7 +26,7 @@ pub struct Format {
 pub fn fields(format: &Format, file: &[u8]) -> Result<(u32, u32), u64>
     requires { IsFormat format.now }
     ensures value { result ≡ fields_at format.now file.now }
-    ensures whole { IfOk result (λ _. IsWhole format.now file.now) }
+    ensures whole { IfOk result (λ _. IsWholeFile format.now file.now) }
 {
     judged(format, file)
 }

@@ -1,6 +1,6 @@
 ghost use Rattle.std.specs.Prelude.{◌≡◌, IfOk};
 ghost use Rattle.xom_image.specs.Fields.{AnswersFile};
-ghost use Rattle.xom_image.specs.PlainFiles.{ImageAnswers, IsFirstBad, IsPlainFile, plain_file, plain_image_at};
+ghost use Rattle.xom_image.specs.PlainFiles.{ImageAnswers, IsLeastBadOffset, IsPlainFile, plain_file, plain_image_at};
 
 use crate::ImageFault;
 use crate::fields::{Format, fields};
@@ -23,7 +23,7 @@ const PLAIN: Format = Format {
 pub fn read_plain(alloc: Global, bytes: &ByteList) -> Result<PlainImage, ImageFault>
     // What is read is in the format, and what is in the format is read, unless memory ran out. The place
     // that is answered is just the first bad one.
-    ensures file { AnswersFile (IsPlainFile bytes.now) (IsFirstBad bytes.now) result }
+    ensures file { AnswersFile (IsPlainFile bytes.now) (IsLeastBadOffset bytes.now) result }
     ensures value { ImageAnswers (plain_image_at bytes.now) result }
 {
     image_of(alloc, bytes.as_slice())

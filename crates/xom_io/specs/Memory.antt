@@ -33,14 +33,14 @@ abbrev pub plan_after_call : Plan → Plan
 plan_after_call plan = record { failing = plan.failing; next = call_after plan.next }
 
 -- The files: what names hold, the plan, and the counts of faults.
-pub record Kept : Type 0 where
+pub record KeptByFiles : Type 0 where
   pub names : Named
   pub plan : Plan
   pub reads : ℕ
   pub writes : ℕ
 
 -- files in memory tell what each name holds
-abbrev pub memory_tells : Kept → FilesTold
+abbrev pub memory_tells : KeptByFiles → FilesTold
 memory_tells files = Some (get files.names)
 
 -- The sink: the bytes written, for how many more there is room, the plan, and the count of faults.
@@ -60,7 +60,7 @@ abbrev pub after_put : Plan → List ℕ → Plan
 after_put plan piece = if length piece == 0 then plan else plan_after_call plan
 
 -- how a proof tells two values of these files apart
-abbrev pub kept_code : Coded Kept
+abbrev pub kept_code : Coded KeptByFiles
 kept_code =
     code_by (Named × ((List ℕ × Option ℕ) × (ℕ × ℕ)))
     (coded× (code (coded_list coded_ℕ) (coded_list coded_ℕ))

@@ -22,9 +22,9 @@ pub struct MemFiles {
 }
 
 impl Model for MemFiles {
-    ghost use Rattle.xom_io.specs.Memory.{Kept, kept_code};
+    ghost use Rattle.xom_io.specs.Memory.{KeptByFiles, kept_code};
 
-    ghost Value = { Kept };
+    ghost Value = { KeptByFiles };
 
     ghost coded = { kept_code };
 

@@ -38,7 +38,7 @@ use Rattle.xom_model.proofs.Turns.{events_keep, ran_on-core, running-runs, runni
 use Rattle.xom_seen.proofs.Settled.{stores_stay}
 use Rattle.xom_machine.specs.Kept.{FaultsAreAlone, KeepsHolding, LeavesRefused}
 use Rattle.xom_machine.specs.Runs.{bytes_of_event}
-use Rattle.xom_machine.specs.Whole.{InTime, Whole, with_loaded}
+use Rattle.xom_machine.specs.Whole.{InTime, WholeMachine, with_loaded}
 
 -- ---- An event's bytes
 
@@ -325,7 +325,7 @@ module _ (v : Versions) (Stands : StandsFor) (law : VersionLaw v Stands) where
       absurd (cc)
 
 -- bytes whose range RAM doesn't hold change nothing
-pub loaded-refused : (m : Whole) (address : ℕ) (bytes : List ℕ)
+pub loaded-refused : (m : WholeMachine) (address : ℕ) (bytes : List ℕ)
     → ram_holds_range m.state.core.ram address (length bytes) ≡ false → with_loaded m address bytes ≡ m
 unfolding ram_after_write
 loaded-refused m address bytes refused =

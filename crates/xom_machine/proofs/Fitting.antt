@@ -7,12 +7,12 @@ use Rattle.slot_keys.specs.GuestKeys.{GuestKeys}
 use Rattle.xom_versions.specs.Store.{Store}
 use Rattle.xom_model.proofs.RamSize.{area_stays, frames_stay}
 use Rattle.slot_stores.specs.SlotStores.{store_at}
-use Rattle.xom_private.specs.Cores.{Fits}
+use Rattle.xom_private.specs.Cores.{PartsFit}
 
 pub fits_ram : (sessions : List Session) (pages : Pages) (ways : List Way) (ram new : List ℕ)
     (stores : List Store) (keys : List GuestKeys) (boot : ℕ)
-    → length new ≡ length ram → Fits sessions pages ways ram stores keys boot
-    → Fits sessions pages ways new stores keys boot
+    → length new ≡ length ram → PartsFit sessions pages ways ram stores keys boot
+    → PartsFit sessions pages ways new stores keys boot
 fits_ram sessions pages ways ram new stores keys boot size fits = record {
   frames = frames_stay pages ram new size fits.frames;
   owned = fits.owned;

@@ -27,7 +27,7 @@ use Rattle.xom_model.proofs.Onward.{Onward, onward_event, onward_none, onward_on
 use Rattle.xom_model.proofs.Turns.{events_keep}
 use Rattle.xom_machine.specs.Kept.{KeepsHolding}
 use Rattle.xom_machine.specs.Runs.{EndsBy, IsDue, IsDueWhere, IsNextWhere, IsRun, Made, Ran, SoFar, WentOn, bytes_of_event, guest_events_in, guests_in}
-use Rattle.xom_machine.specs.Whole.{Whole}
+use Rattle.xom_machine.specs.Whole.{WholeMachine}
 use Rattle.xom_machine.proofs.Events.{on-bytes, on-events}
 
 -- ---- Events alone
@@ -225,7 +225,7 @@ module _ {K : Type 0} (told : K → View → Option (Turn × (List ℕ × K))) (
     run-none guests r k = refl
 
     -- before the first event
-    pub starts : (first : Whole) (k0 : K) → first.state.events ≡ 0
+    pub starts : (first : WholeMachine) (k0 : K) → first.state.events ≡ 0
         → SoFar told schedule v first k0 0 0 first k0
     starts first k0 none = record {
       events = [];
@@ -243,8 +243,8 @@ module _ {K : Type 0} (told : K → View → Option (Turn × (List ℕ × K))) (
     }
 
     -- after one more event
-    pub goes_on : (first : Whole) (k0 : K) (count guests : ℕ) (m : Whole) (k : K) (guests' : ℕ)
-        (m' : Whole) (k' : K)
+    pub goes_on : (first : WholeMachine) (k0 : K) (count guests : ℕ) (m : WholeMachine) (k : K) (guests' : ℕ)
+        (m' : WholeMachine) (k' : K)
         → m.state.halted ≡ false
         → SoFar told schedule v first k0 count guests m k
         → WentOn told schedule v guests m k guests' m' k'
@@ -288,7 +288,7 @@ module _ {K : Type 0} (told : K → View → Option (Turn × (List ℕ × K))) (
     Some-same r s same = cc
 
     -- where the kernel tells its turns, the record is the one to which so many events lead
-    pub told_so_far : (first : Whole) (k0 : K) (count guests : ℕ) (m : Whole) (k : K)
+    pub told_so_far : (first : WholeMachine) (k0 : K) (count guests : ℕ) (m : WholeMachine) (k : K)
         → SoFar told schedule v first k0 count guests m k
         → IfSome (run_from v told schedule count 0 first.state k0) (λ r. m.state ≡ r)
     told_so_far first k0 count guests m k far =
@@ -301,7 +301,7 @@ module _ {K : Type 0} (told : K → View → Option (Turn × (List ℕ × K))) (
         (far.turns 0))
 
     -- nor do more events lead to another one, once it is over
-    over_so_far : (budget : ℕ) (first : Whole) (k0 : K) (count guests : ℕ) (m : Whole) (k : K)
+    over_so_far : (budget : ℕ) (first : WholeMachine) (k0 : K) (count guests : ℕ) (m : WholeMachine) (k : K)
         → SoFar told schedule v first k0 count guests m k → count ≤ budget → m.state.halted ≡ true
         → IfSome (run_from v told schedule budget 0 first.state k0) (λ r. m.state ≡ r)
     over_so_far budget first k0 count guests m k far below over =
@@ -316,7 +316,7 @@ module _ {K : Type 0} (told : K → View → Option (Turn × (List ℕ × K))) (
         (far.turns (budget - count)))
 
     -- and so many as the budget allows lead to no other
-    whole-at : (budget : ℕ) (first : Whole) (k0 : K) (count guests : ℕ) (m : Whole) (k : K)
+    whole-at : (budget : ℕ) (first : WholeMachine) (k0 : K) (count guests : ℕ) (m : WholeMachine) (k : K)
         (end : RunEnd)
         → SoFar told schedule v first k0 count guests m k
         → EndsBy told schedule v budget count m end → ¬ (end ≡ NoMemory)
@@ -330,7 +330,7 @@ module _ {K : Type 0} (told : K → View → Option (Turn × (List ℕ × K))) (
         ends.0 (told_so_far first k0 count guests m k far)
     whole-at budget first k0 count guests m k NoMemory far ends found = absurd (found refl)
 
-    pub told_whole : (budget : ℕ) (first : Whole) (k0 : K) (end : RunEnd) (last : Whole)
+    pub told_whole : (budget : ℕ) (first : WholeMachine) (k0 : K) (end : RunEnd) (last : WholeMachine)
         → Ran told schedule v budget first k0 end last → ¬ (end ≡ NoMemory)
         → IfSome (run_from v told schedule budget 0 first.state k0) (λ r. last.state ≡ r)
     told_whole budget first k0 end last ran found =

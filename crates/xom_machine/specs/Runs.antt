@@ -13,7 +13,7 @@ use Rattle.xom_model.specs.Run.{event_of, is_flagged, poke_at, run_from}
 use Rattle.xom_model.specs.Seen.{View, view_of}
 use Rattle.xom_model.specs.State.{Record}
 use Rattle.xom_private.specs.declared.parts.TheConstants.{EVENT_ROOM}
-use Rattle.xom_machine.specs.Whole.{Whole}
+use Rattle.xom_machine.specs.Whole.{WholeMachine}
 
 -- ---- Events alone
 
@@ -92,7 +92,7 @@ module _ {K : Type 0} (told : K → View → Option (Turn × (List ℕ × K))) (
 
   module _ (v : Versions) where
     -- one event of a run, on the machine with its room
-    pub record WentOn (guests : ℕ) (m : Whole) (k : K) (guests' : ℕ) (m' : Whole) (k' : K) : Type
+    pub record WentOn (guests : ℕ) (m : WholeMachine) (k : K) (guests' : ℕ) (m' : WholeMachine) (k' : K) : Type
         0 where
       pub event : Event
       pub chunk : List ℕ
@@ -103,7 +103,7 @@ module _ {K : Type 0} (told : K → View → Option (Turn × (List ℕ × K))) (
       pub room : m.spare ≤ m'.spare + EVENT_ROOM
 
     -- what a run from (first, k0) has come to after so many events, guest events among them
-    pub record SoFar (first : Whole) (k0 : K) (count guests : ℕ) (m : Whole) (k : K) : Type 0 where
+    pub record SoFar (first : WholeMachine) (k0 : K) (count guests : ℕ) (m : WholeMachine) (k : K) : Type 0 where
       pub events : List Made
       pub made : IsRun schedule v 0 first.state events m.state
       pub all : length events ≡ count
@@ -118,7 +118,7 @@ module _ {K : Type 0} (told : K → View → Option (Turn × (List ℕ × K))) (
       pub room : first.spare ≤ m.spare + count * EVENT_ROOM
 
     -- how a run ends, within so many events
-    abbrev pub EndsBy : ℕ → ℕ → Whole → RunEnd → Type 0
+    abbrev pub EndsBy : ℕ → ℕ → WholeMachine → RunEnd → Type 0
     EndsBy budget count m Halted =
         (count ≤ budget) × (m.state.halted ≡ true) × (m.state.fault ≡ None)
     EndsBy budget count m (KernelFault at why) =
@@ -128,7 +128,7 @@ module _ {K : Type 0} (told : K → View → Option (Turn × (List ℕ × K))) (
         (count < budget) × (m.state.halted ≡ false) × (m.spare < EVENT_ROOM)
 
     -- a whole run
-    pub record Ran (budget : ℕ) (first : Whole) (k0 : K) (end : RunEnd) (last : Whole) : Type
+    pub record Ran (budget : ℕ) (first : WholeMachine) (k0 : K) (end : RunEnd) (last : WholeMachine) : Type
         0 where
       pub guests : ℕ
       pub kernel : K

@@ -7,7 +7,7 @@ use Rattle.xom_model.specs.Counts.{AreCounted}
 use Rattle.xom_model.specs.Stops.{StopsHold}
 
 -- its record, and the bytes that its journal has to spare
-pub record Whole : Type 0 where
+pub record WholeMachine : Type 0 where
   pub state : Record
   pub spare : ℕ
 
@@ -24,7 +24,7 @@ pub record InTime (r : Record) : Type 0 where
   pub going : r.events ≡ 0 → r.halted ≡ false
 
 -- the machine with bytes put into RAM, or as it is where RAM doesn't hold their range
-abbrev pub with_loaded : Whole → ℕ → List ℕ → Whole
+abbrev pub with_loaded : WholeMachine → ℕ → List ℕ → WholeMachine
 with_loaded m address bytes =
     record m {
       state = record m.state {

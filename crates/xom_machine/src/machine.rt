@@ -44,9 +44,9 @@ pub struct Machine<V: VersionStore> {
 }
 
 impl<V: VersionStore> Model for Machine<V> {
-    ghost use Rattle.xom_machine.specs.Whole.{InTime, Whole};
+    ghost use Rattle.xom_machine.specs.Whole.{InTime, WholeMachine};
 
-    ghost Value = { Whole };
+    ghost Value = { WholeMachine };
 
     ghost view = { λ m. record { state = record { core = m.core.core; pc = m.pair.0; npc = m.pair.1; status = m.status; cause = m.cause; who = m.who; events = m.events; halted = m.halted; fault = m.fault }; spare = m.core.spare } };
 

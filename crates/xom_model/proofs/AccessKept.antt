@@ -30,7 +30,7 @@ use Rattle.line_cache.proofs.Search.{none_passes}
 use Rattle.page_map.specs.Pages.{frame_of}
 use Rattle.xom_model.specs.State.{CoreState, core_with_hashes, core_with_way, page_of, session_of, store_of, with_entry}
 use Rattle.xom_model.specs.Lines.{accept_entry, ct_place, keys_of, line_name_of, line_seals, sealed_at, version_of_line, who_in, who_of}
-use Rattle.xom_model.specs.Access.{access, after_opening, after_stop, brought, cleared_at, reach_after_placing, reach_after_victim, reach_by_cache, reach_in_frame, read_from, with_pointers, without_guest}
+use Rattle.xom_model.specs.Access.{access, after_opening, after_stop, brought, cleared_at, reach_after_placing, reach_after_victim, reach_by_cache, reach_by_frame, reach_in_frame, with_pointers, without_guest}
 use Rattle.xom_model.specs.Holds.{Behind, IsLive, IsOf, Private}
 use Rattle.xom_model.specs.Kept.{Kept}
 use Rattle.xom_model.proofs.Growth.{IsTrusted, few_seals, goes_entry, goes_hashes, goes_none, honest_before, seals_hashes, seals_none}
@@ -412,9 +412,9 @@ module _ (Stands : StandsFor) (owners : List Owner) (v : Versions) (law : Versio
 
       read_comes : (version : ℕ)
           → version ≡ version_of_line (who_of base slot) (seals_of base.entries) line → version ≢ 0
-          → IsTrusted sealed (read_from v asked slot line frame version).0.entries
-          → Comes Stands owners base slot line (read_from v asked slot line frame version).0
-          (read_from v asked slot line frame version).1
+          → IsTrusted sealed (reach_by_frame v asked slot line frame version).0.entries
+          → Comes Stands owners base slot line (reach_by_frame v asked slot line frame version).0
+          (reach_by_frame v asked slot line frame version).1
       read_comes version is nonzero honest =
           opened_comes version is nonzero (ct_place frame line) (sealed_at base.ram frame line).ct
           (unsealed_line (line_name_of (who_of asked slot) line version)
@@ -438,7 +438,7 @@ module _ (Stands : StandsFor) (owners : List Owner) (v : Versions) (law : Versio
       brought_longer (Err torn) = longer_stopped asked slot (rule.TreeNode torn.level)
       brought_longer (Ok version) =
           cond_both (version == 0) (reach_after_placing v asked slot line (replicate 32 0))
-          (read_from v asked slot line frame version) (λ (r : CoreState × Reach). Longer
+          (reach_by_frame v asked slot line frame version) (λ (r : CoreState × Reach). Longer
           asked.entries r.0.entries)
           (λ _. longer_placed v asked slot line (replicate 32 0))
           (λ _. opened_longer version (ct_place frame line) (sealed_at base.ram frame line).ct

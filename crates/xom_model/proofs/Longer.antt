@@ -23,7 +23,7 @@ use Rattle.xom_base.specs.declared.step.StepEnd.TheVariants as ended
 use Rattle.mips_effect.specs.declared.effects.Effect.{Effect}
 use Rattle.mips_plain.specs.Instruction.{step_made}
 use Rattle.xom_model.specs.Guest.{address_in, after_effect, after_exit, after_retirement, after_step, after_trap, code_reached, data_of, data_reached, received_by, retirement, word_in, word_loaded, word_tried}
-use Rattle.xom_model.specs.Access.{access, after_eviction, after_flush, after_opening, after_raise, after_seal, after_stop, after_victim, and_then, brought, cleared_at, or_stopped, reach_after_placing, reach_after_victim, reach_by_cache, reach_in_frame, read_from, sealed_by_raise, taken_out, with_pointers, without_guest}
+use Rattle.xom_model.specs.Access.{access, after_eviction, after_flush, after_opening, after_raise, after_seal, after_stop, after_victim, and_then, brought, cleared_at, or_stopped, reach_after_placing, reach_after_victim, reach_by_cache, reach_by_frame, reach_in_frame, sealed_by_raise, taken_out, with_pointers, without_guest}
 
 abbrev pub Longer : List Entry → List Entry → Type 0
 Longer entries new = (added : List Entry) × (new ≡ entries ++ added)
@@ -105,7 +105,7 @@ module _ (v : Versions) where
       longer_stopped core slot (rule.TreeNode torn.level)
   longer_brought core slot line frame (Ok version) =
       cond_both (version == 0) (reach_after_placing v core slot line (replicate 32 0))
-      (read_from v core slot line frame version) (λ (r : CoreState × Reach). Longer core.entries
+      (reach_by_frame v core slot line frame version) (λ (r : CoreState × Reach). Longer core.entries
       r.0.entries)
       (λ _. longer_placed core slot line (replicate 32 0))
       (λ _. longer_opened core slot line version (ct_place frame line)

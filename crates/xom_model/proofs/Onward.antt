@@ -36,7 +36,7 @@ use Rattle.page_map.specs.Pages.{frame_of}
 use Rattle.xom_model.specs.State.{CoreState, Record, core_with_hashes, core_with_session, page_of, session_of, store_of, with_entry}
 use Rattle.xom_model.specs.Lines.{accept_entry, ct_place, keys_of, line_name_of, sealed_at, who_of}
 use Rattle.xom_model.specs.Saves.{reg_keys, reg_name, saved_at}
-use Rattle.xom_model.specs.Access.{access, after_eviction, after_flush, after_leaving, after_opening, after_raise, after_seal, after_stop, after_victim, and_then, brought, cleared_at, or_stopped, reach_after_placing, reach_after_victim, reach_by_cache, reach_in_frame, read_from, sealed_by_raise, taken_out, with_pointers, without_guest}
+use Rattle.xom_model.specs.Access.{access, after_eviction, after_flush, after_leaving, after_opening, after_raise, after_seal, after_stop, after_victim, and_then, brought, cleared_at, or_stopped, reach_after_placing, reach_after_victim, reach_by_cache, reach_by_frame, reach_in_frame, sealed_by_raise, taken_out, with_pointers, without_guest}
 use Rattle.xom_model.specs.Guest.{address_in, after_delivery, after_effect, after_retirement, after_step, after_trap, code_reached, data_of, data_reached, guest, received_by, retirement, word_in, word_loaded, word_tried}
 use Rattle.xom_model.specs.Operation.{after_install, after_reopening, after_restore, after_save, after_unmap, enter, envelope_in_ram, epoch_of, first_refusal_or, image_tests, install_tests, is_cell, is_slot, kill_tests, map_tests, missing_cell, operation, restore_tests, resume, resume_or_stop, save_tests, slot_takes_signal, unmap_tests, unwrap, with_signal}
 use Rattle.xom_model.specs.Null.{Answer, null_step}
@@ -140,7 +140,7 @@ module _ (v : Versions) where
       onward_stopped core slot (rule.TreeNode torn.level)
   onward_brought core slot line frame (Ok version) =
       cond_both (version == 0) (reach_after_placing v core slot line (replicate 32 0))
-      (read_from v core slot line frame version) (λ (r : CoreState × Reach). Onward core r.0)
+      (reach_by_frame v core slot line frame version) (λ (r : CoreState × Reach). Onward core r.0)
       (λ _. onward_placed core slot line (replicate 32 0))
       (λ _. onward_opened core slot line version (ct_place frame line)
       (sealed_at core.ram frame line).ct

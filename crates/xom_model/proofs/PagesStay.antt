@@ -32,7 +32,7 @@ use Rattle.page_map.specs.Pages.{frame_of, no_pages}
 use Rattle.xom_model.specs.State.{CoreState, core_with_hashes, core_with_session, page_of, session_of, store_of, with_cells, with_entry}
 use Rattle.xom_model.specs.Lines.{accept_entry, ct_place, keys_of, line_name_of, sealed_at, who_of}
 use Rattle.xom_model.specs.Guest.{address_in, after_delivery, after_effect, after_exit, after_retirement, after_step, after_trap, code_reached, data_of, data_reached, guest, received_by, retirement, session_after_signal, session_after_step, word_in, word_loaded, word_tried}
-use Rattle.xom_model.specs.Access.{access, after_eviction, after_flush, after_leaving, after_opening, after_raise, after_seal, after_stop, after_victim, and_then, brought, cleared_at, or_stopped, reach_after_placing, reach_after_victim, reach_by_cache, reach_in_frame, read_from, sealed_by_raise, taken_out, with_pointers, without_guest}
+use Rattle.xom_model.specs.Access.{access, after_eviction, after_flush, after_leaving, after_opening, after_raise, after_seal, after_stop, after_victim, and_then, brought, cleared_at, or_stopped, reach_after_placing, reach_after_victim, reach_by_cache, reach_by_frame, reach_in_frame, sealed_by_raise, taken_out, with_pointers, without_guest}
 use Rattle.xom_model.specs.declared.reach.Reach.TheVariants as reach
 use Rattle.xom_model.specs.Operation.{after_kill, after_reopening, after_restore, after_save, enter, epoch_of, first_refusal_or, is_cell, is_slot, kill_tests, missing_cell, operation, reopening, restore_tests, resume, resume_or_stop, save_tests, slot_takes_signal}
 use Rattle.xom_model.specs.Saves.{reg_keys, reg_name, saved_at}
@@ -224,7 +224,7 @@ module _ (v : Versions) where
       (stay_stopped core slot (rule.TreeNode torn.level), tt)
   stay_brought core slot line frame (Ok version) =
       cond_both (version == 0) (reach_after_placing v core slot line (replicate 32 0))
-      (read_from v core slot line frame version) (Arrives core slot)
+      (reach_by_frame v core slot line frame version) (Arrives core slot)
       (λ _. stay_placed core slot line (replicate 32 0))
       (λ _. stay_opened core slot line version (ct_place frame line)
       (sealed_at core.ram frame line).ct

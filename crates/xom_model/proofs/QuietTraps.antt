@@ -30,7 +30,7 @@ use Rattle.line_cache.specs.Ways.{new_way, place_for, place_of_line, pointers_af
 use Rattle.page_map.specs.Pages.{frame_of}
 use Rattle.xom_model.specs.State.{CoreState, core_with_hashes, page_of, session_of, store_of, with_entry}
 use Rattle.xom_model.specs.Lines.{accept_entry, ct_place, keys_of, line_name_of, seal_entry, sealed_at, who_of}
-use Rattle.xom_model.specs.Access.{access, after_opening, after_raise, after_seal, after_victim, brought, cleared_at, or_stopped, reach_after_placing, reach_after_victim, reach_by_cache, reach_in_frame, read_from, sealed_by_raise, without_guest}
+use Rattle.xom_model.specs.Access.{access, after_opening, after_raise, after_seal, after_victim, brought, cleared_at, or_stopped, reach_after_placing, reach_after_victim, reach_by_cache, reach_by_frame, reach_in_frame, sealed_by_raise, without_guest}
 use Rattle.xom_model.specs.Guest.{address_in, after_effect, after_step, after_trap, code_reached, data_of, data_reached, guest, word_in, word_tried}
 use Rattle.xom_model.specs.Holds.{IsOf, IsRunning}
 use Rattle.xom_model.specs.Quiet.{IsAsCached, IsKeptOrSealed, IsQuiet, MayPrecede, SealsWay, TrapsChangeNothing, TrapsQuietly}
@@ -302,7 +302,7 @@ module _ (v : Versions) (slot : ℕ) (some : slot ≢ 0) where
       answer_brings frame (Ok version) =
           let asked_core = core_with_hashes core texts in
           cond_both (version == 0) (reach_after_placing v asked_core slot line (replicate 32 0))
-          (read_from v asked_core slot line frame version) (λ result. Brought core result)
+          (reach_by_frame v asked_core slot line frame version) (λ result. Brought core result)
           (λ _. fresh_brings core line (replicate 32 0) alone texts)
           (λ _. read_opens version (ct_place frame line) (sealed_at core.ram frame line).ct
           (unsealed_line (line_name_of (who_of core slot) line version)

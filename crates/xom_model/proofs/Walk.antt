@@ -35,7 +35,7 @@ use Rattle.line_cache.specs.Ways.{free_way, new_way, place_for, place_of_line, w
 use Rattle.page_map.specs.Pages.{frame_of}
 use Rattle.xom_model.specs.State.{CoreState, core_with_hashes, core_with_way, page_of, session_of, store_of, with_entry}
 use Rattle.xom_model.specs.Lines.{accept_entry, ct_place, keys_of, line_name_of, sealed_at, who_of}
-use Rattle.xom_model.specs.Access.{access, after_opening, after_raise, after_seal, after_stop, after_victim, brought, cleared_at, or_stopped, reach_after_placing, reach_after_victim, reach_by_cache, reach_in_frame, read_from, sealed_by_raise, with_pointers, without_guest}
+use Rattle.xom_model.specs.Access.{access, after_opening, after_raise, after_seal, after_stop, after_victim, brought, cleared_at, or_stopped, reach_after_placing, reach_after_victim, reach_by_cache, reach_by_frame, reach_in_frame, sealed_by_raise, with_pointers, without_guest}
 use Rattle.xom_model.specs.Guest.{address_in, after_effect, after_exit, after_retirement, after_step, after_trap, code_reached, core_after_step, data_of, data_reached, guest, received_by, retirement, session_after_step, word_in, word_loaded, word_tried}
 use Rattle.xom_model.specs.Holds.{IsLive, IsRunning}
 use Rattle.xom_model.proofs.Gone.{less, way-without}
@@ -304,7 +304,7 @@ module _ (v : Versions) (slot : ℕ) (R : CoreState → CoreState → Type 0)
       (parts.stop core (rule.TreeNode torn.level) (rw runs refl), tt)
   walk_brought core line frame (Ok version) runs =
       cond_both (version == 0) (reach_after_placing v core slot line (replicate 32 0))
-      (read_from v core slot line frame version) (λ result. Walked core result)
+      (reach_by_frame v core slot line frame version) (λ result. Walked core result)
       (λ _. walk_placed core line (replicate 32 0) runs)
       (λ _. walk_opened core line version (ct_place frame line) (sealed_at core.ram frame line).ct
       (unsealed_line (line_name_of (who_of core slot) line version)

@@ -136,8 +136,8 @@ module _ (v : Versions) where
       slot line bytes
 
   -- a line is read from its frame and opened under this version
-  abbrev pub read_from : CoreState → ℕ → ℕ → ℕ → ℕ → CoreState × Reach
-  read_from core slot line frame version =
+  abbrev pub reach_by_frame : CoreState → ℕ → ℕ → ℕ → ℕ → CoreState × Reach
+  reach_by_frame core slot line frame version =
       let sealed = sealed_at core.ram frame line in
       after_opening core slot line version (ct_place frame line) sealed.ct
       (unsealed_line (line_name_of (who_of core slot) line version)
@@ -149,7 +149,7 @@ module _ (v : Versions) where
       (after_stop core slot (rule.TreeNode torn.level), reach.Stopped (rule.TreeNode torn.level))
   brought core slot line frame (Ok version) =
       if version == 0 then reach_after_placing core slot line (replicate line_size 0)
-      else read_from core slot line frame version
+      else reach_by_frame core slot line frame version
 
   -- a cached line is ready; for another one its version is asked for
   abbrev pub reach_by_cache : CoreState → ℕ → ℕ → ℕ → Option ℕ → CoreState × Reach

@@ -17,7 +17,7 @@ use Rattle.xom_versions.specs.Versions.{VersionLaw, Versions}
 use Rattle.xom_model.proofs.Gone.{less}
 use Rattle.xom_model.proofs.RamSize.{area_stays, frames_stay}
 use Rattle.slot_stores.specs.SlotStores.{store_at}
-use Rattle.xom_private.specs.Cores.{Fits, IsMapped, Serves}
+use Rattle.xom_private.specs.Cores.{IsMapped, PartsFit, Serves}
 
 -- what the type asks of a session is asked of the other as well
 abbrev pub AreAlike : Session → Session → Type 0
@@ -44,8 +44,8 @@ alike_each sessions slot s alike k = elim (eqb_tells k slot) [
 pub fits_moved : (sessions : List Session) (pages : Pages) (ways : List Way) (ram : List ℕ)
     (stores : List Store) (keys : List GuestKeys) (boot slot : ℕ) (s : Session)
     → AreAlike s (session_at sessions slot)
-    → Fits sessions pages ways ram stores keys boot
-    → Fits (set sessions slot s) pages ways ram stores keys boot
+    → PartsFit sessions pages ways ram stores keys boot
+    → PartsFit (set sessions slot s) pages ways ram stores keys boot
 fits_moved sessions pages ways ram stores keys boot slot s alike fits =
     let each = alike_each sessions slot s alike in
     record {
@@ -68,8 +68,8 @@ fits_moved sessions pages ways ram stores keys boot slot s alike fits =
 -- RAM is written, and keeps its size
 pub fits_resized : (sessions : List Session) (pages : Pages) (ways : List Way) (ram new : List ℕ)
     (stores : List Store) (keys : List GuestKeys) (boot : ℕ)
-    → length new ≡ length ram → Fits sessions pages ways ram stores keys boot
-    → Fits sessions pages ways new stores keys boot
+    → length new ≡ length ram → PartsFit sessions pages ways ram stores keys boot
+    → PartsFit sessions pages ways new stores keys boot
 fits_resized sessions pages ways ram new stores keys boot size fits = record {
   frames = frames_stay pages ram new size fits.frames;
   owned = fits.owned;
@@ -98,7 +98,7 @@ module _ (sessions : List Session) (pages new : Pages) (ways : List Way) (ram : 
     (stores : List Store) (keys : List GuestKeys) (boot slot page frame : ℕ)
     (changes : ChangesPage pages new slot page (Some frame)) (inside : HoldsFrame ram frame)
     (live : IsLiveIn sessions slot) (none : frame_of pages slot page ≡ None)
-    (fits : Fits sessions pages ways ram stores keys boot) where
+    (fits : PartsFit sessions pages ways ram stores keys boot) where
   frames_hold : (k at f : ℕ) → frame_of new k at ≡ Some f → HoldsFrame ram f
   frames_hold k at f is = elim (is_page slot page k at) [
     | inl this ↦ subst (HoldsFrame ram)
@@ -121,7 +121,7 @@ module _ (sessions : List Session) (pages new : Pages) (ways : List Way) (ram : 
     | inr other ↦ (was.0, changes.other_pages k at other ∙ was.1)
   ]
 
-  pub fits_paged : Fits sessions new ways ram stores keys boot
+  pub fits_paged : PartsFit sessions new ways ram stores keys boot
   fits_paged = record {
     frames = frames_hold;
     owned = live_owned;
@@ -140,7 +140,7 @@ module _ {Stands : Store → List Entry → (ℕ → ℕ) → Type 0} (v : Versi
     (install : ℕ) (id : ImageId) (key : Key256) (begin lines : ℕ)
     (empty : (session_at sessions slot).state ≡ state.Free) (inside : HoldsRange ram area area_size)
     (ready : AreKeysOf new_keys slot key id boot install 0) (others : OthersKeep keys new_keys slot)
-    (fits : Fits sessions pages ways ram stores keys boot) where
+    (fits : PartsFit sessions pages ways ram stores keys boot) where
   abbrev new_ram : List ℕ
   new_ram = v.ram_after_build area lines ram
 
@@ -222,7 +222,7 @@ module _ {Stands : Store → List Entry → (ℕ → ℕ) → Type 0} (v : Versi
         (fits.ready k (was_live k differs.1 live)))
   ]
 
-  pub fits_installed : Fits (set sessions slot guest) pages ways new_ram (set stores slot new_store)
+  pub fits_installed : PartsFit (set sessions slot guest) pages ways new_ram (set stores slot new_store)
       new_keys boot
   fits_installed = record {
     frames = frames_stay pages ram new_ram size fits.frames;
@@ -246,8 +246,8 @@ pub fits_built : {Stands : Store → List Entry → (ℕ → ℕ) → Type 0} (v
     → new_stores ≡ set stores slot (v.store_after_build area lines ram)
     → (session_at sessions slot).state ≡ state.Free → HoldsRange ram area area_size
     → AreKeysOf new_keys slot key id boot number 0 → OthersKeep keys new_keys slot
-    → Fits sessions pages ways ram stores keys boot
-    → Fits new_sessions pages ways new_ram new_stores new_keys boot
+    → PartsFit sessions pages ways ram stores keys boot
+    → PartsFit new_sessions pages ways new_ram new_stores new_keys boot
 fits_built v law sessions new_sessions pages ways ram new_ram stores new_stores keys new_keys boot
     slot area number install id key begin lines sessions_are number_is ram_is stores_are empty inside
     ready others fits =

@@ -12,7 +12,7 @@ use Rattle.xom_versions.specs.Store.{Store}
 use Rattle.xom_versions.specs.Versions.{Versions}
 use Rattle.xom_model.specs.Operation.{after_unmap, first_refusal_or, unmap_page}
 use Rattle.xom_model.specs.State.{CoreState, page_of}
-use Rattle.xom_private.specs.Cores.{Fits}
+use Rattle.xom_private.specs.Cores.{PartsFit}
 use Rattle.xom_ops.specs.Refusals.{or_refused, page_tests, refusal}
 use Rattle.xom_ops.specs.Unmapping.{frame_taken, mapped_tests, without_frame}
 use Rattle.xom_ops.proofs.Fitting.{is_page}
@@ -46,7 +46,7 @@ module _ (v : Versions) (slot page : ℕ) where
 module _ (sessions : List Session) (pages new : Pages) (ways : List Way) (ram : List ℕ)
     (stores : List Store) (keys : List GuestKeys) (boot slot page : ℕ)
     (changes : ChangesPage pages new slot page None) (flushed : HasNoLine ways slot page)
-    (fits : Fits sessions pages ways ram stores keys boot) where
+    (fits : PartsFit sessions pages ways ram stores keys boot) where
   was_mapped : (k at f : ℕ) → frame_of new k at ≡ Some f → frame_of pages k at ≡ Some f
   was_mapped k at f is = elim (is_page slot page k at) [
     | inl this ↦ absurd (
@@ -64,7 +64,7 @@ module _ (sessions : List Session) (pages new : Pages) (ways : List Way) (ram : 
       found-None ways slot (way_at ways place).line (λ none. filled (own ∙ none))
       (flushed (way_at ways place).line same) place (record { its_slot = own; its_line = refl })
 
-  pub fits_unmapped : Fits sessions new ways ram stores keys boot
+  pub fits_unmapped : PartsFit sessions new ways ram stores keys boot
   fits_unmapped = record {
     frames = λ k at f is. fits.frames k at f (was_mapped k at f is);
     owned = λ k at f is. fits.owned k at f (was_mapped k at f is);

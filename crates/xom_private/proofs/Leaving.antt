@@ -11,11 +11,11 @@ use Rattle.slot_keys.specs.GuestKeys.{GuestKeys, keys_at}
 use Rattle.xom_versions.specs.Store.{Store}
 use Rattle.xom_model.specs.State.{page_of}
 use Rattle.xom_model.proofs.Gone.{less, free_if-left, free_if-other, pages-gone, pages-other, way-without}
-use Rattle.xom_private.specs.Cores.{Fits, Serves}
+use Rattle.xom_private.specs.Cores.{PartsFit, Serves}
 
 module _ (sessions : List Session) (pages : Pages) (ways : List Way) (ram : List ℕ)
     (stores : List Store) (keys : List GuestKeys) (boot slot : ℕ) (s : Session)
-    (dead : is_live s.state ≡ false) (fits : Fits sessions pages ways ram stores keys boot) where
+    (dead : is_live s.state ≡ false) (fits : PartsFit sessions pages ways ram stores keys boot) where
   there : (other : ℕ) → other ≢ slot
       → session_at (set sessions slot s) other ≡ session_at sessions other
   there other differs = get_or-set_other sessions slot other s free differs
@@ -66,7 +66,7 @@ module _ (sessions : List Session) (pages : Pages) (ways : List Way) (ram : List
             ap (λ w. w.dirty) same ∙ fits.clean place (sym (ap (λ w. w.slot) same) ∙ none)
       ]
 
-  pub fits_without : Fits (set sessions slot s) (without_pages pages slot) (without_slot slot ways)
+  pub fits_without : PartsFit (set sessions slot s) (without_pages pages slot) (without_slot slot ways)
       ram stores keys boot
   fits_without = record {
     frames = λ k page frame is. fits.frames k page frame (left_page k page frame is).1;
@@ -91,8 +91,8 @@ pub fits_gone : (sessions : List Session) (pages left_pages : Pages) (ways left_
     (ram : List ℕ) (stores : List Store) (keys : List GuestKeys) (boot slot : ℕ) (s : Session)
     → left_pages ≡ without_pages pages slot → left_ways ≡ without_slot slot ways
     → is_live s.state ≡ false
-    → Fits sessions pages ways ram stores keys boot
-    → Fits (set sessions slot s) left_pages left_ways ram stores keys boot
+    → PartsFit sessions pages ways ram stores keys boot
+    → PartsFit (set sessions slot s) left_pages left_ways ram stores keys boot
 fits_gone sessions pages left_pages ways left_ways ram stores keys boot slot s pages_are ways_are
     dead fits =
     rw (pages_are, ways_are) (fits_without sessions pages ways ram stores keys boot slot s dead

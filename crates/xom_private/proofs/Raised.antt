@@ -14,7 +14,7 @@ use Rattle.xom_versions.specs.Versions.{VersionLaw, Versions}
 use Rattle.xom_model.proofs.Gone.{less}
 use Rattle.xom_model.proofs.RamSize.{area_stays, frames_stay}
 use Rattle.slot_stores.specs.SlotStores.{store_at}
-use Rattle.xom_private.specs.Cores.{Fits}
+use Rattle.xom_private.specs.Cores.{PartsFit}
 
 -- a store that is put in the place of one with its area leaves all areas
 same_area : (stores : List Store) (slot k : ℕ) (new : Store)
@@ -37,8 +37,8 @@ pub fits_raised : {Stands : Store → List Entry → (ℕ → ℕ) → Type 0} (
     → IsLiveIn sessions slot → line < line_limit
     → new_ram ≡ v.ram_after_raise (store_at stores slot) line ram
     → new_stores ≡ set stores slot (v.store_after_raise (store_at stores slot) line ram)
-    → Fits sessions pages ways ram stores keys boot
-    → Fits sessions pages ways new_ram new_stores keys boot
+    → PartsFit sessions pages ways ram stores keys boot
+    → PartsFit sessions pages ways new_ram new_stores keys boot
 fits_raised v law sessions pages ways ram new_ram stores new_stores keys boot slot line live low
     ram_is stores_are fits =
     let size : length new_ram ≡ length ram = ap length ram_is ∙ law.size_after_raise

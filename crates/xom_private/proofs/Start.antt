@@ -9,7 +9,7 @@ use Rattle.session_table.specs.Sessions.{free, none_held, session_at}
 use Rattle.slot_keys.specs.GuestKeys.{GuestKeys}
 use Rattle.xom_versions.specs.Store.{Store}
 use Rattle.xom_model.proofs.Gone.{frame-none, less}
-use Rattle.xom_private.specs.Cores.{Fits}
+use Rattle.xom_private.specs.Cores.{PartsFit}
 
 free_at : (slot : ℕ) → session_at none_held slot ≡ free
 unfolding none_held
@@ -39,7 +39,7 @@ none_mapped slot page = elim (less slot 17) [
 ]
 
 pub fits_at_start : (ram : List ℕ) (stores : List Store) (keys : List GuestKeys) (boot : ℕ)
-    → Fits none_held nothing_mapped no_ways ram stores keys boot
+    → PartsFit none_held nothing_mapped no_ways ram stores keys boot
 fits_at_start ram stores keys boot = record {
   frames = λ slot page frame is. absurd (let none = none_mapped slot page in cc);
   owned = λ slot page frame is. absurd (let none = none_mapped slot page in cc);
@@ -54,6 +54,6 @@ fits_at_start ram stores keys boot = record {
 pub fits_fresh : (sessions : List Session) (pages : Pages) (ways : List Way) (ram : List ℕ)
     (stores : List Store) (keys : List GuestKeys) (boot : ℕ)
     → sessions ≡ none_held → pages ≡ nothing_mapped → ways ≡ no_ways
-    → Fits sessions pages ways ram stores keys boot
+    → PartsFit sessions pages ways ram stores keys boot
 fits_fresh sessions pages ways ram stores keys boot a b c =
     rw (a, b, c) (fits_at_start ram stores keys boot)

@@ -42,7 +42,7 @@ pub record Serves (keys : GuestKeys) (boot : ℕ) (s : Session) : Type 0 where
   pub registers : keys.registers ≡ register_keys s.key boot s.install s.epoch
 
 -- what the parts of the core keep of one another
-pub record Fits (sessions : List Session) (pages : Pages) (ways : List Way) (ram : List ℕ)
+pub record PartsFit (sessions : List Session) (pages : Pages) (ways : List Way) (ram : List ℕ)
     (stores : List Store) (keys : List GuestKeys) (boot : ℕ) : Type 0 where
   -- each mapped frame lies in RAM
   pub frames : FramesFit pages ram

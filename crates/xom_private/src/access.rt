@@ -3,7 +3,7 @@ ghost use Rattle.line_cache.specs.Ways.{place_of_line};
 ghost use Rattle.page_map.specs.Pages.{frame_of};
 ghost use Rattle.xom_seal.specs.Sealing.{unsealed_line};
 ghost use Rattle.xom_versions.specs.Store.{line_limit, version_room};
-ghost use Rattle.xom_model.specs.Access.{access, reach_by_cache, read_from};
+ghost use Rattle.xom_model.specs.Access.{access, reach_by_cache, reach_by_frame};
 ghost use Rattle.xom_model.specs.Holds.{IsLive};
 ghost use Rattle.xom_model.specs.Lines.{accept_entry, ct_place, keys_of, line_name_of, message_as, sealed_at as sealed_in, who_of};
 ghost use Rattle.xom_model.specs.State.{core_with_hashes, page_of, store_of, with_entry};
@@ -92,8 +92,8 @@ impl<V: VersionStore> Core<V> {
         requires frame { frame_of self.old.core.pages slot (page_of line) ≡ Some frame }
         requires absent { place_of_line self.old.core.ways slot line ≡ None }
         requires room { 5500 ≤ self.old.spare }
-        ensures core { self.new.core ≡ (read_from V.versions self.old.core slot line frame version).0 }
-        ensures reach { result ≡ (read_from V.versions self.old.core slot line frame version).1 }
+        ensures core { self.new.core ≡ (reach_by_frame V.versions self.old.core slot line frame version).0 }
+        ensures reach { result ≡ (reach_by_frame V.versions self.old.core slot line frame version).1 }
         ensures room { self.old.spare ≤ self.new.spare + 5500 }
     {
         let sealed = self.sealed_at(slot, line, frame);

@@ -48,13 +48,13 @@ pub struct Core<V: VersionStore> {
 }
 
 impl<V: VersionStore> Model for Core<V> {
-    ghost use Rattle.xom_private.specs.Cores.{Fits, Whole};
+    ghost use Rattle.xom_private.specs.Cores.{PartsFit, Whole};
 
     ghost Value = { Whole };
 
     ghost view = { λ c. record { core = record { cells = c.cells; sessions = c.table.list; stores = c.stores; pages = c.pages; ways = c.cache.ways; pointers = c.cache.pointers; ram = c.ram; machine = c.machine; boot = c.boot; installs = c.table.installs; entries = c.journal.entries }; spare = c.journal.spare } };
 
-    ghost invariant = { λ c. Fits c.table.list c.pages c.cache.ways c.ram c.stores c.keys c.boot };
+    ghost invariant = { λ c. PartsFit c.table.list c.pages c.cache.ways c.ram c.stores c.keys c.boot };
 }
 
 impl<V: VersionStore> Core<V> {

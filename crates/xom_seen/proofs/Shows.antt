@@ -31,7 +31,7 @@ use Rattle.xom_versions.specs.Store.{hash_entry}
 use Rattle.xom_versions.specs.Versions.{Raised, RaisesInTheOpen, Versions}
 use Rattle.xom_model.specs.State.{CoreState, core_with_hashes, core_with_session, core_with_way, page_of, session_of, store_of, with_entry}
 use Rattle.xom_model.specs.Lines.{Who, accept_entry, ct_place, is_image_at, keys_of, line_name_of, run_name, seal_entry, sealed_as, sealed_at, who_of, with_sealed}
-use Rattle.xom_model.specs.Access.{access, after_eviction, after_flush, after_leaving, after_opening, after_raise, after_seal, after_stop, after_victim, and_then, brought, cleared_at, or_stopped, reach_after_placing, reach_after_victim, reach_by_cache, reach_in_frame, read_from, sealed_by_raise, taken_out, with_pointers, without_guest}
+use Rattle.xom_model.specs.Access.{access, after_eviction, after_flush, after_leaving, after_opening, after_raise, after_seal, after_stop, after_victim, and_then, brought, cleared_at, or_stopped, reach_after_placing, reach_after_victim, reach_by_cache, reach_by_frame, reach_in_frame, sealed_by_raise, taken_out, with_pointers, without_guest}
 use Rattle.xom_model.specs.Guest.{cells_after_step, core_after_step, given_out, mask_after, mask_released, with_release, with_writes}
 use Rattle.xom_model.specs.Holds.{IsLive, IsOf}
 use Rattle.xom_model.specs.Seen.{shown_cell, shown_slot}
@@ -632,7 +632,7 @@ module _ (v : Versions) (raised : Raised) (law : RaisesInTheOpen v raised) (befo
       reaches_stopped core (rule.TreeNode torn.level) live
   reaches_brought core line frame (Ok version) live out =
       cond_both (version == 0) (reach_after_placing v core slot line (replicate 32 0))
-      (read_from v core slot line frame version) (λ result. Reaches core result)
+      (reach_by_frame v core slot line frame version) (λ result. Reaches core result)
       (λ _. reaches_placed core line (replicate 32 0) live out)
       (λ _. reaches_opened core line version (ct_place frame line)
       (sealed_at core.ram frame line).ct

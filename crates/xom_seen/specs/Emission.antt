@@ -91,6 +91,7 @@ slot_of_install sessions install =
 -- of an event that runs or names this slot, and leaves it ready for a signal or not; which line is
 -- sealed with a message
 module _ (sessions : List Session) (slot : ℕ) (ready : Bool) (sealed : List ℕ → SlotLine) where
+  -- a sealed line: its slot and number, its ciphertext, and its tag
   abbrev pub signal_of_line : List ℕ → List ℕ → SlotLine → Signal
   signal_of_line key message its =
       LineSealed its.slot its.line (ct_of_line_message (session_at sessions its.slot) message)
@@ -117,6 +118,7 @@ module _ (sessions : List Session) (slot : ℕ) (ready : Bool) (sealed : List �
   signal_of_entry (entry.Kill install) = None
   signal_of_entry (entry.Out byte) = None
 
+  -- the signals of a list of entries, in their order
   abbrev pub signals_of_entries : List Entry → List Signal
   signals_of_entries entries = filter_map signal_of_entry entries
 
@@ -138,6 +140,7 @@ line_pushed_out core line =
 
 -- ---- Events
 
+-- the guest takes signals: it has a handler and is in none
 abbrev pub is_ready : Session → Bool
 is_ready s = is_signal_ready s.handler s.saved
 
@@ -184,6 +187,7 @@ module _ (v : Versions) where
       (data_line slot (access v core slot (code_line core slot))))
       (drop (length fetched.entries) new.entries)
 
+  -- the signals of an event that made this record of the one before
   abbrev pub signals_of_event : Record → Event → Record → List Signal
   signals_of_event r (event.Guest interrupt) new =
       signals_of_guest r.core (slot_of_event r (event.Guest interrupt)) new.core

@@ -6,7 +6,7 @@ use Rattle.std.proofs.lemmas.List.Elements.{All-nil, All-push}
 use Rattle.std.proofs.lemmas.Iterator.Consumers.{YieldsList-turn, YieldsList-end}
 use Rattle.std.proofs.lemmas.Iterator.Adapters.{YieldsList-from_vec}
 use Rattle.mips_asm.specs.declared.placed.Placed.{Placed}
-use Rattle.mips_asm.specs.Layout.{IsInside, IsSized, layout, statement_size}
+use Rattle.mips_asm.specs.Layout.{IsInsideImage, IsSized, layout, statement_size}
 use Rattle.mips_asm.specs.Passes.{too_long_line}
 use Rattle.mips_asm.proofs.LayoutLaws.{layout-none, layout_step, past_long, place_step, short_inside, short_size, too_long_none, too_long_step}
 use Rattle.mips_asm.proofs.layout.layout.Goals as goal
@@ -15,7 +15,7 @@ pub loop-part-init : goal.loop-part-init
 loop-part-init c = record {
   placed = c.new-placed.ensures.items ∙ sym (layout-none 0);
   place = refl;
-  inside = subst (All IsInside) (sym c.new-placed.ensures.items) (All-nil IsInside);
+  inside = subst (All IsInsideImage) (sym c.new-placed.ensures.items) (All-nil IsInsideImage);
   sized = subst (All IsSized) (sym c.new-placed.ensures.items) (All-nil IsSized);
 }
 
@@ -35,7 +35,7 @@ returns-then-is_past-clause-fault c =
     inr (
       part.line,
       too_long_step c.args.parts n part c.loop-part.place within is
-          c.loop-part.invariant.place (subst (All IsInside) c.loop-part.invariant.placed
+          c.loop-part.invariant.place (subst (All IsInsideImage) c.loop-part.invariant.placed
           c.loop-part.invariant.inside) long,
       refl,
     )
@@ -69,8 +69,8 @@ loop-part-preserved c =
       place = c.after-next.ensures
           ∙ place_step c.args.parts n (length (c.loop-part.yielded ++ part ∷ [])) part
           c.loop-part.place more within is c.loop-part.invariant.place;
-      inside = subst (All IsInside) (sym c.in_ok-push.ensures.items)
-          (All-push IsInside c.loop-part.placed.items item c.loop-part.invariant.inside
+      inside = subst (All IsInsideImage) (sym c.in_ok-push.ensures.items)
+          (All-push IsInsideImage c.loop-part.placed.items item c.loop-part.invariant.inside
           (short_inside c.loop-part.place c.size-size.result short));
       sized = subst (All IsSized) (sym c.in_ok-push.ensures.items)
           (All-push IsSized c.loop-part.placed.items item c.loop-part.invariant.sized size);

@@ -4,7 +4,7 @@ use Rattle.std.specs.List.{All}
 use Rattle.std.proofs.lemmas.List.Elements.{All-get_or, All-more}
 use Rattle.mips_asm.specs.declared.placed.Placed.{Placed}
 use Rattle.mips_asm.specs.LabelMaps.{place_in}
-use Rattle.mips_asm.specs.Layout.{IsInside, IsSized}
+use Rattle.mips_asm.specs.Layout.{IsInsideImage, IsSized}
 use Rattle.mips_asm.specs.Passes.{statement_line}
 use Rattle.mips_asm.proofs.LayoutLaws.{fits_end}
 use Rattle.mips_asm.proofs.RangeLaws.{first_here, other_line, same_line}
@@ -45,7 +45,7 @@ returns-then-not-written-clause-fault c =
 
 pub write_one-requires-clause-inside : goal.write_one-requires-clause-inside
 write_one-requires-clause-inside c =
-    subst IsInside (sym c.placed-item.is) (All-get_or IsInside c.args.placed.now
+    subst IsInsideImage (sym c.placed-item.is) (All-get_or IsInsideImage c.args.placed.now
     c.loop-placed.placed-index c.placed-item.result c.loop-placed-test.true c.requires.inside)
 
 pub write_one-requires-clause-sized : goal.write_one-requires-clause-sized

@@ -1,6 +1,6 @@
 -- A step that is made adds its line, and what ends the run adds none.
 use Rattle.std.proofs.Common.{sym, ap, ◌-◌, ◌∙◌}
-use Rattle.plain_run.specs.Runs.{run_from, run_goes_on}
+use Rattle.plain_run.specs.Runs.{run_alone_from, run_goes_on}
 use Rattle.plain_run.proofs.RunLaws.{ended_next, none_more, one_more, stopped, went_on}
 use Rattle.plain_run.proofs.run.push_run.Goals as goal
 
@@ -27,7 +27,7 @@ loop-left-preserved c =
     let more = one_more c.loop-left.left c.loop-left.plain c.loop-left.values.now
     c.loop-left-test.true c.next-answer.ensures in
     went_on c.loop-left.text.items c.push_line.new.text.items c.in-Did.step
-    (run_from (c.loop-left.left - 1) c.next-answer.new.plain c.next-answer.result.1.now)
+    (run_alone_from (c.loop-left.left - 1) c.next-answer.new.plain c.next-answer.result.1.now)
     c.in_ok-push_line-in-Did.ensures (rw c.in-Did.is at more) c.loop-left.invariant
 
 pub returns-then-is_over : goal.returns-then-is_over

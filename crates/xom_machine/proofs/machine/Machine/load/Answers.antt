@@ -1,7 +1,7 @@
 -- Bytes are put into RAM, or nothing where it doesn't hold their range.
 use Rattle.std.proofs.Common.{sym, ◌∙◌, subst}
 use Rattle.xom_model.specs.Holds.{Holds}
-use Rattle.xom_machine.specs.Whole.{Whole}
+use Rattle.xom_machine.specs.Whole.{WholeMachine}
 use Rattle.xom_machine.proofs.Events.{loaded-Holds, loaded-refused}
 use Rattle.xom_machine.proofs.machine.Machine.load.Goals as goal
 
@@ -13,7 +13,7 @@ returns-clause-refused g c refused =
 
 pub returns-clause-holds : goal.returns-clause-holds
 returns-clause-holds g c owners holds =
-    subst (λ (w : Whole). Holds g.V.VersionStore.Stands owners w.state.core)
+    subst (λ (w : WholeMachine). Holds g.V.VersionStore.Stands owners w.state.core)
     (sym c.put.ensures.state)
     (loaded-Holds g.V.VersionStore.versions g.V.VersionStore.Stands g.met.V.VersionStore.law owners
     c.args.self.now.state.core c.args.address c.args.bytes.now holds)
