@@ -8,7 +8,7 @@ ghost use Rattle.cli_trace.specs.Trace.{GuestsFollow, RunFollows};
 use crate::made::{judged, status};
 use cli_base::{Answer, Stop};
 use cli_runs::{Parts, read_parts};
-use run_text::console;
+use run_text::console::console;
 use std::alloc::Global;
 use xom_base::{ByteList, NoMemory};
 use xom_io::Files;

@@ -2,10 +2,9 @@
 //! stopped in it.
 #![tactic(auto)]
 
-mod console;
+pub mod console;
 mod events;
 mod stops;
 
-pub use console::{console, end_line};
 pub use events::push_events;
 pub use stops::has_stop;
