@@ -4,9 +4,9 @@ use Rattle.std.specs.Prelude.{IsTrue, slice_range}
 use Rattle.std.specs.Option.{option_to_list}
 use Rattle.std.specs.List.{AllZip, list_all, onto_first}
 use Rattle.std.proofs.lemmas.List.{take-append-le, drop-append-le, length-drop}
-use Rattle.xom_base.specs.Lines.{go_on_behind_line, lines_of, read_from, with_front}
+use Rattle.text_lines.specs.Lines.{go_on_behind_line, lines_of, read_from, with_front}
 use Rattle.xom_base.specs.Options.{◌>>=◌}
-use Rattle.xom_base.specs.Words.{is_blank}
+use Rattle.text_lines.specs.Words.{is_blank}
 use Rattle.asm_tokens.specs.declared.token.Token.{Token}
 use Rattle.asm_tokens.specs.declared.token.TokenKind.{TokenKind}
 use Rattle.asm_tokens.specs.declared.token.TokenKind.TheVariants.{Name, Number, Register, Text, Comma, Colon, Left, Right}

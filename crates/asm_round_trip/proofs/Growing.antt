@@ -5,9 +5,9 @@ use Rattle.std.specs.List.{list_any}
 use Rattle.std.proofs.lemmas.Bool.{or_from}
 use Rattle.std.proofs.lemmas.List.{append-nil, reverse-append}
 use Rattle.std.proofs.lemmas.List.Folds.{find-append, list_any-append}
-use Rattle.xom_base.specs.Lines.{LineStep, lines_of, read_from, with_front}
-use Rattle.xom_base.proofs.CutLaws.{cut_of-at, lines_of-cut}
-use Rattle.xom_base.proofs.LineLaws.{read_from-one}
+use Rattle.text_lines.specs.Lines.{LineStep, lines_of, read_from, with_front}
+use Rattle.text_lines.proofs.CutLaws.{cut_of-at, lines_of-cut}
+use Rattle.text_lines.proofs.LineLaws.{read_from-one}
 use Rattle.mips_asm.specs.Passes.{first_fault}
 use Rattle.mips_asm.proofs.FaultLaws.{first_good, rest_good}
 use Rattle.asm_round_trip.proofs.LineEnds.{OneLine, one_line-each}

@@ -8,7 +8,7 @@ use Rattle.std.proofs.lemmas.List.{append-nil, get_or-append_right, get_or-repli
 use Rattle.std.proofs.lemmas.List.Elements.{All-get_or}
 use Rattle.std.proofs.lemmas.Nat.{be_bytes_4}
 use Rattle.xom_base.specs.declared.image.PlainImage.{PlainImage}
-use Rattle.xom_base.specs.Lines.{lines_of, read_from}
+use Rattle.text_lines.specs.Lines.{lines_of, read_from}
 use Rattle.mips_text.specs.Texts.{image_word_at, word_text}
 use Rattle.asm_source.specs.declared.content.Content.{Content}
 use Rattle.asm_source.specs.declared.content.Part.{Part}

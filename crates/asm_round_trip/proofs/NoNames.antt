@@ -4,7 +4,7 @@ use Rattle.std.proofs.Common.{◌≡◌, ℕ, ◌+◌, ◌<◌, false, List, [],
 use Rattle.std.specs.List.{list_any}
 use Rattle.std.proofs.lemmas.Bool.{or_from}
 use Rattle.std.proofs.lemmas.Option.{none-some, option_and_then_some as steps}
-use Rattle.xom_base.proofs.CutLaws.{option_map_some}
+use Rattle.text_lines.proofs.CutLaws.{option_map_some}
 use Rattle.mips_instruction.specs.declared.instruction.Ins.{Ins}
 use Rattle.mips_forms.specs.Builds.{kinds_of}
 use Rattle.mips_forms.specs.declared.operand.Operand.{Operand}

@@ -10,8 +10,8 @@ use Rattle.std.proofs.lemmas.Fmt.{decimal_is_IsNumeral}
 use Rattle.std.proofs.lemmas.Int.{ints}
 use Rattle.std.proofs.lemmas.Nat.{be_bytes_4}
 use Rattle.hex.specs.Hex.{encode_lower, encode_with, lower_digits}
-use Rattle.xom_base.proofs.NumberLaws.{digits_from, value_is}
-use Rattle.xom_base.specs.Numbers.{IsNumber, value}
+use Rattle.text_lines.proofs.NumberLaws.{digits_from, value_is}
+use Rattle.text_lines.specs.Numbers.{IsNumber, value}
 use Rattle.text_pieces.specs.Pieces.{hex8}
 use Rattle.mips_instruction.specs.Numbers.{signed_16}
 use Rattle.asm_tokens.specs.declared.integers.Integer.{Integer}

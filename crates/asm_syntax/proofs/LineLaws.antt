@@ -1,9 +1,9 @@
 -- What a line adds, label by label.
 use Rattle.std.proofs.Common.{◌≡◌, ℕ, List, [], ◌∷◌, ◌++◌, Option, Some, None, Result, Ok, Err, refl, sym, ap, ◌∙◌, append_assoc, option_map}
 use Rattle.std.proofs.lemmas.Option.{none-some, same_Some}
-use Rattle.xom_base.specs.declared.lines.LineFault.{LineFault}
-use Rattle.xom_base.specs.declared.lines.LineFault.TheVariants.{Bad, NoMemory}
-use Rattle.xom_base.proofs.CutLaws.{option_map_some}
+use Rattle.text_lines.specs.declared.lines.LineFault.{LineFault}
+use Rattle.text_lines.specs.declared.lines.LineFault.TheVariants.{Bad, NoMemory}
+use Rattle.text_lines.proofs.CutLaws.{option_map_some}
 use Rattle.asm_source.specs.declared.content.Content.TheVariants as content
 use Rattle.asm_source.specs.declared.content.Part.{Part}
 use Rattle.asm_syntax.specs.declared.lexeme.Lexeme.{Lexeme}

@@ -1,8 +1,8 @@
 -- How a form of one line is written and answered.
 use Rattle.std.specs.Prelude.{◌≡◌, List, [], ◌∷◌, ◌++◌, Option, Some, None, Result, Ok, Err}
 use Rattle.xom_base.specs.Options.{◌>>=◌}
-use Rattle.xom_base.specs.declared.lines.LineFault.{LineFault}
-use Rattle.xom_base.specs.declared.lines.LineFault.TheVariants.{Bad, NoMemory}
+use Rattle.text_lines.specs.declared.lines.LineFault.{LineFault}
+use Rattle.text_lines.specs.declared.lines.LineFault.TheVariants.{Bad, NoMemory}
 
 -- what each element gives, where each gives something
 abbrev pub map_some : {X Y : Type 0} → (X → Option Y) → List X → Option (List Y)

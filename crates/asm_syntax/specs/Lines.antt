@@ -1,7 +1,7 @@
 -- The lines of an assembler source: any number of labels, then at most one statement.
 use Rattle.std.specs.Prelude.{ℕ, Bool, true, false, ◌&&◌, ◌||◌, if◌then◌else◌, List, [], ◌∷◌, ◌++◌, codes, Option, Some, None, option_map, Result, Ok, Err}
 use Rattle.std.specs.Str.{bytes_eq}
-use Rattle.xom_base.specs.Lines.{LineStep, lines_of, read_from}
+use Rattle.text_lines.specs.Lines.{LineStep, lines_of, read_from}
 use Rattle.mips_forms.specs.Builds.{kinds_of}
 use Rattle.asm_tokens.specs.declared.integers.Integer.{Integer}
 use Rattle.mips_forms.specs.declared.operand.OperandKind.{OperandKind}

@@ -8,7 +8,8 @@ use crate::lexeme::Lexeme;
 use asm_source::{Argument, SourceName, Value};
 use asm_tokens::Integer;
 use std::alloc::Global;
-use xom_base::{LineFault, List, NoMemory};
+use text_lines::LineFault;
+use xom_base::{List, NoMemory};
 
 /// The number of an operand that is not there.
 pub const ZERO: Integer = Integer {

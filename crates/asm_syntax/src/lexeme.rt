@@ -7,7 +7,8 @@ use crate::copies::room;
 use asm_source::SourceName;
 use asm_tokens::{Integer, Token, TokenFault, TokenKind, integer, register, tokens, unquoted};
 use std::alloc::Global;
-use xom_base::{ByteList, LineFault, List};
+use text_lines::LineFault;
+use xom_base::{ByteList, List};
 
 /// A token of a line with what it stands for.
 #[derive(Drop)]

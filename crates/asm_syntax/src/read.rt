@@ -1,5 +1,5 @@
 ghost use Rattle.std.specs.Prelude.{◌≡◌, ◌∷◌, ℕ, Ok, MatchOption, MatchResult};
-ghost use Rattle.xom_base.specs.Lines.{TextFaults};
+ghost use Rattle.text_lines.specs.Lines.{TextFaults};
 ghost use Rattle.asm_syntax.specs.declared.lexeme.Lexeme.TheVariants as lexeme;
 ghost use Rattle.asm_syntax.specs.Forms.{Adds};
 ghost use Rattle.asm_syntax.specs.Lines.{parts_of_line, source_of, statement_parts};
@@ -10,7 +10,8 @@ use crate::statement::statement;
 use asm_source::{Content, Part, SourceName};
 use std::alloc::Global;
 use std::marker::Model;
-use xom_base::{LineFault, LineFormat, List, TextFault, read_lines};
+use text_lines::{LineFault, LineFormat, TextFault, read_lines};
+use xom_base::List;
 
 /// Reads the labels and statements of a source, in their order, or answers the first line that is off
 /// the grammar. It costs time linear in the text.

@@ -9,7 +9,8 @@ use asm_source::{Argument, Content, SourceName, Value};
 use asm_tokens::Integer;
 use mips_forms::{OperandKind, kinds, same_text};
 use std::alloc::Global;
-use xom_base::{LineFault, List, NoMemory};
+use text_lines::LineFault;
+use xom_base::{List, NoMemory};
 
 /// The statement with this name and these operands. Bad where there is none of that form.
 #[tactic(auto, unfolding(crate::specs::Lines::statement_of))]

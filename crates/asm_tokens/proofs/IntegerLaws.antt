@@ -3,9 +3,9 @@ use Rattle.std.proofs.Common.{◌≡◌, ℕ, Bool, true, false, eqb, inl, inr, 
 use Rattle.std.specs.Prelude.{◌↔◌, option_map}
 use Rattle.std.proofs.lemmas.Bool.{cases_Bool, eqb-true, true≢false}
 use Rattle.std.proofs.lemmas.Option.{none-some}
-use Rattle.xom_base.proofs.CutLaws.{option_map_some}
-use Rattle.xom_base.proofs.NumberLaws.{number_of-exact}
-use Rattle.xom_base.specs.Numbers.{IsNumber, number_of_word}
+use Rattle.text_lines.proofs.CutLaws.{option_map_some}
+use Rattle.text_lines.proofs.NumberLaws.{number_of-exact}
+use Rattle.text_lines.specs.Numbers.{IsNumber, number_of_word}
 use Rattle.asm_tokens.proofs.Heads.{first_same, rest_same}
 use Rattle.asm_tokens.specs.declared.integers.Integer.{Integer}
 use Rattle.asm_tokens.specs.Integers.{IsInteger, integer_of, signed_integer}

@@ -8,7 +8,7 @@ use Rattle.std.proofs.lemmas.List.Elements.{All-cons, All-nil}
 use Rattle.std.proofs.lemmas.Option.{none-some}
 use Rattle.std.proofs.Math.Seq.{drop-drop}
 use Rattle.xom_base.specs.Memory.{OrOut}
-use Rattle.xom_base.specs.Words.{begins_comment, is_blank}
+use Rattle.text_lines.specs.Words.{begins_comment, is_blank}
 use Rattle.asm_tokens.proofs.KindLaws.{kind_of-no_blank}
 use Rattle.asm_tokens.proofs.SizeLaws.{Sized, token_found, token_kind, token_only}
 use Rattle.asm_tokens.proofs.StepLaws.{NoBlank, from_token, tokens_from-bad, tokens_from-blank, tokens_from-over, with_tokens-nil}

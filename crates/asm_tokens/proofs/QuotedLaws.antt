@@ -5,7 +5,7 @@ use Rattle.std.proofs.lemmas.Bool.{cases_Bool, eqb-true, eq-eqb, false_from_ne_t
 use Rattle.std.proofs.lemmas.Option.{none-some, cond_some, option_and_then_some, some_pair_parts}
 use Rattle.std.proofs.lemmas.Slice.Eq.{bytes_eq-Decides}
 use Rattle.std.specs.Str.{bytes_eq}
-use Rattle.xom_base.proofs.CutLaws.{option_map_none, option_map_some}
+use Rattle.text_lines.proofs.CutLaws.{option_map_none, option_map_some}
 use Rattle.asm_tokens.proofs.Heads.{first_same, rest_same}
 use Rattle.asm_tokens.specs.Lexemes.{IsEscape, Quotes, QuotesBytes, after_quote, escape_of, escaped_first, if_whole, in_front, quoted_of, read_quoted, written_first}
 

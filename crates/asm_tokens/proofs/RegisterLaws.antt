@@ -7,7 +7,7 @@ use Rattle.std.proofs.lemmas.Bool.{and_parts, eqb-true, true≢false}
 use Rattle.std.proofs.lemmas.List.Quantifiers.{position-Some}
 use Rattle.std.proofs.lemmas.Option.{none-some, slice_get-get_or, slice_get_within}
 use Rattle.std.proofs.lemmas.Slice.Eq.{bytes_eq-Decides}
-use Rattle.xom_base.proofs.CutLaws.{option_map_some}
+use Rattle.text_lines.proofs.CutLaws.{option_map_some}
 use Rattle.asm_tokens.specs.Registers.{IsRegister, register_names, register_numbers, register_of}
 
 -- ---- first places

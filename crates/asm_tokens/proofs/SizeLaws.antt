@@ -9,8 +9,8 @@ use Rattle.std.proofs.lemmas.List.{length-append}
 use Rattle.std.proofs.lemmas.List.Sums.{prefix_len-le-length}
 use Rattle.std.proofs.lemmas.Option.{none-some, cond_some, option_and_then_some, some_pair_parts}
 use Rattle.std.proofs.Math.Seq.{take-append_seam}
-use Rattle.xom_base.proofs.CutLaws.{option_map_some}
-use Rattle.xom_base.specs.Numbers.{IsNumber}
+use Rattle.text_lines.proofs.CutLaws.{option_map_some}
+use Rattle.text_lines.specs.Numbers.{IsNumber}
 use Rattle.asm_tokens.proofs.Heads.{FirstFails-behind, first_same}
 use Rattle.asm_tokens.proofs.IntegerLaws.{integer_of-exact}
 use Rattle.asm_tokens.proofs.KindLaws.{Begins, begins-kind_of, kind_of-begins, run_passes, run_whole}

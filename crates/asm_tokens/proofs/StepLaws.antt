@@ -3,7 +3,7 @@ use Rattle.std.proofs.Common.{◌≡◌, ℕ, zero, suc, ◌+◌, ◌-◌, ◌<�
 use Rattle.std.specs.List.{prefix_len}
 use Rattle.std.proofs.lemmas.Bool.{cases_Bool, true≢false}
 use Rattle.std.proofs.Math.Seq.{drop-drop}
-use Rattle.xom_base.specs.Words.{is_blank}
+use Rattle.text_lines.specs.Words.{is_blank}
 use Rattle.asm_tokens.proofs.Heads.{FirstFails-behind}
 use Rattle.asm_tokens.specs.declared.token.Token.{Token}
 use Rattle.asm_tokens.specs.declared.token.TokenKind.{TokenKind}

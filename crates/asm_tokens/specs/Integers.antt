@@ -1,6 +1,6 @@
 -- Whole numbers in source lines: a number of the general grammar, that may have a `-` in front.
 use Rattle.std.specs.Prelude.{◌≡◌, ℕ, Bool, true, false, ◌==◌, if◌then◌else◌, ◌⊎◌, List, [], ◌∷◌, Option, None, option_map, ℤ, pos, ◌-ℤ◌}
-use Rattle.xom_base.specs.Numbers.{IsNumber, number_of_word}
+use Rattle.text_lines.specs.Numbers.{IsNumber, number_of_word}
 use Rattle.asm_tokens.specs.declared.integers.Integer.{Integer}
 
 -- the text is this whole number: its magnitude as it is, or behind `-`

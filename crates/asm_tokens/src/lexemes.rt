@@ -3,7 +3,7 @@ ghost use Rattle.asm_tokens.specs.declared.integers.Integer.{Integer};
 ghost use Rattle.asm_tokens.specs.Integers.{IsInteger, integer_of};
 
 use crate::Integer;
-use xom_base::number;
+use text_lines::number;
 
 /// The whole number of a text: decimal digits of a number below 2^64, or `0x` and 1 to 16 hexadecimal
 /// digits, and a `-` in front of them or none. None exactly where the text is no such number.

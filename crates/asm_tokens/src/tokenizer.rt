@@ -1,7 +1,7 @@
 ghost use Rattle.std.specs.Prelude.{◌≡◌, ◌+◌, ◌<◌, ◌≤◌, ℕ, List, [], ◌∷◌, Ok, Err, IfOk, IfSome, All, MatchOption, MatchResult, drop, length};
 ghost use Rattle.std.specs.List.{prefix_len};
 ghost use Rattle.xom_base.specs.Memory.{OrOut};
-ghost use Rattle.xom_base.specs.Words.{is_blank};
+ghost use Rattle.text_lines.specs.Words.{is_blank};
 ghost use Rattle.asm_tokens.specs.declared.token.Token.{Token};
 ghost use Rattle.asm_tokens.specs.Lexemes.{is_name_byte};
 ghost use Rattle.asm_tokens.specs.Tokens.{AreTokens, IsBadAt, IsTokenOf, TokensAnswers, kind_of_token, name_run_size, nothing_follows, size_of_token, token_of, tokens_from, tokens_of, with_tokens};

@@ -3,7 +3,8 @@
 
 use sha2::{Digest, Sha256};
 use std::alloc::Global;
-use xom_base::{NoMemory, split_lines};
+use text_lines::split_lines;
+use xom_base::NoMemory;
 
 /// The two words at the front of a text, and the rest; none where one of the three is missing.
 pub fn two_words(text: &str) -> Option<(&str, &str, &str)> {

@@ -3,8 +3,8 @@
 use Rattle.std.specs.Prelude.{◌≡◌, ◌⊎◌, ℕ, ◌≤◌, List, Some, Result, Ok, Err, IsSomeAnd}
 use Rattle.xom_io.specs.Answers.{FilesTold, Rises}
 use Rattle.xom_base.specs.Memory.{OrOut}
-use Rattle.xom_base.specs.declared.lines.TextFault.{TextFault}
-use Rattle.xom_base.specs.declared.lines.TextFault.TheVariants as text_fault
+use Rattle.text_lines.specs.declared.lines.TextFault.{TextFault}
+use Rattle.text_lines.specs.declared.lines.TextFault.TheVariants as text_fault
 use Rattle.cli_base.specs.declared.refusal.InputFault.TheVariants.{BadLine}
 use Rattle.cli_base.specs.declared.refusal.InputStop.{InputStop}
 use Rattle.cli_base.specs.declared.refusal.InputStop.TheVariants as input_stop

@@ -5,7 +5,8 @@ ghost use Rattle.cli_base.specs.Readings.{FilesGive, IsLined, IsNamed, MakesRefu
 
 use crate::refusal::{InputFault, InputStop, Refusal, Stop};
 use std::alloc::Global;
-use xom_base::{ByteList, PlainImage, TextFault};
+use text_lines::TextFault;
+use xom_base::{ByteList, PlainImage};
 use xom_image::{ImageFault, read_plain};
 use xom_io::{FileFault, Files, Name};
 

@@ -1,9 +1,9 @@
 -- The entries that are read of a journal's text are those of its grammar.
 use Rattle.std.proofs.Common.{◌≡◌, ℕ, List, Ok, Err, refl}
-use Rattle.xom_base.specs.Lines.{AnswersText, lines_of}
+use Rattle.text_lines.specs.Lines.{AnswersText, lines_of}
 use Rattle.xom_base.specs.declared.entry.Entry.{Entry}
-use Rattle.xom_base.specs.declared.lines.TextFault.TheVariants as text_fault
-use Rattle.xom_base.proofs.TextLaws.{AnswersText-lines}
+use Rattle.text_lines.specs.declared.lines.TextFault.TheVariants as text_fault
+use Rattle.text_lines.proofs.TextLaws.{AnswersText-lines}
 use Rattle.journal_text.specs.JournalLines.{JournalLine, journal_step}
 use Rattle.journal_text.specs.Readings.{IsBadJournalLine, IsJournal, entries_alone}
 use Rattle.journal_text.proofs.RowLaws.{tells}

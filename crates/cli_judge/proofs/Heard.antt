@@ -2,10 +2,10 @@
 use Rattle.std.proofs.Common.{◌≡◌, ℕ, ◌+◌, ◌<◌, ◌^◌, true, false, List, [], ◌∷◌, ◌++◌, length, Option, Some, None, Result, Ok, Err, refl, sym, ap, subst, ◌∙◌, append-nil, arith}
 use Rattle.std.specs.Option.{option_to_list}
 use Rattle.std.proofs.lemmas.List.{length-append}
-use Rattle.xom_base.proofs.LineLaws.{read_from-bad, read_from-none, read_from-one}
-use Rattle.xom_base.specs.Lines.{lines_of, made_of, read_from, with_front}
+use Rattle.text_lines.proofs.LineLaws.{read_from-bad, read_from-none, read_from-one}
+use Rattle.text_lines.specs.Lines.{lines_of, made_of, read_from, with_front}
 use Rattle.xom_base.specs.Results.{◌>>=◌}
-use Rattle.xom_base.specs.Words.{words_of}
+use Rattle.text_lines.specs.Words.{words_of}
 use Rattle.xom_base.specs.declared.entry.Entry.{Entry}
 use Rattle.xom_base.specs.declared.key.Key256.{Key256}
 use Rattle.xom_owners.specs.declared.owner.Owner.{Owner}

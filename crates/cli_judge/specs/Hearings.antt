@@ -1,7 +1,7 @@
 -- A judge at work on a journal's text.
 use Rattle.std.specs.Prelude.{◌≡◌, ◌+◌, ◌≤◌, ℕ, false, List, length, Result, Ok}
 use Rattle.std.specs.List.{list_any}
-use Rattle.xom_base.specs.Lines.{lines_of, read_from, with_front}
+use Rattle.text_lines.specs.Lines.{lines_of, read_from, with_front}
 use Rattle.xom_base.specs.Results.{◌>>=◌}
 use Rattle.xom_base.specs.declared.entry.Entry.{Entry}
 use Rattle.xom_base.specs.declared.key.Key256.{Key256}

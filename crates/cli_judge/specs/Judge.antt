@@ -1,7 +1,7 @@
 -- `judge RUN JOURNAL`: what a journal shows of its guests, judged by the owners of a run file.
 use Rattle.std.specs.Prelude.{ℕ, List, None, Result, Ok, if◌then◌else◌}
 use Rattle.std.specs.List.{list_any}
-use Rattle.xom_base.specs.Lines.{lines_of, made_of, read_from}
+use Rattle.text_lines.specs.Lines.{lines_of, made_of, read_from}
 use Rattle.xom_base.specs.declared.entry.Entry.{Entry}
 use Rattle.xom_base.specs.declared.key.Key256.{Key256}
 use Rattle.xom_owners.specs.declared.owner.Owner.{Owner}

@@ -1,7 +1,7 @@
 -- What a judge may be fed of a journal's text.
 use Rattle.std.specs.Prelude.{◌≡◌, ◌+◌, ℕ, true, List, Ok, Err}
 use Rattle.xom_base.specs.declared.entry.Entry.{Entry}
-use Rattle.xom_base.specs.Lines.{lines_of}
+use Rattle.text_lines.specs.Lines.{lines_of}
 use Rattle.journal_text.specs.JournalLines.{IsRow}
 use Rattle.journal_text.specs.Readings.{IsBadJournalLine, IsJournal}
 use Rattle.trace_judge.specs.Numbers.{installs_in, may_stand}

@@ -10,7 +10,8 @@ use cli_base::{Answer, InputFault, InputStop, Stop, fetch, of_file};
 use cli_runs::{owners, run_file};
 use journal_text::{BadLine, LineReader};
 use std::alloc::Global;
-use xom_base::{Key256, first_line};
+use text_lines::first_line;
+use xom_base::Key256;
 use xom_io::Files;
 use xom_owners::OwnerList;
 

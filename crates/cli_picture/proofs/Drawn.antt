@@ -1,7 +1,7 @@
 -- What is answered of the text of a journal is what its name comes to.
 use Rattle.std.proofs.Common.{◌≡◌, ℕ, inl, inr, List, Some, Result, Ok, Err, sym, subst, refl, arith}
 use Rattle.xom_io.specs.Answers.{FilesTold}
-use Rattle.xom_base.specs.Lines.{lines_of}
+use Rattle.text_lines.specs.Lines.{lines_of}
 use Rattle.journal_text.specs.Readings.{IsBadJournalLine}
 use Rattle.cli_base.specs.declared.answer.Answer.{Answer}
 use Rattle.cli_base.specs.declared.refusal.InputFault.TheVariants.{BadLine}

@@ -1,6 +1,6 @@
 -- `picture JOURNAL PAGE`: the page that shows a journal, or why there is none.
 use Rattle.std.specs.Prelude.{◌≡◌, ℕ, List, [], Result, Ok, Err}
-use Rattle.xom_base.specs.Lines.{lines_of}
+use Rattle.text_lines.specs.Lines.{lines_of}
 use Rattle.xom_base.specs.declared.entry.Entry.{Entry}
 use Rattle.journal_text.specs.Readings.{IsBadJournalLine, IsJournal}
 use Rattle.trace_picture.specs.Pages.{journal_page}

@@ -6,8 +6,9 @@ ghost use Rattle.cli_picture.specs.Picture.{Draws, IsDrawn, page_answer as page_
 use cli_base::{Answer, InputFault, Stop, bad, fetch};
 use journal_text::read_journal;
 use std::alloc::Global;
+use text_lines::TextFault;
 use trace_picture::print_page;
-use xom_base::{ByteList, NoMemory, TextFault};
+use xom_base::{ByteList, NoMemory};
 use xom_io::{Files, Name};
 use xom_journal::Journal;
 

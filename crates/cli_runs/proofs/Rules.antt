@@ -4,13 +4,13 @@ use Rattle.std.specs.Prelude.{All, IfOk, slice_get}
 use Rattle.std.specs.Option.{option_map_or}
 use Rattle.std.specs.List.{AllByRecursion}
 use Rattle.std.specs.List.Sorted.{IsStrictlyIncreasing}
-use Rattle.xom_base.specs.Hex.{IsHex, pairs}
-use Rattle.xom_base.specs.Lines.{AnswersText, Reads, lines_of}
-use Rattle.xom_base.specs.Words.{words_of}
-use Rattle.xom_base.specs.declared.lines.TextFault.{TextFault}
+use Rattle.text_lines.specs.Hex.{IsHex, pairs}
+use Rattle.text_lines.specs.Lines.{AnswersText, Reads, lines_of}
+use Rattle.text_lines.specs.Words.{words_of}
+use Rattle.text_lines.specs.declared.lines.TextFault.{TextFault}
 use Rattle.xom_base.specs.declared.schedule.Poke.{Poke}
-use Rattle.xom_base.proofs.FrontLaws.{all-snoc}
-use Rattle.xom_base.proofs.HexLaws.{length-IsHex}
+use Rattle.text_lines.proofs.FrontLaws.{all-snoc}
+use Rattle.text_lines.proofs.HexLaws.{length-IsHex}
 use Rattle.xom_script.specs.RunFiles.{IsRunFile, RunFormat}
 use Rattle.xom_script.specs.RunLines.{Ascends, IsRunLine}
 use Rattle.xom_script.specs.RunOrder.{Follows, last_event}

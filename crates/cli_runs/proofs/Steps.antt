@@ -2,8 +2,8 @@
 use Rattle.std.proofs.Common.{◌≡◌, inl, inr, ℕ, List, Some, None, Result, Ok, Err, sym, ap, subst, ◌∙◌}
 use Rattle.std.specs.Prelude.{IfOk, IsSomeAnd}
 use Rattle.xom_io.specs.Answers.{FilesTold}
-use Rattle.xom_base.specs.declared.lines.TextFault.{TextFault}
-use Rattle.xom_base.specs.declared.lines.TextFault.TheVariants as text_fault
+use Rattle.text_lines.specs.declared.lines.TextFault.{TextFault}
+use Rattle.text_lines.specs.declared.lines.TextFault.TheVariants as text_fault
 use Rattle.cli_base.specs.declared.refusal.InputStop.{InputStop}
 use Rattle.cli_base.specs.declared.refusal.InputStop.TheVariants as input_stop
 use Rattle.cli_base.specs.declared.refusal.Refusal.{Refusal}

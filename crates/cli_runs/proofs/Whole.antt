@@ -6,7 +6,7 @@ use Rattle.std.specs.Str.{bytes_eq}
 use Rattle.std.proofs.lemmas.Option.{none-some, same_Some}
 use Rattle.std.proofs.lemmas.Slice.Eq.{bytes_eq-Decides}
 use Rattle.xom_base.specs.declared.key.ImageId.{ImageId}
-use Rattle.xom_base.proofs.ByteLaws.{bytes_eq-differ, bytes_eq-same}
+use Rattle.text_lines.proofs.ByteLaws.{bytes_eq-differ, bytes_eq-same}
 use Rattle.xom_owners.specs.Owners.{AreDistinct, owner_of, same_id}
 use Rattle.xom_owners.specs.declared.owner.Owner.{Owner}
 use Rattle.xom_script.specs.RunOrder.{IsNewId}

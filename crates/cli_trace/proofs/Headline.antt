@@ -13,7 +13,7 @@ use Rattle.cli_runs.specs.declared.kernel_file.KernelFile.{KernelFile}
 use Rattle.cli_runs.specs.declared.kernel_file.KernelFile.TheVariants as kernel
 use Rattle.cli_runs.specs.declared.parts.Parts.{Parts}
 use Rattle.cli_base.specs.Inputs.{Held}
-use Rattle.xom_base.proofs.LineLaws.{same_Ok}
+use Rattle.text_lines.proofs.LineLaws.{same_Ok}
 use Rattle.xom_io.specs.Answers.{FilesTold}
 use Rattle.cli_runs.specs.Parts.{CanRun, parts_of}
 use Rattle.cli_runs.specs.RunFiles.{IsRunnable}

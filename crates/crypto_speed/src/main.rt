@@ -15,7 +15,8 @@ use machines::{Task, entries};
 use replay_tree::TreeVersions;
 use std::process::ExitCode;
 use std::{env, io};
-use xom_base::{NoMemory, number};
+use text_lines::number;
+use xom_base::NoMemory;
 use xom_versions::ChipVersions;
 
 fn main(rt: HostRuntime) -> io::Result<ExitCode> {

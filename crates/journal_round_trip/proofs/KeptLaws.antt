@@ -5,8 +5,8 @@ use Rattle.std.specs.Char.{digit_value}
 use Rattle.std.specs.Int.{w32, from_be_bytes}
 use Rattle.std.specs.List.{AllByRecursion}
 use Rattle.hex.specs.Hex.{IsBytes}
-use Rattle.xom_base.specs.Hex.{IsHex, pairs}
-use Rattle.xom_base.specs.Lines.{Reads, lines_of}
+use Rattle.text_lines.specs.Hex.{IsHex, pairs}
+use Rattle.text_lines.specs.Lines.{Reads, lines_of}
 use Rattle.xom_base.specs.declared.entry.Entry.{Entry}
 use Rattle.xom_base.specs.declared.entry.Entry.TheVariants as entry
 use Rattle.xom_base.specs.declared.event.Cause.{Cause}
@@ -24,8 +24,8 @@ use Rattle.xom_base.specs.declared.step.Released.TheVariants as released
 use Rattle.xom_base.specs.declared.step.StepEnd.{StepEnd}
 use Rattle.xom_base.specs.declared.step.StepEnd.TheVariants as ended
 use Rattle.xom_base.specs.declared.step.Step.{Step}
-use Rattle.xom_base.proofs.HexLaws.{hex_of-exact, length-hex_of}
-use Rattle.xom_base.proofs.LineLaws.{only_reads, same_Ok}
+use Rattle.text_lines.proofs.HexLaws.{hex_of-exact, length-hex_of}
+use Rattle.text_lines.proofs.LineLaws.{only_reads, same_Ok}
 use Rattle.step_text.specs.StepFields.{IsCell, IsEnd, IsHex8, IsNamedPair, IsReceivedWord, IsReleased, IsStep, IsStored, IsWrites, number_of_bytes}
 use Rattle.journal_text.specs.JournalLines.{IsCause, IsInstalledBefore, IsPayload, IsRow, IsRule, JournalLine, journal_step, last_behind}
 use Rattle.journal_text.specs.Readings.{IsJournal}

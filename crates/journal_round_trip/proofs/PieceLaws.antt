@@ -12,10 +12,10 @@ use Rattle.std.proofs.lemmas.Nat.{from_be_bytes-to_be_bytes_4}
 use Rattle.hex.specs.Hex.{IsBytes, encode_lower}
 use Rattle.hex.proofs.HexLemmas.{decode_sized-encode_lower}
 use Rattle.text_pieces.specs.Pieces.{hex8}
-use Rattle.xom_base.specs.Hex.{IsHex}
-use Rattle.xom_base.specs.Numbers.{IsDecimal, IsNumeral, WritesBelow}
-use Rattle.xom_base.proofs.HexLaws.{decoded_is, hex_of-exact}
-use Rattle.xom_base.proofs.NumberLaws.{digits_from, value_is}
+use Rattle.text_lines.specs.Hex.{IsHex}
+use Rattle.text_lines.specs.Numbers.{IsDecimal, IsNumeral, WritesBelow}
+use Rattle.text_lines.proofs.HexLaws.{decoded_is, hex_of-exact}
+use Rattle.text_lines.proofs.NumberLaws.{digits_from, value_is}
 use Rattle.step_text.specs.StepFields.{IsHex8}
 use Rattle.journal_round_trip.proofs.WordLaws.{IsPlain, IsWord, ends}
 

@@ -1,10 +1,10 @@
 -- The lines of a printed text, one after another.
 use Rattle.std.proofs.Common.{◌≡◌, ℕ, ◌+◌, ◌^◌, ◌<◌, List, [], ◌∷◌, ◌++◌, Some, refl, sym, ap, subst, ◌∙◌, append_assoc, arith}
-use Rattle.xom_base.specs.Lines.{Reads, lines_of}
-use Rattle.xom_base.specs.Words.{words_of}
+use Rattle.text_lines.specs.Lines.{Reads, lines_of}
+use Rattle.text_lines.specs.Words.{words_of}
 use Rattle.xom_base.specs.declared.entry.Entry.{Entry}
 use Rattle.xom_base.specs.declared.entry.Entry.TheVariants as entry
-use Rattle.xom_base.proofs.CutLaws.{cut_of-at, lines_of-cut}
+use Rattle.text_lines.proofs.CutLaws.{cut_of-at, lines_of-cut}
 use Rattle.journal_text.specs.JournalLines.{IsRow, JournalLine, last_behind}
 use Rattle.journal_text.specs.JournalTexts.{entry_text, journal_line_text, journal_text}
 use Rattle.journal_text.specs.Readings.{IsJournal}

@@ -5,7 +5,7 @@ use Rattle.std.specs.List.{AllByRecursion, before_first, join_with_byte, list_an
 use Rattle.std.proofs.lemmas.Bool.{or_from, or_parts}
 use Rattle.std.proofs.lemmas.List.{length-append}
 use Rattle.std.proofs.lemmas.List.Folds.{list_any-append}
-use Rattle.xom_base.specs.Words.{begins_comment, ends_word, has_bytes, is_blank, words_of}
+use Rattle.text_lines.specs.Words.{begins_comment, ends_word, has_bytes, is_blank, words_of}
 
 -- ---- words
 

@@ -5,9 +5,9 @@ use Rattle.std.specs.Option.{option_to_list}
 use Rattle.std.proofs.lemmas.Bool.{true≢false}
 use Rattle.std.proofs.lemmas.List.{length-append}
 use Rattle.std.proofs.lemmas.Option.{none-some, same_Some, some_pair_parts}
-use Rattle.xom_base.specs.Lines.{IsFirstBad, Reads, with_words}
-use Rattle.xom_base.specs.Words.{words_of}
-use Rattle.xom_base.proofs.CutLaws.{option_map_some}
+use Rattle.text_lines.specs.Lines.{IsFirstBad, Reads, with_words}
+use Rattle.text_lines.specs.Words.{words_of}
+use Rattle.text_lines.proofs.CutLaws.{option_map_some}
 use Rattle.xom_base.specs.declared.entry.Entry.{Entry}
 use Rattle.journal_text.specs.declared.line_reader.BadLine.{BadLine}
 use Rattle.journal_text.specs.JournalLines.{JournalLine, journal_step, row_of_entry}

@@ -5,22 +5,22 @@ use Rattle.std.specs.Str.{bytes_eq}
 use Rattle.std.proofs.lemmas.Bool.{and_parts, cases_Bool, eq-eqb, eqb-true, le-leb, leb-true}
 use Rattle.std.proofs.lemmas.Option.{cond_some, none-some, option_and_then_some as steps, same_Some, some_pair_parts}
 use Rattle.sha2.specs.Sha256.{sha256}
-use Rattle.xom_base.specs.Hex.{IsHex, WritesHex, hex_of, hex_within}
-use Rattle.xom_base.specs.Lines.{Tells, with_words}
-use Rattle.xom_base.specs.Words.{words_of}
-use Rattle.xom_base.specs.Numbers.{IsDecimal, WritesBelow, WritesDecimal, decimal_below_of, number_below_of, numeral_of, count_below_of}
-use Rattle.xom_base.proofs.CutLaws.{option_map_some}
-use Rattle.xom_base.proofs.HexLaws.{hex_of-exact, hex_within-exact}
-use Rattle.xom_base.proofs.LineLaws.{Tells-words}
-use Rattle.xom_base.proofs.NumberLaws.{cond_then, decimal_below_of-exact, none_from_never, number_below_of-exact, numeral_of-exact, count_below_of-exact}
+use Rattle.text_lines.specs.Hex.{IsHex, WritesHex, hex_of, hex_within}
+use Rattle.text_lines.specs.Lines.{Tells, with_words}
+use Rattle.text_lines.specs.Words.{words_of}
+use Rattle.text_lines.specs.Numbers.{IsDecimal, WritesBelow, WritesDecimal, decimal_below_of, number_below_of, numeral_of, count_below_of}
+use Rattle.text_lines.proofs.CutLaws.{option_map_some}
+use Rattle.text_lines.proofs.HexLaws.{hex_of-exact, hex_within-exact}
+use Rattle.text_lines.proofs.LineLaws.{Tells-words}
+use Rattle.text_lines.proofs.NumberLaws.{cond_then, decimal_below_of-exact, none_from_never, number_below_of-exact, numeral_of-exact, count_below_of-exact}
 use Rattle.xom_base.specs.declared.entry.Entry.{Entry}
 use Rattle.xom_base.specs.declared.entry.Entry.TheVariants as entry
 use Rattle.xom_base.specs.declared.event.Cause.{Cause}
 use Rattle.xom_base.specs.declared.event.Cause.TheVariants as cause
 use Rattle.xom_base.specs.declared.event.Rule.{Rule}
 use Rattle.xom_base.specs.declared.event.Rule.TheVariants as rule
-use Rattle.xom_base.proofs.ChoiceLaws.{cond-cases}
-use Rattle.xom_base.proofs.ByteLaws.{bytes_eq-same, same_bytes}
+use Rattle.text_lines.proofs.ChoiceLaws.{cond-cases}
+use Rattle.text_lines.proofs.ByteLaws.{bytes_eq-same, same_bytes}
 use Rattle.step_text.specs.StepFields.{fault_of, step_of_words}
 use Rattle.step_text.proofs.StepWords.{fault_of-exact, step_of-exact}
 use Rattle.journal_text.specs.JournalLines.{IsCause, IsInstalledBefore, IsPayload, IsRow, IsRule, JournalLine, accept_entry_of, cause_of, hash_entry_of, install_entry_of, installed_of, journal_step, kill_entry_of, last_behind, named_cause_of, named_entry_of, named_rule_of, next_install_of, out_entry_of, payload_of, row_of_entry, rule_of, seal_entry_of, step_entry_of, stop_entry_of, trap_entry_of, with_last}

@@ -4,9 +4,9 @@ use Rattle.std.specs.Prelude.{◌≡◌, ℕ, ◌+◌, ◌^◌, ◌<◌, ◌≤�
 use Rattle.std.specs.Str.{bytes_eq}
 use Rattle.sha2.specs.Sha256.{sha256}
 use Rattle.step_text.specs.StepFields.{IsFault, IsStep, fault_of, step_of_words}
-use Rattle.xom_base.specs.Hex.{IsHex, WritesHex, hex_of, hex_within}
-use Rattle.xom_base.specs.Lines.{Format, LineStep, OfWords, step_by_words as line_step_of}
-use Rattle.xom_base.specs.Numbers.{IsDecimal, WritesBelow, WritesDecimal, decimal_below_of, number_below_of, numeral_of, count_below_of}
+use Rattle.text_lines.specs.Hex.{IsHex, WritesHex, hex_of, hex_within}
+use Rattle.text_lines.specs.Lines.{Format, LineStep, OfWords, step_by_words as line_step_of}
+use Rattle.text_lines.specs.Numbers.{IsDecimal, WritesBelow, WritesDecimal, decimal_below_of, number_below_of, numeral_of, count_below_of}
 use Rattle.xom_base.specs.Options.{◌>>=◌}
 use Rattle.xom_base.specs.Sizes.{compartment_count, id_size}
 use Rattle.xom_base.specs.declared.entry.Entry.{Entry}

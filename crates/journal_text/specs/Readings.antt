@@ -2,9 +2,9 @@
 -- next one.
 use Rattle.std.specs.Prelude.{◌≡◌, ℕ, ◌+◌, Bool, true, false, List, length, ◌++◌, Option, Some, None, Result, Ok, Err}
 use Rattle.std.specs.Option.{option_to_list}
-use Rattle.xom_base.specs.Lines.{IsFirstBad, IsText, Reads, lines_of}
+use Rattle.text_lines.specs.Lines.{IsFirstBad, IsText, Reads, lines_of}
 use Rattle.xom_base.specs.declared.entry.Entry.{Entry}
-use Rattle.xom_base.specs.declared.lines.TextFault.{TextFault}
+use Rattle.text_lines.specs.declared.lines.TextFault.{TextFault}
 use Rattle.xom_journal.specs.Log.{Log}
 use Rattle.journal_text.specs.declared.line_reader.BadLine.{BadLine}
 use Rattle.journal_text.specs.JournalLines.{JournalLine}

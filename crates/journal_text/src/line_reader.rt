@@ -1,5 +1,5 @@
 ghost use Rattle.std.specs.Prelude.{◌≡◌, ◌↔◌, ◌<◌, ◌+◌, ◌^◌, ◌∷◌, ◌++◌, [], ℕ, List, IfOk, IsNone, Err, true, false};
-ghost use Rattle.xom_base.specs.Words.{words_of};
+ghost use Rattle.text_lines.specs.Words.{words_of};
 ghost use Rattle.xom_base.specs.declared.entry.Entry.{Entry as AnEntry};
 ghost use Rattle.journal_text.specs.JournalLines.{journal_step};
 ghost use Rattle.journal_text.specs.Readings.{AnswersNext, AnswersStep, HasRead};

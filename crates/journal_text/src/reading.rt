@@ -1,11 +1,12 @@
 ghost use Rattle.std.specs.Prelude.{◌≡◌, ◌+◌, ◌∷◌, ◌++◌, [], OnOk};
-ghost use Rattle.xom_base.specs.Lines.{AnswersRead, AnswersText, lines_of, made_of, read_from};
+ghost use Rattle.text_lines.specs.Lines.{AnswersRead, AnswersText, lines_of, made_of, read_from};
 ghost use Rattle.journal_text.specs.JournalLines.{journal_step};
 ghost use Rattle.journal_text.specs.Readings.{IsBadJournalLine, IsJournal, entries_alone, entries_read};
 
 use crate::line_reader::{BadLine, LineReader};
 use std::alloc::Global;
-use xom_base::{ByteList, Entry, NoMemory, TextFault, first_line};
+use text_lines::{TextFault, first_line};
+use xom_base::{ByteList, Entry, NoMemory};
 use xom_journal::{Journal, cost};
 
 /// Reads a journal's text: one entry a line, by the general rules of lines, words and comments. The fault

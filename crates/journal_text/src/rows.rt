@@ -1,14 +1,14 @@
 ghost use Rattle.std.specs.Prelude.{◌≡◌, ◌≤◌, ◌<◌, ◌^◌, List, length, map, option_map};
-ghost use Rattle.xom_base.specs.Hex.{hex_within};
-ghost use Rattle.xom_base.specs.Numbers.{decimal_below_of, number_below_of};
+ghost use Rattle.text_lines.specs.Hex.{hex_within};
+ghost use Rattle.text_lines.specs.Numbers.{decimal_below_of, number_below_of};
 ghost use Rattle.journal_text.specs.JournalLines.{accept_entry_of, cause_of, hash_entry_of, install_entry_of, installed_of, journal_step, kill_entry_of, last_behind, named_cause_of, named_entry_of, named_rule_of, next_install_of, out_entry_of, payload_of, row_of_entry, rule_of, seal_entry_of, step_entry_of, stop_entry_of, trap_entry_of};
 
 use keyed_mac::digest;
 use step_text::{fault_in, step_in};
-use xom_base::{
-    Cause, Entry, ImageId, Payload, Rule, count_below, decimal, decimal_below, few_words, hex_into,
-    hex16, hex32, number_below, number32,
+use text_lines::{
+    count_below, decimal, decimal_below, few_words, hex_into, hex16, hex32, number_below, number32,
 };
+use xom_base::{Cause, Entry, ImageId, Payload, Rule};
 
 /// What a line says, where the last install before it had this number: no entry where it has no words, and
 /// the number of the last install behind it. None where it is off the grammar. It takes no memory.

@@ -18,10 +18,11 @@ use keyed_mac::digest;
 use std::alloc::Global;
 use std::process::ExitCode;
 use std::{env, io};
+use text_lines::number;
 use trace_judge::{Judge, Report, judge};
 use xom_base::{
     Block, ByteList, Entry, ImageId, Key256, NoMemory, PlainImage, Received, Released, Short, Step,
-    StepEnd, Stored, Writes, number,
+    StepEnd, Stored, Writes,
 };
 use xom_journal::{Journal, cost};
 use xom_owners::{Owner, OwnerList};

@@ -15,7 +15,8 @@ use crate::ranges::written;
 use crate::unknown::no_unknown;
 use asm_syntax::read_source;
 use std::alloc::Global;
-use xom_base::{PlainImage, TextFault};
+use text_lines::TextFault;
+use xom_base::PlainImage;
 
 /// Assembles a source: the image that it stands for, or the fault of the first kind that occurs in it.
 /// It costs time linear in the text and the image, beside the ordered map of the labels.

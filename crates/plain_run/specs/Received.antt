@@ -1,7 +1,7 @@
 -- Received files: the values that a program run alone receives, one a line. This project's own
 -- format.
 use Rattle.std.specs.Prelude.{◌≡◌, ℕ, List, [], ◌∷◌, Option, None, Result}
-use Rattle.xom_base.specs.Lines.{IsFirstBad, IsRows, Rows, lines_of, rows_of}
+use Rattle.text_lines.specs.Lines.{IsFirstBad, IsRows, Rows, lines_of, rows_of}
 use Rattle.step_text.specs.StepFields.{IsHex8, hex8_of}
 
 -- one word, which is eight hexadecimal digits in either case: the value, its high byte first

@@ -1,10 +1,11 @@
 ghost use Rattle.std.specs.Prelude.{◌≡◌, map};
-ghost use Rattle.xom_base.specs.Lines.{AnswersRead, AnswersText};
+ghost use Rattle.text_lines.specs.Lines.{AnswersRead, AnswersText};
 ghost use Rattle.plain_run.specs.Received.{IsBadValueLine, IsReceivedFile, received_at, value_of_line};
 
 use std::alloc::Global;
 use step_text::hex8_in;
-use xom_base::{List, NoMemory, RowFormat, TextFault, read_rows};
+use text_lines::{RowFormat, TextFault, read_rows};
+use xom_base::{List, NoMemory};
 
 /// The values that a program receives, in their order.
 pub type ReceivedList = List<u32>;

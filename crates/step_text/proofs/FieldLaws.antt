@@ -10,13 +10,13 @@ use Rattle.std.proofs.lemmas.Bool.Decides.{Decides-eqb}
 use Rattle.std.proofs.lemmas.List.{drop_at, length-append}
 use Rattle.std.proofs.lemmas.Option.{cond_some, none-some, option_and_then_some as steps, same_Some, some_pair_parts}
 use Rattle.std.proofs.lemmas.Slice.Eq.{bytes_eq-Decides, starts_is}
-use Rattle.xom_base.specs.Hex.{IsHex, hex_of}
-use Rattle.xom_base.specs.Numbers.{IsNumber, IsNumeral, WritesBelow, number_below_of, count_below_of}
-use Rattle.xom_base.specs.Words.{cut_of}
-use Rattle.xom_base.proofs.CutLaws.{cut_of-at, cut_of-whole, option_map_some}
-use Rattle.xom_base.proofs.HexLaws.{hex_of-exact}
-use Rattle.xom_base.proofs.NumberLaws.{number_below_of-exact, count_below_of-exact}
-use Rattle.xom_base.proofs.ByteLaws.{same_bytes}
+use Rattle.text_lines.specs.Hex.{IsHex, hex_of}
+use Rattle.text_lines.specs.Numbers.{IsNumber, IsNumeral, WritesBelow, number_below_of, count_below_of}
+use Rattle.text_lines.specs.Words.{cut_of}
+use Rattle.text_lines.proofs.CutLaws.{cut_of-at, cut_of-whole, option_map_some}
+use Rattle.text_lines.proofs.HexLaws.{hex_of-exact}
+use Rattle.text_lines.proofs.NumberLaws.{number_below_of-exact, count_below_of-exact}
+use Rattle.text_lines.proofs.ByteLaws.{same_bytes}
 use Rattle.step_text.specs.StepFields.{IsCell, IsHex8, IsNamedHex8, IsNamedNumber, IsNamedPair, cell_of, hex8_of, named_hex8_of, named_number_of, named_pair_of, or_else, pair_of, text_after_name}
 
 -- ---- words and bytes

@@ -5,11 +5,11 @@ use Rattle.std.specs.Str.{bytes_eq}
 use Rattle.std.proofs.lemmas.Bool.{cases_Bool}
 use Rattle.std.proofs.lemmas.List.{length-append}
 use Rattle.std.proofs.lemmas.Option.{none-some, option_and_then_some as steps, same_Some}
-use Rattle.xom_base.specs.Hex.{IsHex, hex_of}
-use Rattle.xom_base.specs.Numbers.{WritesBelow as WritesNumber, count_below_of}
-use Rattle.xom_base.specs.Words.{cut_of}
-use Rattle.xom_base.proofs.CutLaws.{cut_of-at, cut_of-whole, option_map_some}
-use Rattle.xom_base.proofs.HexLaws.{hex_of-exact}
+use Rattle.text_lines.specs.Hex.{IsHex, hex_of}
+use Rattle.text_lines.specs.Numbers.{WritesBelow as WritesNumber, count_below_of}
+use Rattle.text_lines.specs.Words.{cut_of}
+use Rattle.text_lines.proofs.CutLaws.{cut_of-at, cut_of-whole, option_map_some}
+use Rattle.text_lines.proofs.HexLaws.{hex_of-exact}
 use Rattle.xom_base.specs.declared.event.OwnFault.{OwnFault}
 use Rattle.xom_base.specs.declared.event.OwnFault.TheVariants as fault
 use Rattle.xom_base.specs.declared.step.Writes.{Writes}
@@ -23,8 +23,8 @@ use Rattle.xom_base.specs.declared.step.Released.TheVariants as released
 use Rattle.xom_base.specs.declared.step.StepEnd.{StepEnd}
 use Rattle.xom_base.specs.declared.step.StepEnd.TheVariants as ended
 use Rattle.xom_base.specs.declared.step.Step.{Step}
-use Rattle.xom_base.proofs.NumberLaws.{count_below_of-exact}
-use Rattle.xom_base.proofs.ByteLaws.{bytes_eq-longer, bytes_eq-same, same_bytes}
+use Rattle.text_lines.proofs.NumberLaws.{count_below_of-exact}
+use Rattle.text_lines.proofs.ByteLaws.{bytes_eq-longer, bytes_eq-same, same_bytes}
 use Rattle.step_text.specs.declared.reading.CellOrPair.{CellOrPair}
 use Rattle.step_text.specs.declared.reading.CellOrPair.TheVariants as form
 use Rattle.step_text.specs.StepFields.{IsCell, IsEnd, IsFault, IsHex8, IsNamedPair, IsReceivedWord, IsReleased, IsStep, IsStored, IsWrites, bytes_at_of, cell_of, cell_or_pair_of, end_of_word, fault_of, hex8_of, named_hex8_of, named_number_of, named_pair_of, number_of_bytes, or_else, received_word, released_by, released_of, step_of_words, stored_bytes_of, stored_of, text_after_name, writes_by, writes_of}

@@ -4,10 +4,10 @@ use Rattle.std.specs.Prelude.{◌≡◌, ℕ, ◌+◌, ◌-◌, ◌^◌, ◌==�
 use Rattle.std.specs.Int.{w32, from_be_bytes}
 use Rattle.std.specs.List.{starts_with}
 use Rattle.std.specs.Str.{bytes_eq}
-use Rattle.xom_base.specs.Hex.{IsHex, hex_of}
-use Rattle.xom_base.specs.Numbers.{WritesBelow as WritesNumber, count_below_of, number_below_of}
+use Rattle.text_lines.specs.Hex.{IsHex, hex_of}
+use Rattle.text_lines.specs.Numbers.{WritesBelow as WritesNumber, count_below_of, number_below_of}
 use Rattle.xom_base.specs.Options.{◌>>=◌}
-use Rattle.xom_base.specs.Words.{cut_of}
+use Rattle.text_lines.specs.Words.{cut_of}
 use Rattle.xom_base.specs.Sizes.{register_places}
 use Rattle.xom_base.specs.declared.event.OwnFault.{OwnFault}
 use Rattle.xom_base.specs.declared.event.OwnFault.TheVariants as fault

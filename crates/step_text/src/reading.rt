@@ -1,12 +1,10 @@
 ghost use Rattle.std.specs.Prelude.{◌≡◌, ◌≤◌, ◌<◌, List, IfSome, map, option_map};
 ghost use Rattle.std.specs.Int.{w32, from_be_bytes};
-ghost use Rattle.xom_base.specs.Hex.{hex_of};
+ghost use Rattle.text_lines.specs.Hex.{hex_of};
 ghost use Rattle.step_text.specs.StepFields.{bytes_at_of, cell_of, cell_or_pair_of, end_of_word, fault_of, hex8_of, named_hex8_of, named_number_of, named_pair_of, number_of_bytes, pair_of, received_word, released_by, released_of, step_of_words, stored_bytes_of, stored_of, text_after_name as behind_of, writes_by, writes_of};
 
-use xom_base::{
-    OwnFault, Received, Released, Step, StepEnd, Stored, Writes, count_below, cut, hex_array,
-    hex_fills, number32,
-};
+use text_lines::{count_below, cut, hex_array, hex_fills, number32};
+use xom_base::{OwnFault, Received, Released, Step, StepEnd, Stored, Writes};
 
 /// What a word of the form that WRITES and RELEASED have in common says.
 #[derive(Clone, Copy)]

@@ -1,12 +1,3 @@
 pub mod StepLaws
-pub mod ByteLaws
-pub mod ChoiceLaws
-pub mod CutLaws
-pub mod FrontLaws
-pub mod HexLaws
-pub mod LineLaws
-pub mod NumberLaws
 pub mod PaddedLaws
-pub mod TextLaws
-pub mod NextLaws
 pub mod Images

@@ -1,7 +1,4 @@
-pub mod Hex
-pub mod Lines
 pub mod Memory
-pub mod Numbers
 pub mod Options
 pub mod Padded
 pub mod Results
@@ -9,4 +6,3 @@ pub mod Steps
 pub mod Entries
 pub mod Frames
 pub mod Sizes
-pub mod Words

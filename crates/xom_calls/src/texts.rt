@@ -3,11 +3,9 @@
 use crate::inputs::repeated;
 use std::alloc::Global;
 use std::test::Fail;
+use text_lines::{LineFault, LineFormat, TextFault, read_lines, split_lines, words};
 use text_pieces::{hex8, push_bytes, push_decimal, push_hex8};
-use xom_base::{
-    Block, ByteList, Interrupts, LineFault, LineFormat, NumberList, Op, Payload, Short, TextFault,
-    read_lines, split_lines, words,
-};
+use xom_base::{Block, ByteList, Interrupts, NumberList, Op, Payload, Short};
 use xom_debug::{Command, read_commands};
 use xom_script::{KernelLine, ScriptLine, read_run, read_script};
 

@@ -1,8 +1,8 @@
 -- The words after the program's name, as a row of the table of commands.
 use Rattle.std.specs.Prelude.{ℕ, ◌+◌, ◌^◌, List, [], ◌∷◌, Option, Some, None, codes, option_map, if◌then◌else◌}
 use Rattle.std.specs.Str.{bytes_eq}
-use Rattle.xom_base.specs.Hex.{hex_of}
-use Rattle.xom_base.specs.Numbers.{number_below_of}
+use Rattle.text_lines.specs.Hex.{hex_of}
+use Rattle.text_lines.specs.Numbers.{number_below_of}
 use Rattle.xom_base.specs.declared.key.ImageId.{ImageId}
 use Rattle.xom_base.specs.declared.key.Key256.{Key256}
 use Rattle.xom_base.specs.Options.{◌>>=◌}

@@ -2,7 +2,8 @@ ghost use Rattle.std.specs.Prelude.{◌≡◌, map, option_map, string_bytes};
 ghost use Rattle.xom_cli.specs.Rows.{plain_row as plain_row_of, row_of_five as row_of_five_words, row_of_one as row_of_one_word, row_of_three as row_of_three_words, row_of_two as row_of_two_words, row_of_words, seal_row as seal_row_of};
 ghost use Rattle.xom_cli.specs.Words.{row_of_words_of};
 
-use xom_base::{ImageId, Key256, hex16, hex32, number_below};
+use text_lines::{hex16, hex32, number_below};
+use xom_base::{ImageId, Key256};
 
 /// The most steps that `plain` is asked for.
 const MOST_STEPS: u64 = 1_048_576;

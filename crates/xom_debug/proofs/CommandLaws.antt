@@ -7,11 +7,11 @@ use Rattle.std.proofs.lemmas.Bool.{leb-true, le-leb}
 use Rattle.std.proofs.lemmas.List.Elements.{All-append}
 use Rattle.std.proofs.lemmas.Option.{none-some, option_and_then_some as steps, same_Some}
 use Rattle.std.proofs.lemmas.Slice.Eq.{bytes_eq-Decides}
-use Rattle.xom_base.specs.Lines.{AnswersRead, AnswersText, Reads, Rows, lines_of}
-use Rattle.xom_base.specs.Numbers.{number_below_of, number_of_word}
-use Rattle.xom_base.proofs.NumberLaws.{number_below_of-exact, number_of-exact}
-use Rattle.xom_base.proofs.TextLaws.{AnswersText-rows}
-use Rattle.xom_base.specs.declared.lines.TextFault.{TextFault}
+use Rattle.text_lines.specs.Lines.{AnswersRead, AnswersText, Reads, Rows, lines_of}
+use Rattle.text_lines.specs.Numbers.{number_below_of, number_of_word}
+use Rattle.text_lines.proofs.NumberLaws.{number_below_of-exact, number_of-exact}
+use Rattle.text_lines.proofs.TextLaws.{AnswersText-rows}
+use Rattle.text_lines.specs.declared.lines.TextFault.{TextFault}
 use Rattle.xom_debug.specs.Commands.{AreCommands, CommandKeepsRules, IsBadCommandLine, IsCommand, command_of, command_of_one, command_of_three, command_of_two, commands_at, ram_command, reg_command, slot_command, step_command, until_command}
 use Rattle.xom_debug.specs.declared.command.Command.{Command}
 use Rattle.xom_debug.specs.declared.command.Command.TheVariants as command

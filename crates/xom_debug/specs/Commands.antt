@@ -1,8 +1,8 @@
 -- The commands of a debugger, a row each.
 use Rattle.std.specs.Prelude.{◌≡◌, ℕ, ◌^◌, ◌≤◌, nat_le, if◌then◌else◌, List, [], ◌∷◌, codes, Option, Some, None, Result}
 use Rattle.std.specs.Str.{bytes_eq}
-use Rattle.xom_base.specs.Lines.{IsFirstBad, IsRows, LineStep, Rows, lines_of, rows_of, rows_step}
-use Rattle.xom_base.specs.Numbers.{IsNumber, WritesBelow, number_below_of, number_of_word}
+use Rattle.text_lines.specs.Lines.{IsFirstBad, IsRows, LineStep, Rows, lines_of, rows_of, rows_step}
+use Rattle.text_lines.specs.Numbers.{IsNumber, WritesBelow, number_below_of, number_of_word}
 use Rattle.xom_base.specs.Options.{◌>>=◌}
 use Rattle.xom_base.specs.Sizes.{compartment_count, register_places, slot_limit}
 use Rattle.xom_debug.specs.declared.command.Command.{Command}

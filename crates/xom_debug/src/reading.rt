@@ -1,11 +1,11 @@
 ghost use Rattle.std.specs.Prelude.{◌≡◌, All, IfOk, map};
-ghost use Rattle.xom_base.specs.Lines.{AnswersRead, AnswersText};
+ghost use Rattle.text_lines.specs.Lines.{AnswersRead, AnswersText};
 ghost use Rattle.xom_debug.specs.Commands.{AreCommands, CommandKeepsRules, IsBadCommandLine, command_of, command_of_one as of_one_word, command_of_three as of_three_words, command_of_two as of_two_words, commands_at, ram_command, reg_command, slot_command, step_command, until_command};
 
 use crate::command::{Command, CommandList};
 use std::alloc::Global;
 use std::marker::Model;
-use xom_base::{LineFault, LineFormat, TextFault, number, number_below, read_lines, words};
+use text_lines::{LineFault, LineFormat, TextFault, number, number_below, read_lines, words};
 
 /// Reads the commands of a debugger, one a line, by the general rules of lines, words and comments:
 /// `step N`, `until trap`, `reg R` with R 1 to 33, `slot S` with S 1 to 16, `last`, and `ram A N` with

@@ -8,11 +8,11 @@ use Rattle.std.proofs.lemmas.Bool.Decides.{nat_tests}
 use Rattle.std.proofs.lemmas.Option.{none-some, option_and_then_some as steps, same_Some}
 use Rattle.std.proofs.lemmas.Slice.Eq.{bytes_eq-Decides}
 use Rattle.std.proofs.lemmas.Str.{IsUtf8-from_is_utf8, is_utf8-from_IsUtf8}
-use Rattle.xom_base.specs.Hex.{hex_within}
-use Rattle.xom_base.proofs.HexLaws.{hex_within-exact}
-use Rattle.xom_base.proofs.ChoiceLaws.{cond-cases}
-use Rattle.xom_base.proofs.ByteLaws.{same_bytes}
-use Rattle.xom_base.proofs.NumberLaws.{cond_then}
+use Rattle.text_lines.specs.Hex.{hex_within}
+use Rattle.text_lines.proofs.HexLaws.{hex_within-exact}
+use Rattle.text_lines.proofs.ChoiceLaws.{cond-cases}
+use Rattle.text_lines.proofs.ByteLaws.{same_bytes}
+use Rattle.text_lines.proofs.NumberLaws.{cond_then}
 use Rattle.xom_script.specs.Fields.{WritesBytes, name_of_word, row_by_name, write_bytes_of}
 
 -- what holds of the value of each row holds of the value that was found

@@ -2,13 +2,13 @@
 use Rattle.std.proofs.Common.{ℕ, ◌+◌, ◌^◌, ◌<◌, ◌≤◌, List, [], ◌∷◌, ◌++◌, ◌*◌, length, Option, Some, None, Result, Ok, Err, sym, subst, arith, length-append}
 use Rattle.std.specs.Prelude.{◌≢◌, IfOk}
 use Rattle.std.specs.List.{AllByRecursion}
-use Rattle.xom_base.specs.Lines.{AnswersRead, Reads, lines_of}
-use Rattle.xom_base.specs.declared.lines.TextFault.{TextFault}
+use Rattle.text_lines.specs.Lines.{AnswersRead, Reads, lines_of}
+use Rattle.text_lines.specs.declared.lines.TextFault.{TextFault}
 use Rattle.xom_base.specs.declared.schedule.Interrupts.{Interrupts}
 use Rattle.xom_base.specs.declared.schedule.Interrupts.TheVariants as interrupts
 use Rattle.xom_base.specs.declared.schedule.Poke.{Poke}
-use Rattle.xom_base.specs.Words.{words_of}
-use Rattle.xom_base.proofs.FrontLaws.{all-snoc}
+use Rattle.text_lines.specs.Words.{words_of}
+use Rattle.text_lines.proofs.FrontLaws.{all-snoc}
 use Rattle.xom_script.specs.RunFiles.{IsRunFile, RunFormat, run_file_at}
 use Rattle.xom_script.specs.RunLines.{IsInterrupts, IsRunLine}
 use Rattle.xom_script.specs.RunOrder.{Follows, HasRoom, IsNewId, draft_with_guest, with_owner}

@@ -6,11 +6,11 @@ use Rattle.std.proofs.lemmas.Bool.{and_parts, both_ways, cases_Bool, false_from_
 use Rattle.std.proofs.lemmas.Option.{none-some, option_and_then_some as steps, same_Some, some_pair_parts}
 use Rattle.std.proofs.lemmas.Slice.Eq.{bytes_eq-Decides}
 use Rattle.xom_base.specs.declared.key.ImageId.{ImageId}
-use Rattle.xom_base.specs.declared.lines.TextFault.{TextFault}
-use Rattle.xom_base.specs.Lines.{AnswersRead, AnswersText, Reads, Tells, at_end, lines_of, read_from}
-use Rattle.xom_base.proofs.LineLaws.{Tells-words, bad_from, ok_err, only_bad, only_reads, reads_from, same_Err, same_Ok}
-use Rattle.xom_base.proofs.TextLaws.{AnswersText-exact}
-use Rattle.xom_base.proofs.NumberLaws.{cond_then}
+use Rattle.text_lines.specs.declared.lines.TextFault.{TextFault}
+use Rattle.text_lines.specs.Lines.{AnswersRead, AnswersText, Reads, Tells, at_end, lines_of, read_from}
+use Rattle.text_lines.proofs.LineLaws.{Tells-words, bad_from, ok_err, only_bad, only_reads, reads_from, same_Err, same_Ok}
+use Rattle.text_lines.proofs.TextLaws.{AnswersText-exact}
+use Rattle.text_lines.proofs.NumberLaws.{cond_then}
 use Rattle.xom_script.specs.RunFiles.{IsBadRun, IsRunFile, IsRunRow, RunFormat, run_file_at, run_file_from, run_row_of, run_step, whole_file}
 use Rattle.xom_script.specs.RunLines.{run_line_of}
 use Rattle.xom_script.specs.RunOrder.{Follows, HasRoom, IsNewId, IsWhole, after_files, after_line, draft_with_guest, first_draft, fits_ram, has_id, has_room, is_whole, last_event, run_file, takes_owner, takes_poke, with_owner, with_poke}

@@ -6,12 +6,12 @@ use Rattle.std.specs.List.{AllZip}
 use Rattle.std.proofs.lemmas.Bool.Decides.{nat_tests}
 use Rattle.std.proofs.lemmas.Bool.{leb-true, le-leb, ltb-true, lt-ltb, le-ltb}
 use Rattle.std.proofs.lemmas.Option.{none-some, option_and_then_some as steps, same_Some}
-use Rattle.xom_base.specs.Hex.{hex_of}
-use Rattle.xom_base.specs.Numbers.{IsNumber, WritesBelow, number_below_of, number_of_word}
+use Rattle.text_lines.specs.Hex.{hex_of}
+use Rattle.text_lines.specs.Numbers.{IsNumber, WritesBelow, number_below_of, number_of_word}
 use Rattle.xom_base.specs.Options.{◌>>=◌, where_holds}
-use Rattle.xom_base.proofs.CutLaws.{option_map_some}
-use Rattle.xom_base.proofs.HexLaws.{hex_of-exact}
-use Rattle.xom_base.proofs.NumberLaws.{number_below_of-exact, number_of-exact, cond_then}
+use Rattle.text_lines.proofs.CutLaws.{option_map_some}
+use Rattle.text_lines.proofs.HexLaws.{hex_of-exact}
+use Rattle.text_lines.proofs.NumberLaws.{number_below_of-exact, number_of-exact, cond_then}
 use Rattle.xom_base.specs.declared.schedule.Interrupts.TheVariants as interrupts
 use Rattle.xom_script.specs.Fields.{name_of_word, write_bytes_of}
 use Rattle.xom_script.specs.RunLines.{Ascends, IsRunLine, at_line, boot_line, budget_line, every_line, frames_line, guest_and_input_line, guest_line, interrupt_line, interrupt_rows, kernel_choice, kernel_rows, machine_line, never_line, owner_line, pages_line, poke_line, run_line_of, run_rows, times_of}

@@ -4,16 +4,16 @@ use Rattle.std.specs.Prelude.{◌↔◌, codes}
 use Rattle.std.specs.Str.{bytes_eq}
 use Rattle.std.proofs.lemmas.Bool.{and_parts, leb-true, le-leb, ltb-true, lt-ltb}
 use Rattle.std.proofs.lemmas.Option.{none-some, option_and_then_some as steps, same_Some}
-use Rattle.xom_base.specs.Lines.{AnswersRead, AnswersText, LineStep, Rows, Tells, lines_of, made_of, read_from, rows_step}
-use Rattle.xom_base.specs.Numbers.{WritesBelow, number_below_of}
+use Rattle.text_lines.specs.Lines.{AnswersRead, AnswersText, LineStep, Rows, Tells, lines_of, made_of, read_from, rows_step}
+use Rattle.text_lines.specs.Numbers.{WritesBelow, number_below_of}
 use Rattle.xom_base.specs.Results.{◌>>=◌}
-use Rattle.xom_base.proofs.LineLaws.{Tells-rows, bad_from, only_bad, only_reads, reads_from, same_Err, same_Ok}
-use Rattle.xom_base.proofs.NumberLaws.{number_below_of-exact, cond_then}
-use Rattle.xom_base.proofs.TextLaws.{AnswersText-exact}
-use Rattle.xom_base.specs.declared.lines.TextFault.{TextFault}
+use Rattle.text_lines.proofs.LineLaws.{Tells-rows, bad_from, only_bad, only_reads, reads_from, same_Err, same_Ok}
+use Rattle.text_lines.proofs.NumberLaws.{number_below_of-exact, cond_then}
+use Rattle.text_lines.proofs.TextLaws.{AnswersText-exact}
+use Rattle.text_lines.specs.declared.lines.TextFault.{TextFault}
 use Rattle.xom_base.specs.declared.event.Op.TheVariants as op
-use Rattle.xom_base.proofs.ChoiceLaws.{cond-cases}
-use Rattle.xom_base.proofs.ByteLaws.{same_bytes}
+use Rattle.text_lines.proofs.ChoiceLaws.{cond-cases}
+use Rattle.text_lines.proofs.ByteLaws.{same_bytes}
 use Rattle.xom_script.specs.Fields.{Writes32, write_bytes_of}
 use Rattle.xom_script.specs.ScriptLines.{IsScriptLine, kernel_write_line, no_word_line, one_word_line, rows_of_none, rows_of_one, rows_of_three, rows_of_two, script_line_of, three_word_line, two_word_line}
 use Rattle.xom_script.specs.Scripts.{IsBadScript, IsScript, script_at, script_with}

@@ -2,8 +2,8 @@
 use Rattle.std.specs.Prelude.{ℕ, ◌^◌, ◌≤◌, ◌==◌, not, Bool, if◌then◌else◌, List, [], ◌∷◌, length, Option, Some, None}
 use Rattle.std.specs.Str.{bytes_eq, is_utf8}
 use Rattle.xom_base.specs.Options.{◌>>=◌, where_holds}
-use Rattle.xom_base.specs.Hex.{WritesHex, hex_within}
-use Rattle.xom_base.specs.Numbers.{WritesBelow}
+use Rattle.text_lines.specs.Hex.{WritesHex, hex_within}
+use Rattle.text_lines.specs.Numbers.{WritesBelow}
 
 -- a number below 2^32
 abbrev pub Writes32 : List ℕ → ℕ → Type 0

@@ -1,7 +1,7 @@
 -- Run files: what a run is made of, in one order of lines.
 use Rattle.std.specs.Prelude.{ℕ, ◌+◌, List, length, Option, Some, Result, Ok, Err}
 use Rattle.xom_base.specs.Options.{◌>>=◌}
-use Rattle.xom_base.specs.Lines.{Format, IsFirstBadOf, LineStep, OfWords, Reads, lines_of, read_from, step_by_words}
+use Rattle.text_lines.specs.Lines.{Format, IsFirstBadOf, LineStep, OfWords, Reads, lines_of, read_from, step_by_words}
 use Rattle.xom_script.specs.RunLines.{IsRunLine, run_line_of}
 use Rattle.xom_script.specs.RunOrder.{Follows, IsWhole, after_line}
 use Rattle.xom_script.specs.declared.progress.Progress.{Progress}

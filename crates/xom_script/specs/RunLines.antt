@@ -3,8 +3,8 @@ use Rattle.std.specs.Prelude.{◌≡◌, ℕ, ◌^◌, ◌<◌, ◌≤◌, ◌==
 use Rattle.std.specs.List.{AllZip}
 use Rattle.std.specs.Str.{IsUtf8}
 use Rattle.xom_base.specs.Options.{◌>>=◌, where_holds}
-use Rattle.xom_base.specs.Hex.{IsHex, hex_of}
-use Rattle.xom_base.specs.Numbers.{IsNumber, WritesBelow, number_below_of, number_of_word}
+use Rattle.text_lines.specs.Hex.{IsHex, hex_of}
+use Rattle.text_lines.specs.Numbers.{IsNumber, WritesBelow, number_below_of, number_of_word}
 use Rattle.xom_base.specs.Sizes.{id_size, key_size}
 use Rattle.xom_base.specs.declared.schedule.Interrupts.{Interrupts}
 use Rattle.xom_base.specs.declared.schedule.Interrupts.TheVariants as interrupts

@@ -2,7 +2,7 @@
 use Rattle.std.specs.Prelude.{◌≡◌, ℕ, ◌^◌, ◌≤◌, ◌&&◌, nat_lt, nat_le, if◌then◌else◌, List, [], ◌∷◌, codes, Option, Some, None}
 use Rattle.std.specs.Str.{bytes_eq}
 use Rattle.xom_base.specs.Options.{◌>>=◌, where_holds}
-use Rattle.xom_base.specs.Numbers.{WritesBelow, number_below_of}
+use Rattle.text_lines.specs.Numbers.{WritesBelow, number_below_of}
 use Rattle.xom_base.specs.declared.event.Op.{Op}
 use Rattle.xom_base.specs.declared.event.Op.TheVariants as op
 use Rattle.xom_script.specs.Fields.{Writes32, WritesBytes, row_by_name, write_bytes_of}

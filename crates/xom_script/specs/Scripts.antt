@@ -1,6 +1,6 @@
 -- Scripts: one line a turn.
 use Rattle.std.specs.Prelude.{ℕ, List, Result, Ok}
-use Rattle.xom_base.specs.Lines.{IsFirstBad, IsRows, Rows, lines_of, rows_of}
+use Rattle.text_lines.specs.Lines.{IsFirstBad, IsRows, Rows, lines_of, rows_of}
 use Rattle.xom_base.specs.Results.{◌>>=◌}
 use Rattle.xom_script.specs.ScriptLines.{IsScriptLine, script_line_of}
 use Rattle.xom_script.specs.declared.script.Script.{Script}

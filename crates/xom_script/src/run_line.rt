@@ -4,10 +4,8 @@ ghost use Rattle.xom_script.specs.RunLines.{at_line, boot_line, budget_line, eve
 use crate::run_file::{KernelLine, OwnerFile};
 use crate::words::{name, write_bytes};
 use std::alloc::Global;
-use xom_base::{
-    ImageId, Interrupts, Key256, NoMemory, NumberList, Poke, hex16, hex32, number, number_below,
-    number32,
-};
+use text_lines::{hex16, hex32, number, number_below, number32};
+use xom_base::{ImageId, Interrupts, Key256, NoMemory, NumberList, Poke};
 use xom_io::Name;
 
 /// One line of a run file.

@@ -1,4 +1,4 @@
-ghost use Rattle.xom_base.specs.Lines.{AnswersRead, AnswersText};
+ghost use Rattle.text_lines.specs.Lines.{AnswersRead, AnswersText};
 ghost use Rattle.std.specs.Prelude.{◌≡◌, true, IfOk};
 ghost use Rattle.xom_script.specs.RunFiles.{IsBadRun, IsRunFile, run_file_at};
 ghost use Rattle.xom_script.specs.RunOrder.{is_whole};
@@ -10,7 +10,7 @@ use crate::progress::{Progress, after_line};
 use crate::run_line::run_line;
 use std::alloc::Global;
 use std::mem;
-use xom_base::{LineFault, LineFormat, TextFault, WholeFormat, read_whole, words};
+use text_lines::{LineFault, LineFormat, TextFault, WholeFormat, read_whole, words};
 
 /// Reads a run file, by the general rules of lines, words and comments. Its lines stand in this order:
 /// `machine HEX` with 32 bytes, `boot N` below 2^63, `frames N` from 4 to 8,192, `budget N` at most

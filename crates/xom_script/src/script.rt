@@ -1,10 +1,11 @@
-ghost use Rattle.xom_base.specs.Lines.{AnswersRead, AnswersText};
+ghost use Rattle.text_lines.specs.Lines.{AnswersRead, AnswersText};
 ghost use Rattle.xom_script.specs.Scripts.{IsBadScript, IsScript, script_at};
 
 use crate::script_line::script_line;
 use crate::{ScriptLine, ScriptLineList};
 use std::alloc::Global;
-use xom_base::{NoMemory, RowFormat, TextFault, read_rows};
+use text_lines::{RowFormat, TextFault, read_rows};
+use xom_base::NoMemory;
 
 /// What a kernel that follows a script does, turn by turn.
 #[derive(Drop)]

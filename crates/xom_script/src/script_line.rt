@@ -3,7 +3,8 @@ ghost use Rattle.xom_script.specs.ScriptLines.{kernel_write_line, no_word_line, 
 
 use crate::words::write_bytes;
 use std::alloc::Global;
-use xom_base::{ByteList, List, NoMemory, Op, number32};
+use text_lines::number32;
+use xom_base::{ByteList, List, NoMemory, Op};
 
 /// What a kernel that follows a script does at one turn.
 #[derive(Drop)]

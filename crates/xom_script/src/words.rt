@@ -2,7 +2,8 @@ ghost use Rattle.std.specs.Prelude.{◌≡◌, IfOk};
 ghost use Rattle.xom_script.specs.Fields.{name_of_word, write_bytes_of};
 
 use std::alloc::Global;
-use xom_base::{ByteList, NoMemory, hex_list};
+use text_lines::hex_list;
+use xom_base::{ByteList, NoMemory};
 use xom_io::Name;
 
 /// The bytes of one write: 1 to 8,192.

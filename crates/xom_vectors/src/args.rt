@@ -3,7 +3,8 @@
 use crate::fault::Fault;
 use crate::names::{Names, hex_byte};
 use std::alloc::Global;
-use xom_base::{ImageId, Key256, NoMemory, number, number_below};
+use text_lines::{number, number_below};
+use xom_base::{ImageId, Key256, NoMemory};
 
 #[derive(Drop)]
 struct Word {

@@ -2,7 +2,8 @@
 
 use hex::FromHexError;
 use std::alloc::Global;
-use xom_base::{NoMemory, number_below};
+use text_lines::number_below;
+use xom_base::NoMemory;
 
 /// Above the longest file of the libraries, a sealed image of 2 megabytes.
 const LIMIT: u64 = 1 << 22;

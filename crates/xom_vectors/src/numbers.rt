@@ -9,7 +9,7 @@ use crate::args::Args;
 use crate::fault::Answer;
 use crate::line::{Line, digits, number_or_none, word};
 use std::alloc::Global;
-use xom_base::{cut, hex16, hex32, number, number_below, split_lines, words};
+use text_lines::{cut, hex16, hex32, number, number_below, split_lines, words};
 
 /// The result, or none where the kind isn't of this module.
 pub fn answer(kind: &str, args: &Args) -> Option<Answer> {

@@ -3,7 +3,7 @@
 
 use crate::line::Line;
 use mips_forms::{Operand, OperandKind, Operands};
-use xom_base::number_below;
+use text_lines::number_below;
 
 /// The operand that a word stands for.
 pub fn operand(word: &str) -> Option<Operand> {

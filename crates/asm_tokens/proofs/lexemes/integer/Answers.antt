@@ -1,5 +1,5 @@
 -- The function is the grammar.
-use Rattle.xom_base.proofs.NumberLaws.{none_by_exact}
+use Rattle.text_lines.proofs.NumberLaws.{none_by_exact}
 use Rattle.asm_tokens.proofs.IntegerLaws.{integer_of-exact}
 use Rattle.asm_tokens.specs.Integers.{IsInteger}
 use Rattle.asm_tokens.proofs.lexemes.integer.Goals as goal

@@ -1,6 +1,6 @@
 -- The function is the table.
 use Rattle.std.proofs.Common.{◌<◌}
-use Rattle.xom_base.proofs.NumberLaws.{none_by_exact, some_by_exact}
+use Rattle.text_lines.proofs.NumberLaws.{none_by_exact, some_by_exact}
 use Rattle.asm_tokens.proofs.RegisterLaws.{register_of-exact, register_small}
 use Rattle.asm_tokens.specs.Registers.{IsRegister}
 use Rattle.asm_tokens.proofs.registers.register.Goals as goal

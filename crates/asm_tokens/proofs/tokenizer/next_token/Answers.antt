@@ -2,7 +2,7 @@
 use Rattle.std.proofs.Common.{◌≡◌, ◌+◌, true, false, sym, ◌∙◌, drop, None, Some}
 use Rattle.std.specs.List.{prefix_len}
 use Rattle.std.proofs.lemmas.List.{take_rest}
-use Rattle.xom_base.specs.Words.{is_blank}
+use Rattle.text_lines.specs.Words.{is_blank}
 use Rattle.asm_tokens.specs.Tokens.{nothing_follows, token_of}
 use Rattle.asm_tokens.proofs.StepLaws.{tokens_from-bad, tokens_from-over, from_start, from_token, start_no_blank}
 use Rattle.asm_tokens.proofs.tokenizer.next_token.Goals as goal

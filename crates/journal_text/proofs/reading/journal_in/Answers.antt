@@ -3,8 +3,8 @@ use Rattle.std.proofs.Common.{◌≡◌, ℕ, ◌+◌, List, ◌∷◌, ◌++◌
 use Rattle.std.specs.Option.{option_to_list}
 use Rattle.std.proofs.lemmas.Bool.{eqb-true}
 use Rattle.std.proofs.lemmas.List.{nil_from_length}
-use Rattle.xom_base.proofs.LineLaws.{read_from-bad, read_from-none, read_from-one}
-use Rattle.xom_base.specs.Lines.{lines_of, made_of, read_from, with_front}
+use Rattle.text_lines.proofs.LineLaws.{read_from-bad, read_from-none, read_from-one}
+use Rattle.text_lines.specs.Lines.{lines_of, made_of, read_from, with_front}
 use Rattle.xom_base.specs.declared.entry.Entry.{Entry}
 use Rattle.journal_text.specs.JournalLines.{journal_step}
 use Rattle.journal_text.specs.Readings.{AnswersStep, Reading, entries_alone}

@@ -1,7 +1,7 @@
 -- No line was bad, and the entries so far and those of the lines that are left are those of the
 -- text.
 use Rattle.std.proofs.Common.{◌≡◌, ◌+◌, ◌≤◌, false, length}
-use Rattle.xom_base.specs.Lines.{lines_of, read_from, with_front}
+use Rattle.text_lines.specs.Lines.{lines_of, read_from, with_front}
 use Rattle.journal_text.specs.JournalLines.{journal_step}
 use Rattle.journal_text.proofs.reading.journal_in.Given as goal
 

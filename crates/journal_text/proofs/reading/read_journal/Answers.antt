@@ -1,5 +1,5 @@
 -- The function of the lines has just the entries of the grammar.
-use Rattle.xom_base.proofs.TextLaws.{AnswersText-lines}
+use Rattle.text_lines.proofs.TextLaws.{AnswersText-lines}
 use Rattle.journal_text.specs.JournalLines.{JournalLine, journal_step}
 use Rattle.journal_text.specs.Readings.{entries_alone, entries_read}
 use Rattle.journal_text.proofs.RowLaws.{tells}

@@ -1,5 +1,5 @@
 -- The reader of received files answers as their grammar says.
-use Rattle.xom_base.proofs.TextLaws.{AnswersText-rows}
+use Rattle.text_lines.proofs.TextLaws.{AnswersText-rows}
 use Rattle.plain_run.specs.Received.{IsValue, received_at, value_of_line}
 use Rattle.plain_run.proofs.ReceivedLaws.{value_exact, value_nothing}
 use Rattle.plain_run.proofs.received.read_received.Goals as goal

@@ -1,0 +1,9 @@
+pub mod ByteLaws
+pub mod ChoiceLaws
+pub mod CutLaws
+pub mod FrontLaws
+pub mod HexLaws
+pub mod LineLaws
+pub mod NumberLaws
+pub mod TextLaws
+pub mod NextLaws

@@ -1,0 +1,19 @@
+-- The function is the grammar.
+use Rattle.std.proofs.Common.{◌<◌}
+use Rattle.text_lines.proofs.NumberLaws.{decimal_below_of-exact, none_by_exact, some_by_exact}
+use Rattle.text_lines.specs.Numbers.{WritesDecimal}
+use Rattle.text_lines.proofs.numbers.decimal_below.Goals as goal
+
+pub returns-clause-exact : goal.returns-clause-exact
+returns-clause-exact c =
+    rw c.decimal_in.ensures (decimal_below_of-exact c.args.bound c.args.word.now)
+
+pub returns-clause-none : goal.returns-clause-none
+returns-clause-none c =
+    none_by_exact (WritesDecimal c.args.bound c.args.word.now) c.decimal_in.result
+    (returns-clause-exact c)
+
+pub returns-clause-small : goal.returns-clause-small
+returns-clause-small c =
+    some_by_exact (WritesDecimal c.args.bound c.args.word.now) (λ n. n < c.args.bound)
+    c.decimal_in.result (returns-clause-exact c) (λ n written. written.1)
