@@ -5,13 +5,13 @@ use Rattle.std.specs.Option.{option_map_or}
 use Rattle.std.specs.List.{AllByRecursion}
 use Rattle.std.specs.List.Sorted.{IsStrictlyIncreasing}
 use Rattle.text_lines.specs.Hex.{IsHex, pairs}
-use Rattle.text_lines.specs.Lines.{AnswersText, Reads, lines_of}
-use Rattle.text_lines.specs.Words.{words_of}
+use Rattle.text_lines.specs.Lines.{AnswersText, lines_of}
 use Rattle.text_lines.specs.declared.lines.TextFault.{TextFault}
 use Rattle.xom_base.specs.declared.schedule.Poke.{Poke}
 use Rattle.text_lines.proofs.FrontLaws.{all-snoc}
+use Rattle.text_lines.proofs.ReadsLaws.{reads_keep}
 use Rattle.text_lines.proofs.HexLaws.{length-IsHex}
-use Rattle.xom_script.specs.RunFiles.{IsRunFile, RunFormat}
+use Rattle.xom_script.specs.RunFiles.{IsRunFile, IsRunRow}
 use Rattle.xom_script.specs.RunLines.{Ascends, IsRunLine}
 use Rattle.xom_script.specs.RunOrder.{Follows, last_event}
 use Rattle.xom_script.specs.RunRules.{KeepsRules}
@@ -114,18 +114,9 @@ line-keeps before n words (line.Poke poke) after keeps is f =
       ascends = ascends-snoc 0 f.0.schedule.pokes poke k.ascends (omega arith) later;
     }
 
-reads-keep : (before : Progress) (n : ℕ) (lines : List (List ℕ)) (rows : List (Unit {0}))
-    (last : Progress)
-    → KeepsSoFar before → Reads RunFormat before n lines rows last → KeepsSoFar last
-reads-keep before n [] rows last keeps is = subst KeepsSoFar (sym is.1) keeps
-reads-keep before n (text ∷ lines) rows last keeps is = reads-keep is.1 (n + 1) lines is.2 last
-    (row-keeps is.0 is.1 is.3) is.5
-  where
-    row-keeps : (value : Option (Unit {0})) (next : Progress) → RunFormat before n text value next
-        → KeepsSoFar next
-    row-keeps None next row = subst KeepsSoFar (sym row.1) keeps
-    row-keeps (Some value) next row =
-        line-keeps before n (words_of text) row.0 next keeps row.1 row.2
+row-keeps : (before : Progress) (n : ℕ) (words : List (List ℕ)) (value : Unit {0}) (next : Progress)
+    → KeepsSoFar before → IsRunRow before n words value next → KeepsSoFar next
+row-keeps before n words value next keeps row = line-keeps before n words row.0 next keeps row.1 row.2
 
 -- ---- Run files
 
@@ -156,6 +147,6 @@ file-runnable file rules keeps = record {
 pub read-runnable : (text : List ℕ) (IsBad : ℕ → Type 0) (read : Result RunFile TextFault)
     → AnswersText (IsRunFile text) IsBad read → IfOk read KeepsRules → IfOk read IsRunnable
 read-runnable text IsBad (Ok file) answers rules =
-    let is = answers.found in file-runnable file rules (reads-keep progress.Start 1 (lines_of text)
+    let is = answers.found in file-runnable file rules (reads_keep IsRunRow KeepsSoFar row-keeps progress.Start 1 (lines_of text)
     is.0 (progress.Whole file) tt is.1)
 read-runnable text IsBad (Err fault) answers rules = tt

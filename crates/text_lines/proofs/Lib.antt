@@ -7,3 +7,4 @@ pub mod LineLaws
 pub mod NumberLaws
 pub mod TextLaws
 pub mod NextLaws
+pub mod ReadsLaws

@@ -20,7 +20,7 @@ use Rattle.xom_cli.specs.Endings.{Ends, EndsRow, EndsWords, RowFollows}
 use Rattle.cli_base.specs.Commands.{IsDone}
 use Rattle.cli_base.specs.Inputs.{Held, held_without}
 use Rattle.xom_cli.specs.Outcome.{IsOutcome, IsPrinted, IsPrintedBy, Printed, printed_text, printed_words}
-use Rattle.xom_cli.specs.Promises.{AsksForRun, ChangesOnly, FailsWriting, IsReadBy, IsRunDebugged, IsUnprinted, IsJudged, IsUnput, Promises, WritesFile, WritesPrefix, WritesWhole, target_in}
+use Rattle.xom_cli.specs.Promises.{AsksForRun, ChangesOnly, FailsWriting, IsDefined, IsReadBy, IsStatus, IsSure, IsUnread, KeepsFiles, ReadCause, WordsCause, WriteCause, WritesAll, IsRunDebugged, IsUnprinted, IsJudged, IsUnput, Promises, WritesFile, WritesPrefix, WritesWhole, target_in}
 use Rattle.cli_base.specs.Readings.{FilesRefuse, IsRead, Meets}
 use Rattle.cli_base.specs.Refusals.{refusal_status, refusal_text, words_line}
 use Rattle.xom_cli.specs.Rows.{Debug, Judge, Row, Run, Trace, row_of_words, target_of}
@@ -59,36 +59,67 @@ module _ (words : List (List ℕ)) (before after : Outside) where
     unprinted = λ rises. absurd (same-count before.disk after.disk same rises);
   }
 
+  -- ---- a call that isn't done
+
+  -- what is to be shown of it; the rest speaks of calls that are done
+  record Undone (status : ℕ) : Type 0 where
+    answers : IsStatus status
+    words_cause : WordsCause words status
+    read_cause : ReadCause words before after status
+    unread : IsUnread words before after status
+    write_cause : WriteCause before after status
+    defined : IsDefined words before status
+    sure : IsSure words before after status
+    all : WritesAll words before after status
+    prefix : WritesPrefix words before after
+    keeps : KeepsFiles before after status
+    leaves : Leaves
+
+  undone : (status : ℕ) → ¬ IsDone status → Undone status → Promises words before after status
+  undone status failed said = record {
+    answers = said.answers;
+    words_cause = said.words_cause;
+    read_cause = said.read_cause;
+    unread = said.unread;
+    write_cause = said.write_cause;
+    done_cause = λ d. absurd (failed d);
+    defined = said.defined;
+    sure = said.sure;
+    all = said.all;
+    done_all = λ held told d. absurd (failed d);
+    prefix = said.prefix;
+    changes = said.leaves.changes;
+    unput = said.leaves.unput;
+    whole = said.leaves.whole;
+    keeps = said.keeps;
+    unprinted = said.leaves.unprinted;
+    headline = λ held told run journal row d. absurd (failed d);
+    console = λ held told run row d. absurd (failed d);
+    finding_cause = λ held told run row nine. absurd (failed (inr (inr (inr (inr nine)))));
+    judges = λ held told run journal row d. absurd (failed d);
+    debugs = λ held told run commands row d. absurd (failed d);
+  }
+
   -- ---- want of memory
 
   no_memory : WritesPrefix words before after → Leaves → Promises words before after 5
-  no_memory prefix leaves = record {
+  no_memory prefix leaves = undone 5 done_not_5 (record {
     answers = inr (inr (inr (inr (inr refl))));
     words_cause = record { only = λ e. absurd (omega arith); sure = λ _. inr refl };
     read_cause = λ e. absurd (omega arith);
     unread = λ rises. inl refl;
     write_cause = λ e. absurd (omega arith);
-    done_cause = λ d. absurd (done_not_5 d);
     defined = λ held told a b c. absurd (c refl);
     sure = λ held told stays. inl refl;
     all = λ held told stays calm found. absurd (found refl);
     prefix = prefix;
-    changes = leaves.changes;
-    unput = leaves.unput;
-    whole = leaves.whole;
     keeps = λ one. absurd (elim one [
       | inl e ↦ omega arith
       | inr other ↦
           elim other [ inl e ↦ omega arith | inr e ↦ omega arith ]
     ]);
-    unprinted = leaves.unprinted;
-    done_all = λ held told d. absurd (done_not_5 d);
-    headline = λ held told run journal row d. absurd (done_not_5 d);
-    console = λ held told run row d. absurd (done_not_5 d);
-    finding_cause = λ held told run row nine. absurd (omega arith);
-    judges = λ held told run journal row d. absurd (done_not_5 d);
-    debugs = λ held told run commands row d. absurd (done_not_5 d);
-  }
+    leaves = leaves;
+  })
 
   silent_prefix : after.output ≡ before.output → WritesPrefix words before after
   silent_prefix same held told = inl (ap (λ (o : Output). o.written) same)
@@ -150,13 +181,12 @@ module _ (words : List (List ℕ)) (before after : Outside) where
     words_said : after.disk ≡ before.disk → after.reads ≡ before.reads
         → (put : Result (Unit {0}) SinkFault) → put ≢ Err sink_fault.NoMemory
         → Took before.output after.output words_line put → Promises words before after 1
-    words_said same stays put found takes = record {
+    words_said same stays put found takes = undone 1 done_not_1 (record {
       answers = inr (inl refl);
       words_cause = record { only = λ _. none; sure = λ _. inl refl };
       read_cause = λ e. absurd (omega arith);
       unread = λ rises. absurd (omega arith);
       write_cause = λ e. absurd (omega arith);
-      done_cause = λ d. absurd (done_not_1 d);
       defined = λ held told a b c. (printed_words, words_printed held, refl);
       sure = λ held told stays. inr (printed_words, words_printed held, inl refl);
       all = λ held told stays calm _. (
@@ -167,18 +197,9 @@ module _ (words : List (List ℕ)) (before after : Outside) where
         ap (λ (d : Disk). d.held) same,
       );
       prefix = words_prefix same put takes;
-      changes = (same_leaves same).changes;
-      unput = (same_leaves same).unput;
-      whole = (same_leaves same).whole;
       keeps = λ _. same;
-      unprinted = (same_leaves same).unprinted;
-      done_all = λ held told d. absurd (done_not_1 d);
-      headline = λ held told run journal row d. absurd (done_not_1 d);
-      console = λ held told run row d. absurd (done_not_1 d);
-      finding_cause = λ held told run row nine. absurd (omega arith);
-      judges = λ held told run journal row d. absurd (done_not_1 d);
-      debugs = λ held told run commands row d. absurd (done_not_1 d);
-    }
+      leaves = same_leaves same;
+    })
 
     words_end : after.disk ≡ before.disk → after.reads ≡ before.reads
         → (put : Result (Unit {0}) SinkFault) → Took before.output after.output words_line put
@@ -434,7 +455,7 @@ module _ (words : List (List ℕ)) (before after : Outside) where
       -- the file or the text couldn't be written
       broken : FailsWriting before after → WritesPrefix words before after → Leaves
           → Promises words before after 3
-      broken fails prefix leaves = record {
+      broken fails prefix leaves = undone 3 done_not_3 (record {
         answers = inr (inr (inr (inl refl)));
         words_cause = record {
           only = λ e. absurd (omega arith);
@@ -444,7 +465,6 @@ module _ (words : List (List ℕ)) (before after : Outside) where
         read_cause = λ e. absurd (omega arith);
         unread = λ rises. absurd (omega arith);
         write_cause = λ _. fails;
-        done_cause = λ d. absurd (done_not_3 d);
         defined = λ held told a b c. absurd (b refl);
         sure = λ held told _. inr (
           printed_text (Ok answer),
@@ -453,22 +473,13 @@ module _ (words : List (List ℕ)) (before after : Outside) where
         );
         all = λ held told _ calm found. absurd (calm fails);
         prefix = prefix;
-        changes = leaves.changes;
-        unput = leaves.unput;
-        whole = leaves.whole;
         keeps = λ one. absurd (elim one [
           | inl e ↦ omega arith
           | inr other ↦
               elim other [ inl e ↦ omega arith | inr e ↦ omega arith ]
         ]);
-        unprinted = leaves.unprinted;
-        done_all = λ held told d. absurd (done_not_3 d);
-        headline = λ held told run journal named d. absurd (done_not_3 d);
-        console = λ held told run named d. absurd (done_not_3 d);
-        finding_cause = λ held told run named nine. absurd (omega arith);
-        judges = λ held told run journal row d. absurd (done_not_3 d);
-        debugs = λ held told run commands row d. absurd (done_not_3 d);
-      }
+        leaves = leaves;
+      })
 
       uncounted : after.disk.writes ≡ before.disk.writes → IsUnprinted before after
       uncounted is rises = absurd (omega arith)
@@ -522,7 +533,7 @@ module _ (words : List (List ℕ)) (before after : Outside) where
 
       bad_said : (put : Result (Unit {0}) SinkFault) → put ≢ Err sink_fault.NoMemory
           → Took before.output after.output (refusal_text refusal) put → Promises words before after 4
-      bad_said put found takes = record {
+      bad_said put found takes = undone 4 done_not_4 (record {
         answers = inr (inr (inr (inr (inl refl))));
         words_cause = record {
           only = λ e. absurd (omega arith);
@@ -532,7 +543,6 @@ module _ (words : List (List ℕ)) (before after : Outside) where
         read_cause = λ e. absurd (omega arith);
         unread = λ rises. absurd (omega arith);
         write_cause = λ e. absurd (omega arith);
-        done_cause = λ d. absurd (done_not_4 d);
         defined = λ held told a b c. (printed_text (Err refusal), bad_printed held told, bad);
         sure = λ held told _. inr (
           printed_text (Err refusal),
@@ -548,18 +558,9 @@ module _ (words : List (List ℕ)) (before after : Outside) where
               same,
         );
         prefix = bad_prefix put takes;
-        changes = (same_leaves same).changes;
-        unput = (same_leaves same).unput;
-        whole = (same_leaves same).whole;
         keeps = λ _. same;
-        unprinted = (same_leaves same).unprinted;
-        done_all = λ held told d. absurd (done_not_4 d);
-        headline = λ held told run journal named d. absurd (done_not_4 d);
-        console = λ held told run named d. absurd (done_not_4 d);
-        finding_cause = λ held told run named nine. absurd (omega arith);
-        judges = λ held told run journal row d. absurd (done_not_4 d);
-        debugs = λ held told run commands row d. absurd (done_not_4 d);
-      }
+        leaves = same_leaves same;
+      })
 
       bad_end : (put : Result (Unit {0}) SinkFault)
           → Took before.output after.output (refusal_text refusal) put
@@ -623,7 +624,7 @@ module _ (words : List (List ℕ)) (before after : Outside) where
       unread_said : (put : Result (Unit {0}) SinkFault) → put ≢ Err sink_fault.NoMemory
           → Took before.output after.output (refusal_text (Unread name)) put
           → Promises words before after 2
-      unread_said put found takes = record {
+      unread_said put found takes = undone 2 done_not_2 (record {
         answers = inr (inr (inl refl));
         words_cause = record {
           only = λ e. absurd (omega arith);
@@ -645,7 +646,6 @@ module _ (words : List (List ℕ)) (before after : Outside) where
           ),
         );
         write_cause = λ e. absurd (omega arith);
-        done_cause = λ d. absurd (done_not_2 d);
         defined = λ held told a b c. absurd (a refl);
         sure = λ held told stays. inr (
           printed_text (Err (Unread name)),
@@ -661,18 +661,9 @@ module _ (words : List (List ℕ)) (before after : Outside) where
           ap (λ (d : Disk). d.held) same,
         );
         prefix = unread_prefix put takes;
-        changes = (same_leaves same).changes;
-        unput = (same_leaves same).unput;
-        whole = (same_leaves same).whole;
         keeps = λ _. same;
-        unprinted = (same_leaves same).unprinted;
-        done_all = λ held told d. absurd (done_not_2 d);
-        headline = λ held told run journal named d. absurd (done_not_2 d);
-        console = λ held told run named d. absurd (done_not_2 d);
-        finding_cause = λ held told run named nine. absurd (omega arith);
-        judges = λ held told run journal row d. absurd (done_not_2 d);
-        debugs = λ held told run commands row d. absurd (done_not_2 d);
-      }
+        leaves = same_leaves same;
+      })
 
       unread_end : (put : Result (Unit {0}) SinkFault)
           → Took before.output after.output (refusal_text (Unread name)) put

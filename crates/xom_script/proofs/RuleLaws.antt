@@ -2,14 +2,14 @@
 use Rattle.std.proofs.Common.{ℕ, ◌+◌, ◌^◌, ◌<◌, ◌≤◌, List, [], ◌∷◌, ◌++◌, ◌*◌, length, Option, Some, None, Result, Ok, Err, sym, subst, arith, length-append}
 use Rattle.std.specs.Prelude.{◌≢◌, IfOk}
 use Rattle.std.specs.List.{AllByRecursion}
-use Rattle.text_lines.specs.Lines.{AnswersRead, Reads, lines_of}
+use Rattle.text_lines.specs.Lines.{AnswersRead, lines_of}
 use Rattle.text_lines.specs.declared.lines.TextFault.{TextFault}
 use Rattle.xom_base.specs.declared.schedule.Interrupts.{Interrupts}
 use Rattle.xom_base.specs.declared.schedule.Interrupts.TheVariants as interrupts
 use Rattle.xom_base.specs.declared.schedule.Poke.{Poke}
-use Rattle.text_lines.specs.Words.{words_of}
 use Rattle.text_lines.proofs.FrontLaws.{all-snoc}
-use Rattle.xom_script.specs.RunFiles.{IsRunFile, RunFormat, run_file_at}
+use Rattle.text_lines.proofs.ReadsLaws.{reads_keep}
+use Rattle.xom_script.specs.RunFiles.{IsRunFile, IsRunRow, run_file_at}
 use Rattle.xom_script.specs.RunLines.{IsInterrupts, IsRunLine}
 use Rattle.xom_script.specs.RunOrder.{Follows, HasRoom, IsNewId, draft_with_guest, with_owner}
 use Rattle.xom_script.specs.RunRules.{HasOwnIds, KeepsDraft, KeepsInterrupts, KeepsRules}
@@ -119,22 +119,13 @@ line-keeps before n words (line.Poke poke) after keeps is f =
           f.0.schedule.pokes poke k.inside f.3;
     }
 
-reads-keep : (before : Progress) (n : ℕ) (lines : List (List ℕ)) (rows : List (Unit {0}))
-    (last : Progress)
-    → Keeps before → Reads RunFormat before n lines rows last → Keeps last
-reads-keep before n [] rows last keeps is = subst Keeps (sym is.1) keeps
-reads-keep before n (text ∷ lines) rows last keeps is = reads-keep is.1 (n + 1) lines is.2 last
-    (row-keeps is.0 is.1 is.3) is.5
-  where
-    row-keeps : (value : Option (Unit {0})) (next : Progress) → RunFormat before n text value next
-        → Keeps next
-    row-keeps None next row = subst Keeps (sym row.1) keeps
-    row-keeps (Some value) next row =
-        line-keeps before n (words_of text) row.0 next keeps row.1 row.2
+row-keeps : (before : Progress) (n : ℕ) (words : List (List ℕ)) (value : Unit {0}) (next : Progress)
+    → Keeps before → IsRunRow before n words value next → Keeps next
+row-keeps before n words value next keeps row = line-keeps before n words row.0 next keeps row.1 row.2
 
 pub IsRunFile-keeps : (text : List ℕ) (file : RunFile) → IsRunFile text file → KeepsRules file
 IsRunFile-keeps text file is =
-    reads-keep progress.Start 1 (lines_of text) is.0 (progress.Whole file) tt is.1
+    reads_keep IsRunRow Keeps row-keeps progress.Start 1 (lines_of text) is.0 (progress.Whole file) tt is.1
 
 -- what is answered keeps the rules
 pub rules_kept : (text : List ℕ) (r : Result RunFile TextFault) → AnswersRead (run_file_at text) r
