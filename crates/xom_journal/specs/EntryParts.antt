@@ -1,5 +1,5 @@
--- What is asked of an entry alone: the byte of an Out, the rule of a Stop.
-use Rattle.std.specs.Prelude.{ℕ, Option, Some, None}
+-- What is asked of an entry alone: the byte of an Out, the rule of a Stop, the text of a Hash.
+use Rattle.std.specs.Prelude.{ℕ, List, Option, Some, None}
 use Rattle.xom_base.specs.declared.entry.Entry.{Entry}
 use Rattle.xom_base.specs.declared.entry.Entry.TheVariants as entry
 use Rattle.xom_base.specs.declared.event.Rule.{Rule}
@@ -27,3 +27,15 @@ stop_rule_in (entry.Hash preimage digest) = None
 stop_rule_in (entry.Stop n rule) = Some rule
 stop_rule_in (entry.Kill n) = None
 stop_rule_in (entry.Out byte) = None
+
+-- the text that an entry hashed, and its digest, if it is a Hash
+abbrev pub hash_in : Entry → Option (List ℕ × List ℕ)
+hash_in (entry.Install n slot id place at lines) = None
+hash_in (entry.Step n step) = None
+hash_in (entry.Trap n why) = None
+hash_in (entry.Seal key message) = None
+hash_in (entry.Accept key message place) = None
+hash_in (entry.Hash preimage digest) = Some (preimage, digest)
+hash_in (entry.Stop n rule) = None
+hash_in (entry.Kill n) = None
+hash_in (entry.Out byte) = None

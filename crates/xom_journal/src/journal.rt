@@ -1,11 +1,11 @@
-ghost use Rattle.std.specs.Prelude.{◌≡◌, ◌≤◌, ◌<◌, ◌+◌, IsOk, OnOk, OnErr, length, option_and_then, slice_get, max, [], ◌∷◌, ◌++◌, ◌==◌, vec_len, vec_capacity};
+ghost use Rattle.std.specs.Prelude.{◌≡◌, ◌≤◌, ◌<◌, ◌+◌, IfSome, IsOk, OnOk, OnErr, length, option_and_then, option_map, slice_get, max, [], ◌∷◌, ◌++◌, ◌==◌, vec_len, vec_capacity};
 ghost use Rattle.xom_base.specs.declared.entry.Entry.TheVariants as entry;
-ghost use Rattle.xom_journal.specs.EntryParts.{byte_in, stop_rule_in};
+ghost use Rattle.xom_journal.specs.EntryParts.{byte_in, hash_in, stop_rule_in};
 ghost use Rattle.xom_journal.specs.Log.{Log, cost as cost_of, log_with_entry};
 
 use crate::payloads::{add_payload, text_in};
 use crate::recent::RecentHashes;
-use crate::record::{ENTRY_COST, Record, cost, entry_of, record_of};
+use crate::record::{ENTRY_COST, HashedText, Record, cost, entry_of, hash_of, record_of};
 use std::alloc::Global;
 use std::marker::Model;
 use xom_base::{Entry, NoMemory, Rule};
@@ -160,6 +160,16 @@ impl Journal {
             ) => Some(*rule),
             _ => None,
         }
+    }
+
+    /// The text of the entry at a place and its digest, if it is a Hash. It copies nothing.
+    #[tactic(auto, using(crate::proofs::RecordLaws::get_entries))]
+    pub fn hash_at(&self, i: u64) -> Option<HashedText<'_>>
+        ensures value { option_map (λ hash. (hash.text.now, hash.digest.now)) result ≡ option_and_then hash_in (slice_get self.now.entries i) }
+        ensures few { IfSome result (λ hash. length hash.text.now ≤ 260) }
+    {
+        let record = self.records.get(i as usize)?;
+        hash_of(record, &self.bytes)
     }
 
     /// How many bytes are spare.

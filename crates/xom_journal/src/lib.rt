@@ -11,4 +11,4 @@ mod recent;
 mod record;
 
 pub use journal::Journal;
-pub use record::cost;
+pub use record::{HashedText, cost};

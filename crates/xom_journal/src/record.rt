@@ -1,4 +1,5 @@
-ghost use Rattle.std.specs.Prelude.{◌≡◌, ◌≤◌, ◌<◌, ◌+◌, ◌^◌, length};
+ghost use Rattle.std.specs.Prelude.{◌≡◌, ◌≤◌, ◌<◌, ◌+◌, ◌^◌, IfSome, length, option_map};
+ghost use Rattle.xom_journal.specs.EntryParts.{hash_in};
 ghost use Rattle.xom_journal.specs.Log.{cost as cost_of};
 ghost use Rattle.xom_journal.specs.Records.{IsWithin, entry_at, part_of_block as part_of, payload, record_at};
 
@@ -81,6 +82,34 @@ pub fn part(bytes: &[u8], at: u64, count: usize) -> &[u8]
 {
     let start = at as usize;
     &bytes[start..start + count]
+}
+
+/// A text that was hashed, where it stands in the journal, and its digest.
+#[derive(Clone, Copy)]
+pub struct HashedText<'a> {
+    /// The text, of at most 260 bytes.
+    pub text: &'a [u8],
+    /// Its digest.
+    pub digest: &'a [u8; 32],
+}
+
+/// The text and the digest of a record, if it is of a Hash.
+pub fn hash_of<'a>(source: &'a Record, bytes: &'a [u8]) -> Option<HashedText<'a>>
+    requires { IsWithin (length bytes.now) source.now }
+    ensures value { option_map (λ hash. (hash.text.now, hash.digest.now)) result ≡ hash_in (entry_at bytes.now source.now) }
+    ensures few { IfSome result (λ hash. length hash.text.now ≤ 260) }
+{
+    match source {
+        Record::Hash {
+            at,
+            preimage,
+            digest,
+        } => Some(HashedText {
+            text: part(bytes, *at, usize::from(*preimage)),
+            digest,
+        }),
+        _ => None,
+    }
 }
 
 /// The entry of a record.
