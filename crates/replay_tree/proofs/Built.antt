@@ -1,17 +1,18 @@
 -- What a build leaves after each of its steps.
 use Rattle.std.proofs.Common.{◌≡◌, inr, ℕ, ◌+◌, ◌-◌, ◌*◌, ◌<◌, ◌≤◌, zero, suc, List, [], ◌∷◌, ◌++◌, length, map, take, drop, refl, sym, ◌∙◌, ap, arith}
 use Rattle.std.specs.Int.{w64, to_be_bytes}
-use Rattle.std.proofs.lemmas.List.{append_assoc, append-nil, drop-drop, drop_at, length-append, length-take-le, map-append, take-append-drop, take_at}
+use Rattle.std.proofs.lemmas.List.{append_assoc, append-nil, drop-drop, drop_all, drop_at, length-append, length-take-le, map-append, take-append-drop, take_at}
 use Rattle.std.proofs.lemmas.Slice.{drop-append-drop}
+use borrow.Rule.Slice.PartMut.{put_mid}
 use Rattle.sha2.proofs.Facts256.{length-sha256}
 use Rattle.xom_base.specs.declared.entry.Entry.{Entry}
 use Rattle.line_ram.specs.Bytes.{HoldsRange, bytes_at, ram_with_bytes}
 use Rattle.line_ram.proofs.Ranges.{bytes-stored_apart}
-use Rattle.xom_versions.specs.Store.{area_size, hash_entry, line_limit}
+use Rattle.xom_versions.specs.Store.{area_size, hash_entry}
 use Rattle.xom_versions.specs.Versions.{start_version}
 use Rattle.replay_tree.specs.Tree.{block_text, digest_of, node, parts_joined, root_of}
 use Rattle.replay_tree.specs.Area.{block_in, block_offset, level_bytes, level_offset, level_texts, part_size, texts_below, texts_up_to, tree_block_size, width}
-use Rattle.replay_tree.specs.Build.{digests_in, room_below, texts_in, versions_to}
+use Rattle.replay_tree.specs.Build.{digests_in, room_below, texts_in}
 use Rattle.replay_tree.specs.Calls.{top_level}
 use Rattle.replay_tree.specs.PartLaws.{bytes-joined, bytes-left, joined-same, length-joined, part-fits}
 use Rattle.replay_tree.specs.NodeLaws.{length-node}
@@ -103,19 +104,56 @@ part-stored ram now part size n address bytes within whole is last =
     ∙ ap (λ l. ram_with_bytes ram address (before ++ l)) last
     ∙ ap (λ k. ram_with_bytes ram address (parts_joined part k)) {x = suc n} {y = n + 1} (omega arith)
 
-abbrev version_part : ℕ → ℕ → List ℕ
-version_part lines line = to_be_bytes w64 (start_version lines line)
+-- the first leaves
+pub leaves_none : (ram : List ℕ) (area lines : ℕ)
+    → ram ≡ ram_with_bytes ram area (parts_joined (node (start_version lines) 0) 0)
+leaves_none ram area lines = none-stored ram (node (start_version lines) 0) area
 
-pub versions_none : (ram : List ℕ) (area lines : ℕ) → ram ≡ ram_with_bytes ram area (versions_to lines 0)
-versions_none ram area lines = none-stored ram (version_part lines) area
+pub leaves_more : (ram now leaf : List ℕ) (area lines index : ℕ) → area ≤ length ram
+    → now ≡ ram_with_bytes ram area (parts_joined (node (start_version lines) 0) index)
+    → leaf ≡ node (start_version lines) 0 index
+    → ram_with_bytes now (area + 64 * index) leaf ≡ ram_with_bytes ram area
+    (parts_joined (node (start_version lines) 0) (index + 1))
+unfolding part_size
+leaves_more ram now leaf area lines index within is last =
+    part-stored ram now (node (start_version lines) 0) 64 index area leaf within
+    (λ i. length-node (start_version lines) 0 i) is last
 
-pub versions_more : (ram now : List ℕ) (area lines line : ℕ) → area ≤ length ram
-    → now ≡ ram_with_bytes ram area (versions_to lines line)
-    → ram_with_bytes now (area + 8 * line) (to_be_bytes w64 (start_version lines line)) ≡ ram_with_bytes ram area
-    (versions_to lines (line + 1))
-versions_more ram now area lines line within is =
-    part-stored ram now (version_part lines) 8 line area (version_part lines line) within
-    (λ i. refl) is refl
+leaf-parts : (numbers : ℕ → ℕ) (i : ℕ)
+    → node numbers 0 i ≡ parts_joined (λ k. to_be_bytes w64 (numbers (8 * i + k))) 8
+unfolding node
+leaf-parts numbers i = refl
+
+-- the first versions of a leaf
+abbrev pub leaf_part : ℕ → ℕ → ℕ → List ℕ
+leaf_part lines index k = to_be_bytes w64 (start_version lines (8 * index + k))
+
+pub versions_none : (leaf : List ℕ) (lines index : ℕ)
+    → leaf ≡ ram_with_bytes leaf 0 (parts_joined (leaf_part lines index) 0)
+versions_none leaf lines index = none-stored leaf (leaf_part lines index) 0
+
+pub versions_more : (leaf now version : List ℕ) (lines index k : ℕ)
+    → now ≡ ram_with_bytes leaf 0 (parts_joined (leaf_part lines index) k)
+    → version ≡ leaf_part lines index k
+    → put_mid (8 * k) (8 * k + 8 - 8 * k) now version
+    ≡ ram_with_bytes leaf 0 (parts_joined (leaf_part lines index) (k + 1))
+versions_more leaf now version lines index k is last =
+    let long : length version ≡ 8 = ap (λ (l : List ℕ). length l) last in
+    ap (λ l. take (8 * k) now ++ (version ++ l)) (drop-drop (8 * k + 8 - 8 * k) (8 * k) now)
+    ∙ ap (λ n. take (8 * k) now ++ (version ++ drop n now)) {x = 8 * k + (8 * k + 8 - 8 * k)}
+    {y = 8 * k + length version} (omega arith)
+    ∙ ap (λ at. ram_with_bytes now at version) {x = 8 * k} {y = 0 + 8 * k} (omega arith)
+    ∙ part-stored leaf now (leaf_part lines index) 8 k 0 version (omega arith) (λ i. refl) is last
+
+pub versions_all : (leaf now : List ℕ) (lines index k : ℕ) → length leaf ≡ 64 → k ≡ 8
+    → now ≡ ram_with_bytes leaf 0 (parts_joined (leaf_part lines index) k)
+    → now ≡ node (start_version lines) 0 index
+unfolding parts_joined
+versions_all leaf now lines index k long all is =
+    let bytes = parts_joined (leaf_part lines index) 8 in
+    is ∙ ap (λ n. ram_with_bytes leaf 0 (parts_joined (leaf_part lines index) n)) all
+    ∙ ap (λ l. bytes ++ l) (drop_all (0 + length bytes) leaf (omega arith)) ∙ append-nil bytes
+    ∙ sym (leaf-parts (start_version lines) index)
 
 -- ---- One level
 
@@ -225,22 +263,10 @@ hashed_more area level index ram now next digest before entries after spare left
 
 -- ---- All levels
 
-leaf-parts : (numbers : ℕ → ℕ) (i : ℕ)
-    → node numbers 0 i ≡ parts_joined (λ k. to_be_bytes w64 (numbers (8 * i + k))) 8
-unfolding node
-leaf-parts numbers i = refl
-
 node-parts : (numbers : ℕ → ℕ) (level i : ℕ)
     → node numbers (suc level) i ≡ parts_joined (λ k. digest_of level (node numbers level (8 * i + k))) 8
 unfolding node
 node-parts numbers level i = refl
-
-leaves-joined : (numbers : ℕ → ℕ) (n : ℕ)
-    → parts_joined (λ i. to_be_bytes w64 (numbers i)) (8 * n) ≡ parts_joined (node numbers 0) n
-leaves-joined numbers n =
-    sym (joined-eight (λ i. to_be_bytes w64 (numbers i)) n)
-    ∙ sym (joined-same (node numbers 0) (λ i. parts_joined (λ k. to_be_bytes w64 (numbers (8 * i + k))) 8)
-    n (λ i low. leaf-parts numbers i))
 
 digests-joined : (numbers : ℕ → ℕ) (level n : ℕ)
     → parts_joined (λ i. digest_of level (node numbers level i)) (8 * n) ≡ parts_joined
@@ -259,14 +285,10 @@ next-level : (part : ℕ → List ℕ) (n : ℕ) → parts_joined part (suc n) �
 unfolding parts_joined
 next-level part n = refl
 
-line-count : line_limit ≡ 8 * width top_level 0
-line-count = refl
-
 pub leaves_written : (lines : ℕ)
-    → versions_to lines line_limit ≡ parts_joined (level_bytes top_level (start_version lines)) 1
-leaves_written lines =
-    ap (versions_to lines) line-count ∙ leaves-joined (start_version lines) (width top_level 0)
-    ∙ sym (first-level (level_bytes top_level (start_version lines)))
+    → level_bytes top_level (start_version lines) 0 ≡ parts_joined
+    (level_bytes top_level (start_version lines)) 1
+leaves_written lines = sym (first-level (level_bytes top_level (start_version lines)))
 
 offset-next : (level : ℕ)
     → level_offset top_level (suc level) ≡ level_offset top_level level + tree_block_size level * width

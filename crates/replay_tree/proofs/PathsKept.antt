@@ -1,7 +1,8 @@
 -- A path in the area of a guest, and what a renewal of its lower blocks leaves of it.
-use Rattle.std.proofs.Common.{◌≡◌, inl, ℕ, ◌+◌, ◌-◌, ◌*◌, ◌<◌, ◌≤◌, zero, suc, List, drop, length, refl, sym, ◌∙◌, ap, subst, arith}
-use Rattle.std.proofs.lemmas.List.{length-drop, length-take-le}
-use Rattle.line_ram.specs.Bytes.{HoldsRange}
+use Rattle.std.proofs.Common.{◌≡◌, inl, ℕ, ◌+◌, ◌-◌, ◌*◌, ◌<◌, ◌≤◌, zero, suc, List, [], ◌∷◌, ◌++◌, take, drop, length, slice_set, refl, sym, ◌∙◌, ap, subst, arith}
+use Rattle.std.proofs.lemmas.List.{append-nil, drop_all, length-drop, length-take-le, take_all}
+use borrow.Rule.Slice.PartMut.{mid_of, put_mid}
+use Rattle.line_ram.specs.Bytes.{HoldsRange, bytes_at}
 use Rattle.line_ram.proofs.Ranges.{bytes-stored_apart}
 use Rattle.xom_versions.specs.Store.{area_size, line_limit}
 use Rattle.replay_tree.specs.Tree.{digest_of, tree_lines}
@@ -45,6 +46,26 @@ pub block_fits : (area line level : ℕ) (ram : List ℕ) → HoldsRange ram are
 block_fits area line level ram held low few =
     length-block top_level area line level ram (subst (λ size. HoldsRange ram area size)
     (sym area_fits) held) low few
+
+-- what stands behind the level in a text
+pub behind_level : (text block : List ℕ) (level : ℕ) → text ≡ level ∷ block
+    → mid_of 1 (length text - 1) text ≡ block
+behind_level text block level is =
+    ap (λ l. mid_of 1 (length l - 1) l) is ∙ take_all (length (level ∷ block) - 1) block (omega arith)
+
+-- a text whose level was set, and whose block was read behind it
+pub text_read : (text block ram : List ℕ) (level at size : ℕ) → length text ≡ size + 1
+    → block ≡ bytes_at ram at (length (mid_of 1 (length (slice_set text 0 level) - 1) (slice_set text 0 level)))
+    → put_mid 1 (length (slice_set text 0 level) - 1) (slice_set text 0 level) block
+    ≡ level ∷ bytes_at ram at size
+text_read [] block ram level at size long read = absurd (omega arith)
+text_read (first ∷ rest) block ram level at size long read =
+    let all : length (level ∷ rest) - 1 ≡ size = omega arith in
+    let count : length (take (length (level ∷ rest) - 1) rest) ≡ size =
+    length-take-le (length (level ∷ rest) - 1) rest (omega arith) ∙ all in
+    ap (λ l. level ∷ (block ++ l)) (drop_all (length (level ∷ rest) - 1) rest (omega arith))
+    ∙ ap (λ l. level ∷ l) (append-nil block ∙ read)
+    ∙ ap (λ n. level ∷ bytes_at ram at n) count
 
 -- lower blocks end before the level begins
 below-level : (top line lower level : ℕ) → line < tree_lines top → lower < level → level ≤ top

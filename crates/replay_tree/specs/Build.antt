@@ -1,14 +1,8 @@
 -- What a build writes and hashes, as it goes through the area.
 use Rattle.std.specs.Prelude.{ℕ, zero, suc, ◌+◌, ◌*◌, List, [], ◌∷◌, ◌++◌}
-use Rattle.std.specs.Int.{w64, to_be_bytes}
-use Rattle.xom_versions.specs.Versions.{start_version}
 use Rattle.replay_tree.specs.Tree.{block_text, digest_of, parts_joined}
 use Rattle.replay_tree.specs.Area.{block_in, tree_block_size, width}
 use Rattle.replay_tree.specs.Calls.{top_level}
-
--- the start versions of the first lines
-abbrev pub versions_to : ℕ → ℕ → List ℕ
-versions_to lines n = parts_joined (λ line. to_be_bytes w64 (start_version lines line)) n
 
 -- the digests of the first blocks that RAM has at a level
 abbrev pub digests_in : ℕ → List ℕ → ℕ → ℕ → List ℕ

@@ -4,7 +4,7 @@ ghost use Rattle.xom_versions.specs.Store.{area_size, hash_entry, line_limit, ra
 ghost use Rattle.replay_tree.specs.Calls.{new_ram, new_root, new_texts, raised_in, top_level, torn_in, torn_or, version_at_line as version_of, version_texts};
 
 use crate::path::{check, number_at, renew};
-use crate::place::TOP;
+use crate::place::{TEXT, TOP};
 use line_ram::LineRam;
 use xom_journal::Journal;
 use xom_versions::Torn;
@@ -24,7 +24,8 @@ pub fn version_in(
     ensures entries { journal.new.entries ≡ journal.old.entries ++ map hash_entry (version_texts top_level root.now area line ram.now) }
     ensures spare { journal.old.spare ≤ journal.new.spare + version_room }
 {
-    match check(TOP, area, line, root, ram, journal) {
+    let mut buffer = [0; TEXT];
+    match check(TOP, area, line, root, ram, journal, &mut buffer) {
         Some(level) => Err(Torn { level }),
         None => Ok(number_at(area, line, ram)),
     }
@@ -48,10 +49,11 @@ pub fn raise_in(
     ensures entries { journal.new.entries ≡ journal.old.entries ++ map hash_entry (version_texts top_level root.old area line ram.old ++ new_texts top_level (torn_in top_level root.old area line ram.old) area line ram.old) }
     ensures spare { journal.old.spare ≤ journal.new.spare + raise_room }
 {
-    if let Some(level) = check(TOP, area, line, root, ram, journal) {
+    let mut buffer = [0; TEXT];
+    if let Some(level) = check(TOP, area, line, root, ram, journal, &mut buffer) {
         return Err(Torn { level });
     }
     let number = number_at(area, line, ram).wrapping_add(1);
-    *root = renew(TOP, area, line, number, ram, journal);
+    *root = renew(TOP, area, line, number, ram, journal, &mut buffer);
     Ok(number)
 }

@@ -7,26 +7,26 @@ ghost use Rattle.replay_tree.specs.Calls.{top_level};
 ghost use Rattle.replay_tree.specs.Paths.{block_after_raise, checked_texts, part_in, path_in, path_offset, ram_renewed, renewed_texts, torn_at, version_in_leaf, with_part};
 
 use crate::hashing::{hash, read};
-use crate::place::{BLOCK, block_at, block_size, index_at, part_from, part_size};
+use crate::place::{TEXT, block_at, block_size, index_at, part_from, part_size};
 use line_ram::LineRam;
 use xom_journal::Journal;
 
-/// Reads the block of a level on the line's path.
+/// Reads the block of a level on the line's path, and puts it behind its level.
 #[tactic(auto, using(crate::proofs::PathsKept::index_within))]
-fn read_on_path(level: u8, area: u32, line: u32, ram: &LineRam, into: &mut [u8])
+fn read_on_path(level: u8, area: u32, line: u32, ram: &LineRam, text: &mut [u8])
     requires level { level ≤ top_level }
     requires line { line < line_limit }
     requires area { HoldsRange ram.now area area_size }
-    requires size { length into.old ≡ size_of_block level }
-    ensures { into.new ≡ path_in top_level area ram.now line level }
+    requires size { length text.old ≡ size_of_block level + 1 }
+    ensures { text.new ≡ block_text level (path_in top_level area ram.now line level) }
 {
-    read(level, area, index_at(level, line), ram, into);
+    read(level, area, index_at(level, line), ram, text);
 }
 
 /// Checks the line's blocks from a level down to the leaf, where the digest of the first is to be this
 /// one: the level of the first block that isn't what the one above says, or none. Each block that is
 /// looked at is hashed, and becomes an entry of the journal.
-#[tactic(auto, unfolding(crate::specs::Paths::torn_at, crate::specs::Paths::checked_texts), using(crate::proofs::Levels::torn_above, crate::proofs::Levels::checked_above, crate::proofs::Levels::checked_on, crate::proofs::PathsKept::block_fits))]
+#[tactic(auto, unfolding(crate::specs::Paths::torn_at, crate::specs::Paths::checked_texts), using(crate::proofs::Levels::torn_above, crate::proofs::Levels::checked_above, crate::proofs::Levels::checked_on, crate::proofs::PathsKept::behind_level, crate::proofs::PathsKept::block_fits))]
 pub fn check(
     level: u8,
     area: u32,
@@ -34,6 +34,7 @@ pub fn check(
     wanted: &[u8; 32],
     ram: &LineRam,
     journal: &mut Journal,
+    buffer: &mut [u8; TEXT],
 ) -> Option<u8>
     requires level { level ≤ top_level }
     requires line { line < line_limit }
@@ -43,17 +44,16 @@ pub fn check(
     ensures entries { journal.new.entries ≡ journal.old.entries ++ map hash_entry (checked_texts (path_in top_level area ram.now line) line level wanted.now) }
     ensures spare { journal.old.spare ≤ journal.new.spare + 337 * (level + 1) }
 {
-    let mut buffer = [0u8; BLOCK];
-    let block = &mut buffer[..block_size(level)];
-    read_on_path(level, area, line, ram, block);
-    if hash(level, block, journal) != *wanted {
+    let text = &mut buffer[..=block_size(level)];
+    read_on_path(level, area, line, ram, text);
+    if hash(text, journal) != *wanted {
         return Some(level);
     }
     if level == 0 {
         return None;
     }
-    let below = digest_in(level, line, block);
-    check(level - 1, area, line, &below, ram, journal)
+    let below = digest_in(level, line, &text[1..]);
+    check(level - 1, area, line, &below, ram, journal, buffer)
 }
 
 /// The digest that a block above the leaves has of the block below it on the line's path.
@@ -79,6 +79,7 @@ pub fn renew(
     number: u64,
     ram: &mut LineRam,
     journal: &mut Journal,
+    buffer: &mut [u8; TEXT],
 ) -> [u8; 32]
     requires level { level ≤ top_level }
     requires line { line < line_limit }
@@ -91,15 +92,15 @@ pub fn renew(
     ensures spare { journal.old.spare ≤ journal.new.spare + 337 * (level + 1) }
 {
     if level == 0 {
-        renew_block(0, area, line, &number.to_be_bytes(), ram, journal)
+        renew_block(0, area, line, &number.to_be_bytes(), ram, journal, buffer)
     } else {
-        let below = renew(level - 1, area, line, number, ram, journal);
-        renew_block(level, area, line, &below, ram, journal)
+        let below = renew(level - 1, area, line, number, ram, journal, buffer);
+        renew_block(level, area, line, &below, ram, journal, buffer)
     }
 }
 
 /// Puts a part into the block of a level on the line's path: the new block's digest.
-#[tactic(auto, using(crate::proofs::PathsKept::block_fits, crate::proofs::PathsKept::index_within))]
+#[tactic(auto, using(crate::proofs::PathsKept::behind_level, crate::proofs::PathsKept::block_fits, crate::proofs::PathsKept::index_within))]
 fn renew_block(
     level: u8,
     area: u32,
@@ -107,6 +108,7 @@ fn renew_block(
     part: &[u8],
     ram: &mut LineRam,
     journal: &mut Journal,
+    buffer: &mut [u8; TEXT],
 ) -> [u8; 32]
     requires level { level ≤ top_level }
     requires line { line < line_limit }
@@ -120,12 +122,11 @@ fn renew_block(
     ensures spare { journal.old.spare ≤ journal.new.spare + 337 }
 {
     let _size = ram.size();
-    let mut buffer = [0u8; BLOCK];
-    let block = &mut buffer[..block_size(level)];
-    read_on_path(level, area, line, ram, block);
-    put(level, line, part, block);
-    ram.write(block_at(level, area, index_at(level, line)), block);
-    hash(level, block, journal)
+    let text = &mut buffer[..=block_size(level)];
+    read_on_path(level, area, line, ram, text);
+    put(level, line, part, &mut text[1..]);
+    ram.write(block_at(level, area, index_at(level, line)), &text[1..]);
+    hash(text, journal)
 }
 
 /// Puts a part into a block, where the line is under it.
@@ -140,14 +141,15 @@ fn put(level: u8, line: u32, part: &[u8], block: &mut [u8])
 }
 
 /// The line's version, in the leaf.
-#[tactic(auto, unfolding(crate::specs::Area::part_size))]
+#[tactic(auto, unfolding(crate::specs::Area::part_size), using(crate::proofs::PathsKept::index_within))]
 pub fn number_at(area: u32, line: u32, ram: &LineRam) -> u64
     requires line { line < line_limit }
     requires area { HoldsRange ram.now area area_size }
     ensures { result ≡ version_in_leaf (path_in top_level area ram.now line) line }
 {
+    let _size = ram.size();
     let mut leaf = [0u8; 64];
-    read_on_path(0, area, line, ram, &mut leaf);
+    ram.read(block_at(0, area, index_at(0, line)), &mut leaf);
     let from = part_from(0, line);
     let mut number = [0u8; 8];
     number.copy_from_slice(&leaf[from..from + 8]);

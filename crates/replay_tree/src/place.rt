@@ -7,8 +7,8 @@ ghost use Rattle.replay_tree.specs.Paths.{index_at as index_of, part_at as part_
 /// The level of the one block without a parent.
 pub const TOP: u8 = 4;
 
-/// How many bytes the largest block has.
-pub const BLOCK: usize = 256;
+/// How many bytes the largest block has, with its level before it.
+pub const TEXT: usize = 257;
 
 /// How many bytes one of the eight parts of a block has: a version, or a digest.
 #[tactic(auto, unfolding(crate::specs::Area::part_size), using(crate::proofs::Levels::part_size_above))]
