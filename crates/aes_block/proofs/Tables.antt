@@ -20,34 +20,23 @@ entry column table sized columns b byte =
     ∙ get_or-map column S_BOX b 0 [] byte
     ∙ ap column (entry_of b byte)
 
-row_0 : map (to_be_bytes w32) FROM_ROW_0 ≡ map column_from_row_0 S_BOX
-unfolding polynomial_product remainder times column_from_row_0
-row_0 = refl
-
-row_1 : map (to_be_bytes w32) FROM_ROW_1 ≡ map column_from_row_1 S_BOX
-unfolding polynomial_product remainder times column_from_row_1
-row_1 = refl
-
-row_2 : map (to_be_bytes w32) FROM_ROW_2 ≡ map column_from_row_2 S_BOX
-unfolding polynomial_product remainder times column_from_row_2
-row_2 = refl
-
-row_3 : map (to_be_bytes w32) FROM_ROW_3 ≡ map column_from_row_3 S_BOX
-unfolding polynomial_product remainder times column_from_row_3
-row_3 = refl
-
+-- by computation, row by row
 pub row_0_entry : (b : ℕ) → b < 256
     → to_be_bytes w32 (get_or FROM_ROW_0 b 0) ≡ column_from_row_0 (s_box b)
-row_0_entry b byte = entry column_from_row_0 FROM_ROW_0 refl row_0 b byte
+unfolding polynomial_product remainder times column_from_row_0
+row_0_entry b byte = entry column_from_row_0 FROM_ROW_0 refl refl b byte
 
 pub row_1_entry : (b : ℕ) → b < 256
     → to_be_bytes w32 (get_or FROM_ROW_1 b 0) ≡ column_from_row_1 (s_box b)
-row_1_entry b byte = entry column_from_row_1 FROM_ROW_1 refl row_1 b byte
+unfolding polynomial_product remainder times column_from_row_1
+row_1_entry b byte = entry column_from_row_1 FROM_ROW_1 refl refl b byte
 
 pub row_2_entry : (b : ℕ) → b < 256
     → to_be_bytes w32 (get_or FROM_ROW_2 b 0) ≡ column_from_row_2 (s_box b)
-row_2_entry b byte = entry column_from_row_2 FROM_ROW_2 refl row_2 b byte
+unfolding polynomial_product remainder times column_from_row_2
+row_2_entry b byte = entry column_from_row_2 FROM_ROW_2 refl refl b byte
 
 pub row_3_entry : (b : ℕ) → b < 256
     → to_be_bytes w32 (get_or FROM_ROW_3 b 0) ≡ column_from_row_3 (s_box b)
-row_3_entry b byte = entry column_from_row_3 FROM_ROW_3 refl row_3 b byte
+unfolding polynomial_product remainder times column_from_row_3
+row_3_entry b byte = entry column_from_row_3 FROM_ROW_3 refl refl b byte

@@ -38,18 +38,18 @@ mixed_column a b c d =
 -- ---- The four tables: what MIXCOLUMNS makes of a column that has this byte in one row and zeros
 -- in the others
 
--- the column of this byte in row 0 and zeros, mixed
+-- the column of this byte in the first row of the state and zeros, mixed
 unfoldable pub column_from_row_0 : ℕ → List ℕ
 column_from_row_0 byte = times 2 byte ∷ byte ∷ byte ∷ times 3 byte ∷ []
 
--- the column of this byte in row 1 and zeros, mixed
+-- the column of this byte in the second row of the state and zeros, mixed
 unfoldable pub column_from_row_1 : ℕ → List ℕ
 column_from_row_1 byte = times 3 byte ∷ times 2 byte ∷ byte ∷ byte ∷ []
 
--- the column of this byte in row 2 and zeros, mixed
+-- the column of this byte in the third row of the state and zeros, mixed
 unfoldable pub column_from_row_2 : ℕ → List ℕ
 column_from_row_2 byte = byte ∷ times 3 byte ∷ times 2 byte ∷ byte ∷ []
 
--- the column of this byte in row 3 and zeros, mixed
+-- the column of this byte in the fourth row of the state and zeros, mixed
 unfoldable pub column_from_row_3 : ℕ → List ℕ
 column_from_row_3 byte = byte ∷ byte ∷ times 3 byte ∷ times 2 byte ∷ []

@@ -7,7 +7,7 @@ ghost use Rattle.aes_block.specs.Columns.{byte_in_row, bytes_of_columns, mixed_c
 ghost use Rattle.aes_block.specs.Keys.{add_words, key_word};
 ghost use Rattle.aes_block.specs.State.{add_round_key, shift_rows, sub_bytes};
 
-use crate::columns::{from_row_0, from_row_1, from_row_2, from_row_3};
+use crate::columns::{FROM_ROW_0, FROM_ROW_1, FROM_ROW_2, FROM_ROW_3, word_in};
 use crate::table::s_box;
 use crate::word::word_of;
 
@@ -77,7 +77,11 @@ fn mixed_column(key: u32, a: u32, b: u32, c: u32, d: u32) -> u32
     ensures { to_be_bytes w32 result ≡ add_words (mixed_column_of a b c d) (to_be_bytes w32 key) }
 {
     let [row_0, row_1, row_2, row_3] = rows(a, b, c, d);
-    key ^ from_row_0(row_0) ^ from_row_1(row_1) ^ from_row_2(row_2) ^ from_row_3(row_3)
+    let first = word_in(&FROM_ROW_0, row_0);
+    let second = word_in(&FROM_ROW_1, row_1);
+    let third = word_in(&FROM_ROW_2, row_2);
+    let fourth = word_in(&FROM_ROW_3, row_3);
+    key ^ first ^ second ^ third ^ fourth
 }
 
 /// One column of the last round.

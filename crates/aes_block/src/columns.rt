@@ -1,12 +1,10 @@
 //! What a round makes of one byte, before its key is added: SUBBYTES and MIXCOLUMNS, FIPS 197, 5.1.1 and
 //! 5.1.3, from four tables of 256 words. A word is a column of the state, its first byte the highest.
 
-ghost use Rattle.std.specs.Prelude.{◌≡◌};
-ghost use Rattle.std.specs.Int.{w32, to_be_bytes};
-ghost use Rattle.aes_block.specs.Columns.{column_from_row_0, column_from_row_1, column_from_row_2, column_from_row_3};
-ghost use Rattle.aes_block.specs.Substitution.{s_box};
+ghost use Rattle.std.specs.Prelude.{◌≡◌, slice_index};
 
-static FROM_ROW_0: [u32; 256] = [
+/// What a byte in the first row of the state gives.
+pub static FROM_ROW_0: [u32; 256] = [
     0xc66363a5, 0xf87c7c84, 0xee777799, 0xf67b7b8d, 0xfff2f20d, 0xd66b6bbd, 0xde6f6fb1, 0x91c5c554,
     0x60303050, 0x02010103, 0xce6767a9, 0x562b2b7d, 0xe7fefe19, 0xb5d7d762, 0x4dababe6, 0xec76769a,
     0x8fcaca45, 0x1f82829d, 0x89c9c940, 0xfa7d7d87, 0xeffafa15, 0xb25959eb, 0x8e4747c9, 0xfbf0f00b,
@@ -41,7 +39,8 @@ static FROM_ROW_0: [u32; 256] = [
     0x824141c3, 0x299999b0, 0x5a2d2d77, 0x1e0f0f11, 0x7bb0b0cb, 0xa85454fc, 0x6dbbbbd6, 0x2c16163a,
 ];
 
-static FROM_ROW_1: [u32; 256] = [
+/// What a byte in the second row of the state gives.
+pub static FROM_ROW_1: [u32; 256] = [
     0xa5c66363, 0x84f87c7c, 0x99ee7777, 0x8df67b7b, 0x0dfff2f2, 0xbdd66b6b, 0xb1de6f6f, 0x5491c5c5,
     0x50603030, 0x03020101, 0xa9ce6767, 0x7d562b2b, 0x19e7fefe, 0x62b5d7d7, 0xe64dabab, 0x9aec7676,
     0x458fcaca, 0x9d1f8282, 0x4089c9c9, 0x87fa7d7d, 0x15effafa, 0xebb25959, 0xc98e4747, 0x0bfbf0f0,
@@ -76,7 +75,8 @@ static FROM_ROW_1: [u32; 256] = [
     0xc3824141, 0xb0299999, 0x775a2d2d, 0x111e0f0f, 0xcb7bb0b0, 0xfca85454, 0xd66dbbbb, 0x3a2c1616,
 ];
 
-static FROM_ROW_2: [u32; 256] = [
+/// What a byte in the third row of the state gives.
+pub static FROM_ROW_2: [u32; 256] = [
     0x63a5c663, 0x7c84f87c, 0x7799ee77, 0x7b8df67b, 0xf20dfff2, 0x6bbdd66b, 0x6fb1de6f, 0xc55491c5,
     0x30506030, 0x01030201, 0x67a9ce67, 0x2b7d562b, 0xfe19e7fe, 0xd762b5d7, 0xabe64dab, 0x769aec76,
     0xca458fca, 0x829d1f82, 0xc94089c9, 0x7d87fa7d, 0xfa15effa, 0x59ebb259, 0x47c98e47, 0xf00bfbf0,
@@ -111,7 +111,8 @@ static FROM_ROW_2: [u32; 256] = [
     0x41c38241, 0x99b02999, 0x2d775a2d, 0x0f111e0f, 0xb0cb7bb0, 0x54fca854, 0xbbd66dbb, 0x163a2c16,
 ];
 
-static FROM_ROW_3: [u32; 256] = [
+/// What a byte in the fourth row of the state gives.
+pub static FROM_ROW_3: [u32; 256] = [
     0x6363a5c6, 0x7c7c84f8, 0x777799ee, 0x7b7b8df6, 0xf2f20dff, 0x6b6bbdd6, 0x6f6fb1de, 0xc5c55491,
     0x30305060, 0x01010302, 0x6767a9ce, 0x2b2b7d56, 0xfefe19e7, 0xd7d762b5, 0xababe64d, 0x76769aec,
     0xcaca458f, 0x82829d1f, 0xc9c94089, 0x7d7d87fa, 0xfafa15ef, 0x5959ebb2, 0x4747c98e, 0xf0f00bfb,
@@ -146,38 +147,10 @@ static FROM_ROW_3: [u32; 256] = [
     0x4141c382, 0x9999b029, 0x2d2d775a, 0x0f0f111e, 0xb0b0cb7b, 0x5454fca8, 0xbbbbd66d, 0x16163a2c,
 ];
 
-/// The column that a byte in row 0 gives.
-#[tactic(auto, using(crate::proofs::Tables::row_0_entry))]
+/// The word of a byte in one of the four tables.
 #[inline(always)]
-pub fn from_row_0(byte: u8) -> u32
-    ensures { to_be_bytes w32 result ≡ column_from_row_0 (s_box byte) }
+pub fn word_in(table: &[u32; 256], byte: u8) -> u32
+    ensures { result ≡ slice_index table.now byte }
 {
-    FROM_ROW_0[usize::from(byte)]
-}
-
-/// The column that a byte in row 1 gives.
-#[tactic(auto, using(crate::proofs::Tables::row_1_entry))]
-#[inline(always)]
-pub fn from_row_1(byte: u8) -> u32
-    ensures { to_be_bytes w32 result ≡ column_from_row_1 (s_box byte) }
-{
-    FROM_ROW_1[usize::from(byte)]
-}
-
-/// The column that a byte in row 2 gives.
-#[tactic(auto, using(crate::proofs::Tables::row_2_entry))]
-#[inline(always)]
-pub fn from_row_2(byte: u8) -> u32
-    ensures { to_be_bytes w32 result ≡ column_from_row_2 (s_box byte) }
-{
-    FROM_ROW_2[usize::from(byte)]
-}
-
-/// The column that a byte in row 3 gives.
-#[tactic(auto, using(crate::proofs::Tables::row_3_entry))]
-#[inline(always)]
-pub fn from_row_3(byte: u8) -> u32
-    ensures { to_be_bytes w32 result ≡ column_from_row_3 (s_box byte) }
-{
-    FROM_ROW_3[usize::from(byte)]
+    table[usize::from(byte)]
 }
