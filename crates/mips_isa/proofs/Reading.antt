@@ -3,7 +3,7 @@ use Rattle.std.proofs.Common.{◌≡◌, ℕ, ◌+◌, ◌^◌, ◌<◌, ◌≤�
 use Rattle.std.proofs.lemmas.Bool.{cond_both, eqb-true, eqb-false, and_parts, ne_eqb, not-true}
 use Rattle.mips_instruction.specs.declared.instruction.Ins.{Ins}
 use Rattle.mips_instruction.specs.declared.instruction.Ins.TheVariants.{Sll, Srl, Sra, Sllv, Srlv, Srav, Jr, Jalr, Syscall, Break, Mfhi, Mthi, Mflo, Mtlo, Mult, Multu, Div, Divu, Add, Addu, Sub, Subu, And, Or, Xor, Nor, Slt, Sltu, Bltz, Bgez, Bltzal, Bgezal, J, Jal, Beq, Bne, Blez, Bgtz, Addi, Addiu, Slti, Sltiu, Andi, Ori, Xori, Lui, Lb, Lh, Lwl, Lw, Lbu, Lhu, Lwr, Sb, Sh, Swl, Sw, Swr, Xlwn, Xswn, Xmvtn, Xmvfn, Xexit, Xhand, Xsigret, Xinstall, Xenter, Xresume, Xsave, Xrestore, Xmap, Xunmap, Xkill, Xout, Xhalt, Xstat, Xcause, Xarg, Xwho}
-use Rattle.mips_instruction.specs.Words.{Fits, IsMoved, IsReserved, Word, branch_of, c_word, code_field, compartment_of, function_of, i_word, imm_of, immediate_of, index_field, instruction_of_word, j_word, op_of, r_word, rd_of, row_if_clear, rs_of, rt_of, sa_of, special_of}
+use Rattle.mips_instruction.specs.Words.{Fits, IsMoved, IsReserved, Word, branch_of, c_word, code_field, compartment_of, function_of, i_word, imm_of, immediate_of, index_field, instruction_of_word, j_word, op_of, r_word, rd_of, row_if_clear, rs_of, rt_of, sa_of, special_of, word_of}
 
 -- ---- From the instruction to its reading
 
@@ -287,6 +287,13 @@ line {w} {i} rest field k clear here after =
     cond_both (field == k) (row_if_clear clear i) rest (IsSound w) (λ is. cond_both clear (Some i) None
     (IsSound w) (here (eqb-true field k is)) (λ _. tt)) (λ _. after)
 
+-- a row with spare fields whose operands fit, whatever the spare fields hold
+row : {w : ℕ} (i : Ins) (rest : Option Ins) (field k : ℕ) (clear : Bool) → Fits i
+    → (field ≡ k → clear ≡ true → w ≡ word_of i) → IsSound w rest
+    → IsSound w (cond (field == k) (row_if_clear clear i) rest)
+row i rest field k clear fits word after =
+    line rest field k clear (λ f s. record { fits = fits; word = word f s }) after
+
 zero : (n : ℕ) → (n == 0) ≡ true → n ≡ 0
 zero n = eqb-true n 0
 
@@ -320,133 +327,34 @@ module _ (w rs rt rd sa function : ℕ) (rs_fits : rs < 32) (rt_fits : rt < 32) 
       → w ≡ c_word code function → IsSound w (special_of rs rt rd sa function code)
   unfolding special_of
   special-sound code code_fits is coded =
-      line _ function 0 _ (λ f s. record {
-        fits = (rd_fits, rt_fits, sa_fits);
-        word =
-            omega (arith, zero rs s);
-      }) (
-      line _ function 2 _ (λ f s. record {
-        fits = (rd_fits, rt_fits, sa_fits);
-        word =
-            omega (arith, zero rs s);
-      }) (
-      line _ function 3 _ (λ f s. record {
-        fits = (rd_fits, rt_fits, sa_fits);
-        word =
-            omega (arith, zero rs s);
-      }) (
-      line _ function 4 _ (λ f s. record {
-        fits = (rd_fits, rt_fits, rs_fits);
-        word =
-            omega (arith, zero sa s);
-      }) (
-      line _ function 6 _ (λ f s. record {
-        fits = (rd_fits, rt_fits, rs_fits);
-        word =
-            omega (arith, zero sa s);
-      }) (
-      line _ function 7 _ (λ f s. record {
-        fits = (rd_fits, rt_fits, rs_fits);
-        word =
-            omega (arith, zero sa s);
-      }) (
-      line _ function 8 _ (λ f s. record {
-        fits = rs_fits;
-        word = omega (arith, spare3 rt rd sa s);
-      }) (
-      line _ function 9 _ (λ f s. record {
-        fits = (rd_fits, rs_fits);
-        word =
-            omega (arith, spare2 rt sa s);
-      }) (
+      row _ _ function 0 _ (rd_fits, rt_fits, sa_fits) (λ f s. omega (arith, zero rs s)) (
+      row _ _ function 2 _ (rd_fits, rt_fits, sa_fits) (λ f s. omega (arith, zero rs s)) (
+      row _ _ function 3 _ (rd_fits, rt_fits, sa_fits) (λ f s. omega (arith, zero rs s)) (
+      row _ _ function 4 _ (rd_fits, rt_fits, rs_fits) (λ f s. omega (arith, zero sa s)) (
+      row _ _ function 6 _ (rd_fits, rt_fits, rs_fits) (λ f s. omega (arith, zero sa s)) (
+      row _ _ function 7 _ (rd_fits, rt_fits, rs_fits) (λ f s. omega (arith, zero sa s)) (
+      row _ _ function 8 _ rs_fits (λ f s. omega (arith, spare3 rt rd sa s)) (
+      row _ _ function 9 _ (rd_fits, rs_fits) (λ f s. omega (arith, spare2 rt sa s)) (
       full _ function 12 (λ f. record { fits = code_fits; word = omega arith }) (
       full _ function 13 (λ f. record { fits = code_fits; word = omega arith }) (
-      line _ function 16 _ (λ f s. record {
-        fits = rd_fits;
-        word = omega (arith, spare3 rs rt sa s);
-      }) (
-      line _ function 17 _ (λ f s. record {
-        fits = rs_fits;
-        word = omega (arith, spare3 rt rd sa s);
-      }) (
-      line _ function 18 _ (λ f s. record {
-        fits = rd_fits;
-        word = omega (arith, spare3 rs rt sa s);
-      }) (
-      line _ function 19 _ (λ f s. record {
-        fits = rs_fits;
-        word = omega (arith, spare3 rt rd sa s);
-      }) (
-      line _ function 24 _ (λ f s. record {
-        fits = (rs_fits, rt_fits);
-        word =
-            omega (arith, spare2 rd sa s);
-      }) (
-      line _ function 25 _ (λ f s. record {
-        fits = (rs_fits, rt_fits);
-        word =
-            omega (arith, spare2 rd sa s);
-      }) (
-      line _ function 26 _ (λ f s. record {
-        fits = (rs_fits, rt_fits);
-        word =
-            omega (arith, spare2 rd sa s);
-      }) (
-      line _ function 27 _ (λ f s. record {
-        fits = (rs_fits, rt_fits);
-        word =
-            omega (arith, spare2 rd sa s);
-      }) (
-      line _ function 32 _ (λ f s. record {
-        fits = (rd_fits, rs_fits, rt_fits);
-        word =
-            omega (arith, zero sa s);
-      }) (
-      line _ function 33 _ (λ f s. record {
-        fits = (rd_fits, rs_fits, rt_fits);
-        word =
-            omega (arith, zero sa s);
-      }) (
-      line _ function 34 _ (λ f s. record {
-        fits = (rd_fits, rs_fits, rt_fits);
-        word =
-            omega (arith, zero sa s);
-      }) (
-      line _ function 35 _ (λ f s. record {
-        fits = (rd_fits, rs_fits, rt_fits);
-        word =
-            omega (arith, zero sa s);
-      }) (
-      line _ function 36 _ (λ f s. record {
-        fits = (rd_fits, rs_fits, rt_fits);
-        word =
-            omega (arith, zero sa s);
-      }) (
-      line _ function 37 _ (λ f s. record {
-        fits = (rd_fits, rs_fits, rt_fits);
-        word =
-            omega (arith, zero sa s);
-      }) (
-      line _ function 38 _ (λ f s. record {
-        fits = (rd_fits, rs_fits, rt_fits);
-        word =
-            omega (arith, zero sa s);
-      }) (
-      line _ function 39 _ (λ f s. record {
-        fits = (rd_fits, rs_fits, rt_fits);
-        word =
-            omega (arith, zero sa s);
-      }) (
-      line _ function 42 _ (λ f s. record {
-        fits = (rd_fits, rs_fits, rt_fits);
-        word =
-            omega (arith, zero sa s);
-      }) (
-      line _ function 43 _ (λ f s. record {
-        fits = (rd_fits, rs_fits, rt_fits);
-        word =
-            omega (arith, zero sa s);
-      }) (
+      row _ _ function 16 _ rd_fits (λ f s. omega (arith, spare3 rs rt sa s)) (
+      row _ _ function 17 _ rs_fits (λ f s. omega (arith, spare3 rt rd sa s)) (
+      row _ _ function 18 _ rd_fits (λ f s. omega (arith, spare3 rs rt sa s)) (
+      row _ _ function 19 _ rs_fits (λ f s. omega (arith, spare3 rt rd sa s)) (
+      row _ _ function 24 _ (rs_fits, rt_fits) (λ f s. omega (arith, spare2 rd sa s)) (
+      row _ _ function 25 _ (rs_fits, rt_fits) (λ f s. omega (arith, spare2 rd sa s)) (
+      row _ _ function 26 _ (rs_fits, rt_fits) (λ f s. omega (arith, spare2 rd sa s)) (
+      row _ _ function 27 _ (rs_fits, rt_fits) (λ f s. omega (arith, spare2 rd sa s)) (
+      row _ _ function 32 _ (rd_fits, rs_fits, rt_fits) (λ f s. omega (arith, zero sa s)) (
+      row _ _ function 33 _ (rd_fits, rs_fits, rt_fits) (λ f s. omega (arith, zero sa s)) (
+      row _ _ function 34 _ (rd_fits, rs_fits, rt_fits) (λ f s. omega (arith, zero sa s)) (
+      row _ _ function 35 _ (rd_fits, rs_fits, rt_fits) (λ f s. omega (arith, zero sa s)) (
+      row _ _ function 36 _ (rd_fits, rs_fits, rt_fits) (λ f s. omega (arith, zero sa s)) (
+      row _ _ function 37 _ (rd_fits, rs_fits, rt_fits) (λ f s. omega (arith, zero sa s)) (
+      row _ _ function 38 _ (rd_fits, rs_fits, rt_fits) (λ f s. omega (arith, zero sa s)) (
+      row _ _ function 39 _ (rd_fits, rs_fits, rt_fits) (λ f s. omega (arith, zero sa s)) (
+      row _ _ function 42 _ (rd_fits, rs_fits, rt_fits) (λ f s. omega (arith, zero sa s)) (
+      row _ _ function 43 _ (rd_fits, rs_fits, rt_fits) (λ f s. omega (arith, zero sa s)) (
       tt))))))))))))))))))))))))))))
 
   compartment-sound : w ≡ r_word 18 rs rt rd sa function
@@ -462,74 +370,23 @@ module _ (w rs rt rd sa function : ℕ) (rs_fits : rs < 32) (rt_fits : rt < 32) 
         word =
             omega (arith, spare2 rt sa from.1);
       }) (
-      line _ function 3 _ (λ f s. record { fits = tt; word = omega (arith, spare4 rs rt rd sa s) })
-      (
-      line _ function 4 _ (λ f s. record {
-        fits = rs_fits;
-        word = omega (arith, spare3 rt rd sa s);
-      }) (
-      line _ function 5 _ (λ f s. record { fits = tt; word = omega (arith, spare4 rs rt rd sa s) })
-      (
-      line _ function 16 _ (λ f s. record {
-        fits = (rs_fits, rt_fits, rd_fits);
-        word =
-            omega (arith, zero sa s);
-      }) (
-      line _ function 17 _ (λ f s. record {
-        fits = rs_fits;
-        word = omega (arith, spare3 rt rd sa s);
-      }) (
-      line _ function 18 _ (λ f s. record {
-        fits = (rs_fits, rt_fits);
-        word =
-            omega (arith, spare2 rd sa s);
-      }) (
-      line _ function 19 _ (λ f s. record {
-        fits = (rs_fits, rt_fits, rd_fits);
-        word =
-            omega (arith, zero sa s);
-      }) (
-      line _ function 20 _ (λ f s. record {
-        fits = (rs_fits, rt_fits, rd_fits);
-        word =
-            omega (arith, zero sa s);
-      }) (
-      line _ function 21 _ (λ f s. record {
-        fits = (rs_fits, rt_fits, rd_fits);
-        word =
-            omega (arith, zero sa s);
-      }) (
-      line _ function 22 _ (λ f s. record {
-        fits = (rs_fits, rt_fits);
-        word =
-            omega (arith, spare2 rd sa s);
-      }) (
-      line _ function 24 _ (λ f s. record {
-        fits = rs_fits;
-        word = omega (arith, spare3 rt rd sa s);
-      }) (
-      line _ function 25 _ (λ f s. record {
-        fits = rs_fits;
-        word = omega (arith, spare3 rt rd sa s);
-      }) (
-      line _ function 26 _ (λ f s. record { fits = tt; word = omega (arith, spare4 rs rt rd sa s) })
-      (
-      line _ function 27 _ (λ f s. record {
-        fits = rd_fits;
-        word = omega (arith, spare3 rs rt sa s);
-      }) (
-      line _ function 28 _ (λ f s. record {
-        fits = rd_fits;
-        word = omega (arith, spare3 rs rt sa s);
-      }) (
-      line _ function 29 _ (λ f s. record {
-        fits = rd_fits;
-        word = omega (arith, spare3 rs rt sa s);
-      }) (
-      line _ function 30 _ (λ f s. record {
-        fits = rd_fits;
-        word = omega (arith, spare3 rs rt sa s);
-      }) (
+      row _ _ function 3 _ tt (λ f s. omega (arith, spare4 rs rt rd sa s)) (
+      row _ _ function 4 _ rs_fits (λ f s. omega (arith, spare3 rt rd sa s)) (
+      row _ _ function 5 _ tt (λ f s. omega (arith, spare4 rs rt rd sa s)) (
+      row _ _ function 16 _ (rs_fits, rt_fits, rd_fits) (λ f s. omega (arith, zero sa s)) (
+      row _ _ function 17 _ rs_fits (λ f s. omega (arith, spare3 rt rd sa s)) (
+      row _ _ function 18 _ (rs_fits, rt_fits) (λ f s. omega (arith, spare2 rd sa s)) (
+      row _ _ function 19 _ (rs_fits, rt_fits, rd_fits) (λ f s. omega (arith, zero sa s)) (
+      row _ _ function 20 _ (rs_fits, rt_fits, rd_fits) (λ f s. omega (arith, zero sa s)) (
+      row _ _ function 21 _ (rs_fits, rt_fits, rd_fits) (λ f s. omega (arith, zero sa s)) (
+      row _ _ function 22 _ (rs_fits, rt_fits) (λ f s. omega (arith, spare2 rd sa s)) (
+      row _ _ function 24 _ rs_fits (λ f s. omega (arith, spare3 rt rd sa s)) (
+      row _ _ function 25 _ rs_fits (λ f s. omega (arith, spare3 rt rd sa s)) (
+      row _ _ function 26 _ tt (λ f s. omega (arith, spare4 rs rt rd sa s)) (
+      row _ _ function 27 _ rd_fits (λ f s. omega (arith, spare3 rs rt sa s)) (
+      row _ _ function 28 _ rd_fits (λ f s. omega (arith, spare3 rs rt sa s)) (
+      row _ _ function 29 _ rd_fits (λ f s. omega (arith, spare3 rs rt sa s)) (
+      row _ _ function 30 _ rd_fits (λ f s. omega (arith, spare3 rs rt sa s)) (
       tt)))))))))))))))))))
 
 branch-sound : (w rs rt imm : ℕ) → rs < 32 → imm < 2 ^ 16 → w ≡ i_word 1 rs rt imm
@@ -548,8 +405,8 @@ unfolding immediate_of
 immediate-sound w op rs rt imm rs_fits rt_fits imm_fits is =
     full _ op 4 (λ f. record { fits = (rs_fits, rt_fits, imm_fits); word = omega arith }) (
     full _ op 5 (λ f. record { fits = (rs_fits, rt_fits, imm_fits); word = omega arith }) (
-    line _ op 6 _ (λ f s. record { fits = (rs_fits, imm_fits); word = omega (arith, zero rt s) }) (
-    line _ op 7 _ (λ f s. record { fits = (rs_fits, imm_fits); word = omega (arith, zero rt s) }) (
+    row _ _ op 6 _ (rs_fits, imm_fits) (λ f s. omega (arith, zero rt s)) (
+    row _ _ op 7 _ (rs_fits, imm_fits) (λ f s. omega (arith, zero rt s)) (
     full _ op 8 (λ f. record { fits = (rt_fits, rs_fits, imm_fits); word = omega arith }) (
     full _ op 9 (λ f. record { fits = (rt_fits, rs_fits, imm_fits); word = omega arith }) (
     full _ op 10 (λ f. record { fits = (rt_fits, rs_fits, imm_fits); word = omega arith }) (
@@ -557,7 +414,7 @@ immediate-sound w op rs rt imm rs_fits rt_fits imm_fits is =
     full _ op 12 (λ f. record { fits = (rt_fits, rs_fits, imm_fits); word = omega arith }) (
     full _ op 13 (λ f. record { fits = (rt_fits, rs_fits, imm_fits); word = omega arith }) (
     full _ op 14 (λ f. record { fits = (rt_fits, rs_fits, imm_fits); word = omega arith }) (
-    line _ op 15 _ (λ f s. record { fits = (rt_fits, imm_fits); word = omega (arith, zero rs s) }) (
+    row _ _ op 15 _ (rt_fits, imm_fits) (λ f s. omega (arith, zero rs s)) (
     full _ op 32 (λ f. record { fits = (rt_fits, imm_fits, rs_fits); word = omega arith }) (
     full _ op 33 (λ f. record { fits = (rt_fits, imm_fits, rs_fits); word = omega arith }) (
     full _ op 34 (λ f. record { fits = (rt_fits, imm_fits, rs_fits); word = omega arith }) (
