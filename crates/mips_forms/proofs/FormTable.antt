@@ -17,90 +17,24 @@ use Rattle.mips_forms.specs.FormLaws.{FormsDiffer, KindsOfForms, OperandsFit}
 
 -- ---- From the instruction to its form and back
 
--- each instruction is built of its own form
+-- an instruction is built of its own form, and its operands are of the kinds of its mnemonic
+record IsInTable (i : Ins) : Type 0 where
+  built : build_of (form_of i).0 (form_of i).1 ≡ Some i
+  taken : kinds_of (form_of i).0 ≡ Some (map operand_kind_of (form_of i).1)
+
+-- each instruction is in the table, by computation: `_` stands for each of the others
+in_table : (i : Ins) → IsInTable i
+unfolding kinds_of rows_with_operands plain_rows register_rows two_registers_rows
+    three_registers_rows sum_rows slot_rows rows_of_shifts signed_rows unsigned_rows upper_rows
+    access_rows compare_rows test_rows jump_rows coded_rows
+in_table (Sll rd rt sa) = record { built = refl; taken = refl }
+in_table _ = record { built = refl; taken = refl }
+
 pub built_form : (i : Ins) → build_of (form_of i).0 (form_of i).1 ≡ Some i
-unfolding rows_with_operands plain_rows register_rows two_registers_rows three_registers_rows sum_rows
-    slot_rows rows_of_shifts signed_rows unsigned_rows upper_rows access_rows compare_rows test_rows
-    jump_rows coded_rows
-built_form (Sll rd rt sa) = refl
-built_form (Srl rd rt sa) = refl
-built_form (Sra rd rt sa) = refl
-built_form (Sllv rd rt rs) = refl
-built_form (Srlv rd rt rs) = refl
-built_form (Srav rd rt rs) = refl
-built_form (Jr rs) = refl
-built_form (Jalr rd rs) = refl
-built_form (Syscall code) = refl
-built_form (Break code) = refl
-built_form (Mfhi rd) = refl
-built_form (Mthi rs) = refl
-built_form (Mflo rd) = refl
-built_form (Mtlo rs) = refl
-built_form (Mult rs rt) = refl
-built_form (Multu rs rt) = refl
-built_form (Div rs rt) = refl
-built_form (Divu rs rt) = refl
-built_form (Add rd rs rt) = refl
-built_form (Addu rd rs rt) = refl
-built_form (Sub rd rs rt) = refl
-built_form (Subu rd rs rt) = refl
-built_form (And rd rs rt) = refl
-built_form (Or rd rs rt) = refl
-built_form (Xor rd rs rt) = refl
-built_form (Nor rd rs rt) = refl
-built_form (Slt rd rs rt) = refl
-built_form (Sltu rd rs rt) = refl
-built_form (Bltz rs imm) = refl
-built_form (Bgez rs imm) = refl
-built_form (Bltzal rs imm) = refl
-built_form (Bgezal rs imm) = refl
-built_form (J index) = refl
-built_form (Jal index) = refl
-built_form (Beq rs rt imm) = refl
-built_form (Bne rs rt imm) = refl
-built_form (Blez rs imm) = refl
-built_form (Bgtz rs imm) = refl
-built_form (Addi rt rs imm) = refl
-built_form (Addiu rt rs imm) = refl
-built_form (Slti rt rs imm) = refl
-built_form (Sltiu rt rs imm) = refl
-built_form (Andi rt rs imm) = refl
-built_form (Ori rt rs imm) = refl
-built_form (Xori rt rs imm) = refl
-built_form (Lui rt imm) = refl
-built_form (Lb rt imm rs) = refl
-built_form (Lh rt imm rs) = refl
-built_form (Lwl rt imm rs) = refl
-built_form (Lw rt imm rs) = refl
-built_form (Lbu rt imm rs) = refl
-built_form (Lhu rt imm rs) = refl
-built_form (Lwr rt imm rs) = refl
-built_form (Sb rt imm rs) = refl
-built_form (Sh rt imm rs) = refl
-built_form (Swl rt imm rs) = refl
-built_form (Sw rt imm rs) = refl
-built_form (Swr rt imm rs) = refl
-built_form (Xlwn rt imm rs) = refl
-built_form (Xswn rt imm rs) = refl
-built_form (Xmvtn rs) = refl
-built_form (Xmvfn rd rs) = refl
-built_form Xexit = refl
-built_form (Xhand rs) = refl
-built_form Xsigret = refl
-built_form (Xinstall rs rt rd) = refl
-built_form (Xenter rs) = refl
-built_form (Xresume rs rt) = refl
-built_form (Xsave rs rt rd) = refl
-built_form (Xrestore rs rt rd) = refl
-built_form (Xmap rs rt rd) = refl
-built_form (Xunmap rs rt) = refl
-built_form (Xkill rs) = refl
-built_form (Xout rs) = refl
-built_form Xhalt = refl
-built_form (Xstat rd) = refl
-built_form (Xcause rd) = refl
-built_form (Xarg rd) = refl
-built_form (Xwho rd) = refl
+built_form i = (in_table i).built
+
+pub kinds_of_forms : KindsOfForms
+kinds_of_forms i = (in_table i).taken
 
 pub forms_differ : FormsDiffer
 forms_differ i j same =
@@ -214,90 +148,6 @@ form-build_of name operands i is =
     ap (λ (form : List ℕ × List Operand). build_of form.0 form.1) (sym is) ∙ built_form i
 
 -- ---- Which operands a mnemonic takes
-
-pub kinds_of_forms : KindsOfForms
-unfolding kinds_of rows_with_operands plain_rows register_rows two_registers_rows three_registers_rows sum_rows
-    slot_rows rows_of_shifts signed_rows unsigned_rows upper_rows access_rows compare_rows test_rows
-    jump_rows coded_rows
-kinds_of_forms (Sll rd rt sa) = refl
-kinds_of_forms (Srl rd rt sa) = refl
-kinds_of_forms (Sra rd rt sa) = refl
-kinds_of_forms (Sllv rd rt rs) = refl
-kinds_of_forms (Srlv rd rt rs) = refl
-kinds_of_forms (Srav rd rt rs) = refl
-kinds_of_forms (Jr rs) = refl
-kinds_of_forms (Jalr rd rs) = refl
-kinds_of_forms (Syscall code) = refl
-kinds_of_forms (Break code) = refl
-kinds_of_forms (Mfhi rd) = refl
-kinds_of_forms (Mthi rs) = refl
-kinds_of_forms (Mflo rd) = refl
-kinds_of_forms (Mtlo rs) = refl
-kinds_of_forms (Mult rs rt) = refl
-kinds_of_forms (Multu rs rt) = refl
-kinds_of_forms (Div rs rt) = refl
-kinds_of_forms (Divu rs rt) = refl
-kinds_of_forms (Add rd rs rt) = refl
-kinds_of_forms (Addu rd rs rt) = refl
-kinds_of_forms (Sub rd rs rt) = refl
-kinds_of_forms (Subu rd rs rt) = refl
-kinds_of_forms (And rd rs rt) = refl
-kinds_of_forms (Or rd rs rt) = refl
-kinds_of_forms (Xor rd rs rt) = refl
-kinds_of_forms (Nor rd rs rt) = refl
-kinds_of_forms (Slt rd rs rt) = refl
-kinds_of_forms (Sltu rd rs rt) = refl
-kinds_of_forms (Bltz rs imm) = refl
-kinds_of_forms (Bgez rs imm) = refl
-kinds_of_forms (Bltzal rs imm) = refl
-kinds_of_forms (Bgezal rs imm) = refl
-kinds_of_forms (J index) = refl
-kinds_of_forms (Jal index) = refl
-kinds_of_forms (Beq rs rt imm) = refl
-kinds_of_forms (Bne rs rt imm) = refl
-kinds_of_forms (Blez rs imm) = refl
-kinds_of_forms (Bgtz rs imm) = refl
-kinds_of_forms (Addi rt rs imm) = refl
-kinds_of_forms (Addiu rt rs imm) = refl
-kinds_of_forms (Slti rt rs imm) = refl
-kinds_of_forms (Sltiu rt rs imm) = refl
-kinds_of_forms (Andi rt rs imm) = refl
-kinds_of_forms (Ori rt rs imm) = refl
-kinds_of_forms (Xori rt rs imm) = refl
-kinds_of_forms (Lui rt imm) = refl
-kinds_of_forms (Lb rt imm rs) = refl
-kinds_of_forms (Lh rt imm rs) = refl
-kinds_of_forms (Lwl rt imm rs) = refl
-kinds_of_forms (Lw rt imm rs) = refl
-kinds_of_forms (Lbu rt imm rs) = refl
-kinds_of_forms (Lhu rt imm rs) = refl
-kinds_of_forms (Lwr rt imm rs) = refl
-kinds_of_forms (Sb rt imm rs) = refl
-kinds_of_forms (Sh rt imm rs) = refl
-kinds_of_forms (Swl rt imm rs) = refl
-kinds_of_forms (Sw rt imm rs) = refl
-kinds_of_forms (Swr rt imm rs) = refl
-kinds_of_forms (Xlwn rt imm rs) = refl
-kinds_of_forms (Xswn rt imm rs) = refl
-kinds_of_forms (Xmvtn rs) = refl
-kinds_of_forms (Xmvfn rd rs) = refl
-kinds_of_forms Xexit = refl
-kinds_of_forms (Xhand rs) = refl
-kinds_of_forms Xsigret = refl
-kinds_of_forms (Xinstall rs rt rd) = refl
-kinds_of_forms (Xenter rs) = refl
-kinds_of_forms (Xresume rs rt) = refl
-kinds_of_forms (Xsave rs rt rd) = refl
-kinds_of_forms (Xrestore rs rt rd) = refl
-kinds_of_forms (Xmap rs rt rd) = refl
-kinds_of_forms (Xunmap rs rt) = refl
-kinds_of_forms (Xkill rs) = refl
-kinds_of_forms (Xout rs) = refl
-kinds_of_forms Xhalt = refl
-kinds_of_forms (Xstat rd) = refl
-kinds_of_forms (Xcause rd) = refl
-kinds_of_forms (Xarg rd) = refl
-kinds_of_forms (Xwho rd) = refl
 
 -- what is found passes the test
 find-passes : (test : List OperandKind → Bool) (all : List (List OperandKind))
