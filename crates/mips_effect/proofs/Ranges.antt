@@ -330,29 +330,28 @@ at_word-sound t address wished following range word =
 
 -- ---- The instructions
 
+-- an instruction that sets a register
+puts : (mode : Mode) (t reg value following : ℕ) → reg < 32
+    → Sound mode t (sets reg value following)
+puts mode t reg value following below = sets-sound mode t reg value following (cell reg below)
+
 act-sound : (i : Ins) (mode : Mode) (s t d following : ℕ) → Fits i → is_reserved mode i ≡ false
     → Sound mode t (act i mode s t d following)
 unfolding act
-act-sound (Sll rd rt sa) mode s t d following fits own =
-    sets-sound mode t rd _ following (cell _ fits.0)
-act-sound (Srl rd rt sa) mode s t d following fits own =
-    sets-sound mode t rd _ following (cell _ fits.0)
-act-sound (Sra rd rt sa) mode s t d following fits own =
-    sets-sound mode t rd _ following (cell _ fits.0)
-act-sound (Sllv rd rt rs) mode s t d following fits own =
-    sets-sound mode t rd _ following (cell _ fits.0)
-act-sound (Srlv rd rt rs) mode s t d following fits own =
-    sets-sound mode t rd _ following (cell _ fits.0)
-act-sound (Srav rd rt rs) mode s t d following fits own =
-    sets-sound mode t rd _ following (cell _ fits.0)
+act-sound (Sll rd rt sa) mode s t d following fits own = puts mode t rd _ following fits.0
+act-sound (Srl rd rt sa) mode s t d following fits own = puts mode t rd _ following fits.0
+act-sound (Sra rd rt sa) mode s t d following fits own = puts mode t rd _ following fits.0
+act-sound (Sllv rd rt rs) mode s t d following fits own = puts mode t rd _ following fits.0
+act-sound (Srlv rd rt rs) mode s t d following fits own = puts mode t rd _ following fits.0
+act-sound (Srav rd rt rs) mode s t d following fits own = puts mode t rd _ following fits.0
 act-sound (Jr rs) mode s t d following fits own = calm mode t _ _ _ tt
 act-sound (Jalr rd rs) mode s t d following fits own =
     calm mode t _ _ _ (AreCells-set rd (next_address following) (cell _ fits.0))
 act-sound (Syscall code) mode s t d following fits own = fine mode t _ tt (fits, tt) tt
 act-sound (Break code) mode s t d following fits own = λ null same. cc
-act-sound (Mfhi rd) mode s t d following fits own = sets-sound mode t rd _ following (cell _ fits)
+act-sound (Mfhi rd) mode s t d following fits own = puts mode t rd _ following fits
 act-sound (Mthi rs) mode s t d following fits own = calm mode t _ _ _ (lit≤ tt, lit< tt)
-act-sound (Mflo rd) mode s t d following fits own = sets-sound mode t rd _ following (cell _ fits)
+act-sound (Mflo rd) mode s t d following fits own = puts mode t rd _ following fits
 act-sound (Mtlo rs) mode s t d following fits own = calm mode t _ _ _ (lit≤ tt, lit< tt)
 act-sound (Mult rs rt) mode s t d following fits own = calm mode t _ _ _ tt
 act-sound (Multu rs rt) mode s t d following fits own = calm mode t _ _ _ tt
@@ -360,24 +359,16 @@ act-sound (Div rs rt) mode s t d following fits own = divided-sound mode t s t f
 act-sound (Divu rs rt) mode s t d following fits own = divided_unsigned-sound mode t s t following
 act-sound (Add rd rs rt) mode s t d following fits own =
     sets_or_overflows-sound mode t rd (sum s t) following (cell _ fits.0)
-act-sound (Addu rd rs rt) mode s t d following fits own =
-    sets-sound mode t rd _ following (cell _ fits.0)
+act-sound (Addu rd rs rt) mode s t d following fits own = puts mode t rd _ following fits.0
 act-sound (Sub rd rs rt) mode s t d following fits own =
     sets_or_overflows-sound mode t rd (difference s t) following (cell _ fits.0)
-act-sound (Subu rd rs rt) mode s t d following fits own =
-    sets-sound mode t rd _ following (cell _ fits.0)
-act-sound (And rd rs rt) mode s t d following fits own =
-    sets-sound mode t rd _ following (cell _ fits.0)
-act-sound (Or rd rs rt) mode s t d following fits own =
-    sets-sound mode t rd _ following (cell _ fits.0)
-act-sound (Xor rd rs rt) mode s t d following fits own =
-    sets-sound mode t rd _ following (cell _ fits.0)
-act-sound (Nor rd rs rt) mode s t d following fits own =
-    sets-sound mode t rd _ following (cell _ fits.0)
-act-sound (Slt rd rs rt) mode s t d following fits own =
-    sets-sound mode t rd _ following (cell _ fits.0)
-act-sound (Sltu rd rs rt) mode s t d following fits own =
-    sets-sound mode t rd _ following (cell _ fits.0)
+act-sound (Subu rd rs rt) mode s t d following fits own = puts mode t rd _ following fits.0
+act-sound (And rd rs rt) mode s t d following fits own = puts mode t rd _ following fits.0
+act-sound (Or rd rs rt) mode s t d following fits own = puts mode t rd _ following fits.0
+act-sound (Xor rd rs rt) mode s t d following fits own = puts mode t rd _ following fits.0
+act-sound (Nor rd rs rt) mode s t d following fits own = puts mode t rd _ following fits.0
+act-sound (Slt rd rs rt) mode s t d following fits own = puts mode t rd _ following fits.0
+act-sound (Sltu rd rs rt) mode s t d following fits own = puts mode t rd _ following fits.0
 act-sound (Bltz rs imm) mode s t d following fits own = calm mode t _ _ _ tt
 act-sound (Bgez rs imm) mode s t d following fits own = calm mode t _ _ _ tt
 act-sound (Bltzal rs imm) mode s t d following fits own =
@@ -393,20 +384,13 @@ act-sound (Blez rs imm) mode s t d following fits own = calm mode t _ _ _ tt
 act-sound (Bgtz rs imm) mode s t d following fits own = calm mode t _ _ _ tt
 act-sound (Addi rt rs imm) mode s t d following fits own =
     sets_or_overflows-sound mode t rt (sum s (sign_extended imm)) following (cell _ fits.0)
-act-sound (Addiu rt rs imm) mode s t d following fits own =
-    sets-sound mode t rt _ following (cell _ fits.0)
-act-sound (Slti rt rs imm) mode s t d following fits own =
-    sets-sound mode t rt _ following (cell _ fits.0)
-act-sound (Sltiu rt rs imm) mode s t d following fits own =
-    sets-sound mode t rt _ following (cell _ fits.0)
-act-sound (Andi rt rs imm) mode s t d following fits own =
-    sets-sound mode t rt _ following (cell _ fits.0)
-act-sound (Ori rt rs imm) mode s t d following fits own =
-    sets-sound mode t rt _ following (cell _ fits.0)
-act-sound (Xori rt rs imm) mode s t d following fits own =
-    sets-sound mode t rt _ following (cell _ fits.0)
-act-sound (Lui rt imm) mode s t d following fits own =
-    sets-sound mode t rt _ following (cell _ fits.0)
+act-sound (Addiu rt rs imm) mode s t d following fits own = puts mode t rt _ following fits.0
+act-sound (Slti rt rs imm) mode s t d following fits own = puts mode t rt _ following fits.0
+act-sound (Sltiu rt rs imm) mode s t d following fits own = puts mode t rt _ following fits.0
+act-sound (Andi rt rs imm) mode s t d following fits own = puts mode t rt _ following fits.0
+act-sound (Ori rt rs imm) mode s t d following fits own = puts mode t rt _ following fits.0
+act-sound (Xori rt rs imm) mode s t d following fits own = puts mode t rt _ following fits.0
+act-sound (Lui rt imm) mode s t d following fits own = puts mode t rt _ following fits.0
 act-sound (Lb rt imm rs) mode s t d following fits own =
     loads-sound mode t kind.Byte rt (plus_signed s imm) t following fits.0
 act-sound (Lh rt imm rs) mode s t d following fits own =
