@@ -10,7 +10,7 @@ use Rattle.xom_base.specs.declared.entry.Entry.TheVariants as entry
 use Rattle.journal_findings.specs.Findings.{collides, collision_at, first_collision}
 use Rattle.journal_findings.proofs.Found.{collision-more, collisions_stay}
 use Rattle.trace_judge.specs.declared.hashes.First.{First}
-use Rattle.trace_judge.specs.HashSearch.{FindsCollisions, TellsOtherTexts, entry_number_at, next_first, next_found, other_text, with_hash}
+use Rattle.trace_judge.specs.HashSearch.{FindsCollisions, IsHash, TellsOtherTexts, entry_number_at, next_first, next_found, other_text, with_hash}
 use Rattle.trace_judge.proofs.Bytes.{same_bytes}
 use Rattle.trace_judge.proofs.Places.{position_push}
 
@@ -191,6 +191,37 @@ fed_one number found found' first first' es e counted finds makes was = record {
   answer = finds ∙ next_answer number found first es e counted was;
   tells = λ none. next_tells number found first first' es e counted was (sym finds ∙ none) makes;
 }
+
+-- an entry that is no Hash adds nothing
+passed : (found : Option (ℕ × ℕ)) (first : List ℕ → Option First) (es : List Entry) (e : Entry)
+    → ((p d : List ℕ) → collides p d e ≡ false)
+    → next_found (length es + 1) found first e ≡ found → FindsCollisions found first es
+    → FindsCollisions found first (es ++ e ∷ [])
+passed found first es e never same was = record {
+  answer = sym same ∙ next_answer (length es + 1) found first es e refl was;
+  tells = λ none. tells_still first first es e never (λ d. refl) (was.tells none);
+}
+
+pub other_passed : (found : Option (ℕ × ℕ)) (first : List ℕ → Option First) (es : List Entry)
+    (e : Entry)
+    → (IsHash e → ⊥) → FindsCollisions found first es → FindsCollisions found first (es ++ e ∷ [])
+other_passed found first es (entry.Hash p d) other was = absurd (other tt)
+other_passed found first es (entry.Install n slot id place begin lines) other was =
+    passed found first es _ (λ p d. refl) refl was
+other_passed found first es (entry.Step n step) other was =
+    passed found first es _ (λ p d. refl) refl was
+other_passed found first es (entry.Trap n cause) other was =
+    passed found first es _ (λ p d. refl) refl was
+other_passed found first es (entry.Seal key message) other was =
+    passed found first es _ (λ p d. refl) refl was
+other_passed found first es (entry.Accept key message place) other was =
+    passed found first es _ (λ p d. refl) refl was
+other_passed found first es (entry.Stop n rule) other was =
+    passed found first es _ (λ p d. refl) refl was
+other_passed found first es (entry.Kill n) other was =
+    passed found first es _ (λ p d. refl) refl was
+other_passed found first es (entry.Out byte) other was =
+    passed found first es _ (λ p d. refl) refl was
 
 -- one more Hash where memory was wanted
 pub fed_not : (found found' : Option (ℕ × ℕ)) (first first' : List ℕ → Option First)

@@ -164,6 +164,16 @@ fed_one sealed number found found' has has' es e counted finds makes was = recor
   seals = λ none. next_knows sealed number found has has' es e was (sym finds ∙ none) makes;
 }
 
+-- a Hash adds nothing
+pub hash_passed : (sealed : List (List ℕ × List ℕ)) (found : Option ℕ) (has : List ℕ → Bool)
+    (es : List Entry) (preimage digest : List ℕ)
+    → FindsForgeries sealed found has es
+    → FindsForgeries sealed found has (es ++ entry.Hash preimage digest ∷ [])
+hash_passed sealed None has es preimage digest was =
+    fed_one sealed (length es + 1) None None has has es _ refl refl (λ n. refl) was
+hash_passed sealed (Some m) has es preimage digest was =
+    fed_one sealed (length es + 1) (Some m) (Some m) has has es _ refl refl (λ n. refl) was
+
 -- no more, where memory was wanted
 pub fed_not : (sealed : List (List ℕ × List ℕ)) (found found' : Option ℕ) (has has' : List ℕ → Bool)
     (es : List Entry)

@@ -67,7 +67,7 @@ verdict-if true p count steps = verdict-watch_in p.over p count steps refl
 verdict-if false p count steps = refl
 
 -- a count doesn't wrap
-next-count : (m count : ℕ) → m + 1 < 2 ^ 64 → count ≤ m → (count + 1) % 2 ^ 64 ≡ count + 1
+pub next-count : (m count : ℕ) → m + 1 < 2 ^ 64 → count ≤ m → (count + 1) % 2 ^ 64 ≡ count + 1
 next-count m count small counted = omega arith
 
 watched_next : (m : ℕ) (w : Watch) (step : Step) (steps : List Step) → m + 1 < 2 ^ 64
@@ -302,7 +302,7 @@ lines_grow owners es e more =
     ap (λ all. filter_map (guest_line_of_entry owners all) (es ++ e ∷ [])) (regroup es e more)
     ∙ filter_map-append (guest_line_of_entry owners (es ++ e ∷ more)) es (e ∷ [])
 
-longer : (es : List Entry) (e : Entry) → length (es ++ e ∷ []) ≡ length es + 1
+pub longer : (es : List Entry) (e : Entry) → length (es ++ e ∷ []) ≡ length es + 1
 longer es e = length-append es (e ∷ [])
 
 -- how many installs there are with one more entry
@@ -342,6 +342,13 @@ fed_quiet : (owners : List Owner) (gs : List Guest) (es : List Entry) (e : Entry
 fed_quiet owners gs es e none quiet others fed =
     fed_by owners gs gs es e none quiet (λ more. lines_other gs e more others)
     (ranked_more (length es) 1 gs fed.ranked) refl (λ n above. others n) fed
+
+-- a Hash adds nothing
+pub hash_passed : (owners : List Owner) (gs : List Guest) (es : List Entry)
+    (preimage digest : List ℕ)
+    → IsFed owners gs es → IsFed owners gs (es ++ entry.Hash preimage digest ∷ [])
+hash_passed owners gs es preimage digest fed =
+    fed_quiet owners gs es (entry.Hash preimage digest) (λ all. refl) refl (λ j. (refl, refl)) fed
 
 fed_moved : (owners : List Owner) (gs : List Guest) (es : List Entry) (e : Entry) (n : ℕ)
     → length es + 1 < 2 ^ 64 → is_installed (length gs) n ≡ true
@@ -443,7 +450,7 @@ fed_next owners gs es (entry.Accept key message place) small may fed =
     fed_quiet owners gs es (entry.Accept key message place) (λ all. refl) refl (λ j. (refl, refl))
     fed
 fed_next owners gs es (entry.Hash preimage digest) small may fed =
-    fed_quiet owners gs es (entry.Hash preimage digest) (λ all. refl) refl (λ j. (refl, refl)) fed
+    hash_passed owners gs es preimage digest fed
 fed_next owners gs es (entry.Out byte) small may fed =
     fed_quiet owners gs es (entry.Out byte) (λ all. refl) refl (λ j. (refl, refl)) fed
 

@@ -1,7 +1,9 @@
 -- Reports of equal parts are equal, and a judge that is fed a journal.
-use Rattle.std.proofs.Common.{◌≡◌, ℕ, ◌+◌, ◌^◌, ◌<◌, List, [], ◌∷◌, ◌++◌, Option, Some, None, true, length, min, take, suc, get_or, ap, subst, sym, ◌∙◌, arith, length-take, take-suc}
-use Rattle.std.specs.Prelude.{IfOk, Result, Ok, Err, slice_get}
+use Rattle.std.proofs.Common.{◌≡◌, ℕ, ◌+◌, ◌%◌, ◌^◌, ◌<◌, List, [], ◌∷◌, ◌++◌, Option, Some, None, true, length, min, take, suc, get_or, ap, subst, sym, ◌∙◌, arith, length-take, take-suc}
+use Rattle.std.specs.Prelude.{IfOk, Result, Ok, Err, option_and_then, slice_get}
 use Rattle.xom_base.specs.declared.entry.Entry.{Entry}
+use Rattle.xom_base.specs.declared.entry.Entry.TheVariants as entry
+use Rattle.xom_journal.specs.EntryParts.{hash_in}
 use Rattle.xom_base.specs.declared.key.Key256.{Key256}
 use Rattle.xom_base.specs.declared.list.NoMemory.{NoMemory}
 use Rattle.xom_owners.specs.declared.owner.Owner.{Owner}
@@ -12,6 +14,7 @@ use Rattle.trace_judge.specs.declared.stream.Judge.{Judge}
 use Rattle.trace_judge.specs.Judgement.{judgement}
 use Rattle.trace_judge.specs.Judging.{HasJudged, HasSearched}
 use Rattle.trace_judge.specs.Numbers.{install_count, may_stand}
+use Rattle.trace_judge.proofs.GuestLaws.{longer, next-count}
 use Rattle.trace_judge.proofs.Takes.{take_got, take_none}
 
 abbrev report_of : List GuestLine → Option ℕ → Option (ℕ × ℕ) → Report
@@ -30,6 +33,33 @@ same_report {gs} {hs} {f} {g} {p} {q} lines first pair =
     pair
 
 -- ---- A journal, entry by entry
+
+-- the number of the next entry
+pub next_number : (count : ℕ) (es : List Entry) → count ≡ length es → length es + 1 < 2 ^ 64
+    → (count + 1) % 2 ^ 64 ≡ length es + 1
+next_number count es counted small =
+    next-count (length es) count small (omega arith) ∙ ap (λ n. n + 1) counted
+
+-- which is how many there are with it
+pub next_counted : (count : ℕ) (es : List Entry) (e : Entry) → count ≡ length es
+    → length es + 1 < 2 ^ 64 → (count + 1) % 2 ^ 64 ≡ length (es ++ e ∷ [])
+next_counted count es e counted small = next_number count es counted small ∙ sym (longer es e)
+
+-- a place with this text and digest has the Hash of them
+pub hash_got : (found : Option Entry) (text digest : List ℕ)
+    → option_and_then hash_in found ≡ Some (text, digest) → found ≡ Some (entry.Hash text digest)
+hash_got None text digest is = absurd (cc)
+hash_got (Some (entry.Install n slot id place begin lines)) text digest is = absurd (cc)
+hash_got (Some (entry.Step n step)) text digest is = absurd (cc)
+hash_got (Some (entry.Trap n cause)) text digest is = absurd (cc)
+hash_got (Some (entry.Seal key message)) text digest is = absurd (cc)
+hash_got (Some (entry.Accept key message place)) text digest is = absurd (cc)
+hash_got (Some (entry.Hash preimage other)) text digest is =
+    let same : (preimage, other) ≡ (text, digest) = cc in
+    ap (λ (pair : List ℕ × List ℕ). Some (entry.Hash pair.0 pair.1)) same
+hash_got (Some (entry.Stop n rule)) text digest is = absurd (cc)
+hash_got (Some (entry.Kill n)) text digest is = absurd (cc)
+hash_got (Some (entry.Out byte)) text digest is = absurd (cc)
 
 -- one more entry of a journal
 pub judged_next : (machine : Key256) (owners : List Owner) (old new : Judge) (entries : List Entry)

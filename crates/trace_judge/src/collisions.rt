@@ -1,11 +1,11 @@
-ghost use Rattle.std.specs.Prelude.{◌≡◌, ◌+◌, ◌++◌, [], ◌∷◌, List, ℕ, length, OnOk, OnErr};
+ghost use Rattle.std.specs.Prelude.{◌≡◌, ◌≤◌, ◌+◌, ◌++◌, [], ◌∷◌, List, ℕ, length, OnOk, OnErr};
 ghost use Rattle.xom_base.specs.declared.entry.Entry.{Entry as AnEntry};
 ghost use Rattle.xom_base.specs.declared.entry.Entry.TheVariants.{Hash as AHash};
 ghost use Rattle.journal_findings.specs.Findings.{first_collision};
 
 use crate::hashes::{First, Hashes};
 use std::alloc::Global;
-use xom_base::{Block, Entry, NoMemory};
+use xom_base::{Block, NoMemory};
 
 /// The search for two Hashes of one digest and different texts.
 #[derive(Drop)]
@@ -17,7 +17,7 @@ pub struct Collisions {
 }
 
 impl Collisions {
-    ghost use Rattle.trace_judge.specs.HashSearch.{HasSearchedHashes, IsHash, next_first as firsts_by, next_found as found_by};
+    ghost use Rattle.trace_judge.specs.HashSearch.{HasSearchedHashes, next_first as firsts_by, next_found as found_by};
     ghost use Rattle.trace_judge.specs.Maps.{first_in};
 
     /// Nothing was fed. Digests are looked up under the secret. It takes no memory.
@@ -31,36 +31,23 @@ impl Collisions {
         }
     }
 
-    /// Takes the next entry, of this number.
-    pub fn feed(&mut self, number: u64, entry: &Entry) -> Result<(), NoMemory>
-        ensures ok { OnOk result ((es : List AnEntry) → number ≡ length es + 1 → HasSearchedHashes self.old es → HasSearchedHashes self.new (es ++ entry.now ∷ [])) }
+    /// Takes the next entry, of this number: a Hash of this text.
+    pub fn feed(&mut self, number: u64, text: &[u8], digest: &[u8; 32]) -> Result<(), NoMemory>
+        requires { length text.now ≤ 260 }
+        ensures ok { OnOk result ((es : List AnEntry) → number ≡ length es + 1 → HasSearchedHashes self.old es → HasSearchedHashes self.new (es ++ AHash text.now digest.now ∷ [])) }
         ensures err { OnErr result ((es : List AnEntry) → HasSearchedHashes self.old es → HasSearchedHashes self.new es) }
-        ensures only { OnErr result (IsHash entry.now) }
     {
-        match self.look(number, entry) {
+        match self.look(number, text, digest) {
             Ok(()) => Ok(()),
             Err(e) => Err(e),
         }
     }
 
-    /// Looks at an entry.
-    fn look(&mut self, number: u64, entry: &Entry) -> Result<(), NoMemory>
-        ensures found { OnOk result (self.new.found ≡ found_by number self.old.found (first_in self.old.hashes) entry.now) }
-        ensures firsts { OnOk result ((d : List ℕ) → first_in self.new.hashes d ≡ firsts_by number self.old.found (first_in self.old.hashes) entry.now d) }
-        ensures kept { OnErr result (self.new.found ≡ self.old.found) }
-        ensures still { OnErr result ((d : List ℕ) → first_in self.new.hashes d ≡ first_in self.old.hashes d) }
-        ensures only { OnErr result (IsHash entry.now) }
-    {
-        match entry {
-            Entry::Hash { preimage, digest } => self.hash(number, preimage, digest),
-            _ => Ok(()),
-        }
-    }
-
     /// Looks at a Hash.
-    fn hash(&mut self, number: u64, preimage: &Block, digest: &[u8; 32]) -> Result<(), NoMemory>
-        ensures found { OnOk result (self.new.found ≡ found_by number self.old.found (first_in self.old.hashes) (AHash preimage.now digest.now)) }
-        ensures firsts { OnOk result ((d : List ℕ) → first_in self.new.hashes d ≡ firsts_by number self.old.found (first_in self.old.hashes) (AHash preimage.now digest.now) d) }
+    fn look(&mut self, number: u64, text: &[u8], digest: &[u8; 32]) -> Result<(), NoMemory>
+        requires { length text.now ≤ 260 }
+        ensures found { OnOk result (self.new.found ≡ found_by number self.old.found (first_in self.old.hashes) (AHash text.now digest.now)) }
+        ensures firsts { OnOk result ((d : List ℕ) → first_in self.new.hashes d ≡ firsts_by number self.old.found (first_in self.old.hashes) (AHash text.now digest.now) d) }
         ensures kept { OnErr result (self.new.found ≡ self.old.found) }
         ensures still { OnErr result ((d : List ℕ) → first_in self.new.hashes d ≡ first_in self.old.hashes d) }
     {
@@ -71,12 +58,12 @@ impl Collisions {
             None => {
                 let first = First {
                     number,
-                    preimage: *preimage,
+                    preimage: Block::new(text),
                 };
                 self.hashes.insert(digest, &first)?;
             }
             Some(first) => {
-                if preimage.bytes() != first.preimage.bytes() {
+                if text != first.preimage.bytes() {
                     self.found = Some((first.number, number));
                 }
             }

@@ -1,4 +1,4 @@
-ghost use Rattle.std.specs.Prelude.{◌≡◌, List, ℕ, Some, None, OnOk, OnErr, if◌then◌else◌};
+ghost use Rattle.std.specs.Prelude.{◌≡◌, List, ℕ, Some, None, OnOk, OnErr, if◌then◌else◌, option_copied};
 ghost use Rattle.std.specs.Str.{bytes_eq};
 
 use std::alloc::Global;
@@ -33,11 +33,11 @@ impl Hashes {
     }
 
     /// The first Hash of a digest.
-    pub fn first(&self, digest: &[u8; 32]) -> Option<First>
-        ensures { result ≡ first_in self.now digest.now }
+    pub fn first(&self, digest: &[u8; 32]) -> Option<&First>
+        ensures { option_copied result ≡ first_in self.now digest.now }
     {
         let first = self.table.get(digest.as_slice())?;
-        Some(**first)
+        Some(&**first)
     }
 
     /// Lets this be the first Hash of a digest.

@@ -1,4 +1,7 @@
-ghost use Rattle.std.specs.Prelude.{◌≡◌, IfOk};
+ghost use Rattle.std.specs.Prelude.{◌≡◌, ◌<◌, ◌+◌, ◌^◌, List, IfOk, true, take};
+ghost use Rattle.xom_base.specs.declared.key.Key256.{Key256 as AKey};
+ghost use Rattle.xom_owners.specs.declared.owner.Owner.{Owner};
+ghost use Rattle.trace_judge.specs.Judging.{HasJudged};
 ghost use Rattle.journal_findings.specs.Findings.{first_collision, first_forgery, sealed_by};
 ghost use Rattle.trace_judge.specs.Judgement.{judgement};
 
@@ -32,14 +35,31 @@ pub fn judge(
 {
     let mut judge = Judge::new(alloc, machine, owners)?;
     for i in 0..journal.len() {
-        if let Some(entry) = journal.get(i) {
-            if !judge.may_feed(&entry) {
-                return judge_listed(alloc, machine, owners, journal);
-            }
-            judge.feed(&entry)?;
+        if !feed_at(&mut judge, journal, i)? {
+            return judge_listed(alloc, machine, owners, journal);
         }
     }
     judge.report()
+}
+
+/// Feeds a judge the entry at a place, if there is one: whether it may stand there. A Hash is looked at
+/// where it lies in the journal.
+fn feed_at(judge: &mut Judge, journal: &Journal, i: u64) -> Result<bool, NoMemory>
+    requires { i + 1 < 2 ^ 64 }
+    ensures { IfOk result (λ fed. fed ≡ true → (m : AKey) → (os : List Owner) → HasJudged m os judge.old (take i journal.now.entries) → HasJudged m os judge.new (take (i + 1) journal.now.entries)) }
+{
+    if let Some(hash) = journal.hash_at(i) {
+        judge.feed_hash(hash.text, hash.digest)?;
+        return Ok(true);
+    }
+    let Some(entry) = journal.get(i) else {
+        return Ok(true);
+    };
+    if !judge.may_feed(&entry) {
+        return Ok(false);
+    }
+    judge.feed(&entry)?;
+    Ok(true)
 }
 
 /// Judges a journal off the rule of install numbers.

@@ -1,8 +1,8 @@
-ghost use Rattle.std.specs.Prelude.{◌≡◌, ◌<◌, ◌+◌, ◌^◌, ◌++◌, [], ◌∷◌, List, ℕ, length, OnOk, OnErr, IfOk};
+ghost use Rattle.std.specs.Prelude.{◌≡◌, ◌≤◌, ◌<◌, ◌+◌, ◌^◌, ◌++◌, [], ◌∷◌, List, ℕ, length, OnOk, OnErr, IfOk};
 ghost use Rattle.xom_base.specs.declared.entry.Entry.{Entry as AnEntry};
 ghost use Rattle.journal_findings.specs.Findings.{first_collision, first_forgery, sealed_by};
-ghost use Rattle.trace_judge.specs.HashSearch.{HasSearchedHashes, IsHash};
-ghost use Rattle.trace_judge.specs.SealSearch.{HasSearchedSeals, IsSeal, all_sealings};
+ghost use Rattle.xom_base.specs.declared.entry.Entry.TheVariants.{Hash as AHash};
+ghost use Rattle.trace_judge.specs.HashSearch.{IsHash};
 
 use crate::collisions::Collisions;
 use crate::forgeries::Forgeries;
@@ -52,8 +52,23 @@ impl<'a> Searches<'a> {
         ensures err { OnErr result ((sealed : List (List ℕ × List ℕ)) → (es : List AnEntry) → HasSearched sealed self.old es → HasSearched sealed self.new es) }
         ensures only { OnErr result (JudgeKeeps entry.now) }
     {
+        match entry {
+            Entry::Hash { preimage, digest } => {
+                let _length = preimage.len();
+                self.feed_hash(preimage.bytes(), digest)
+            }
+            _ => self.feed_other(entry),
+        }
+    }
+
+    /// Takes the next entry, a Hash of this text. The search for forgeries has nothing to look at.
+    pub fn feed_hash(&mut self, text: &[u8], digest: &[u8; 32]) -> Result<(), NoMemory>
+        requires { length text.now ≤ 260 }
+        ensures ok { OnOk result ((sealed : List (List ℕ × List ℕ)) → (es : List AnEntry) → length es + 1 < 2 ^ 64 → HasSearched sealed self.old es → HasSearched sealed self.new (es ++ AHash text.now digest.now ∷ [])) }
+        ensures err { OnErr result ((sealed : List (List ℕ × List ℕ)) → (es : List AnEntry) → HasSearched sealed self.old es → HasSearched sealed self.new es) }
+    {
         let number = self.count.wrapping_add(1);
-        match self.look(number, entry) {
+        match self.collisions.feed(number, text, digest) {
             Ok(()) => {
                 self.count = number;
                 Ok(())
@@ -62,31 +77,20 @@ impl<'a> Searches<'a> {
         }
     }
 
-    /// Looks at the next entry, of this number.
-    fn look(&mut self, number: u64, entry: &Entry) -> Result<(), NoMemory>
-        ensures sealings { self.new.sealings ≡ self.old.sealings }
-        ensures count { self.new.count ≡ self.old.count }
-        ensures seals { OnOk result ((es : List AnEntry) → number ≡ length es + 1 → HasSearchedSeals (all_sealings self.old.sealings) self.old.forgeries es → HasSearchedSeals (all_sealings self.old.sealings) self.new.forgeries (es ++ entry.now ∷ [])) }
-        ensures hashes { OnOk result ((es : List AnEntry) → number ≡ length es + 1 → HasSearchedHashes self.old.collisions es → HasSearchedHashes self.new.collisions (es ++ entry.now ∷ [])) }
-        ensures seals_stay { OnErr result ((sealed : List (List ℕ × List ℕ)) → (es : List AnEntry) → HasSearchedSeals sealed self.old.forgeries es → HasSearchedSeals sealed self.new.forgeries es) }
-        ensures hashes_stay { OnErr result ((es : List AnEntry) → HasSearchedHashes self.old.collisions es → HasSearchedHashes self.new.collisions es) }
+    /// Takes the next entry, which is no Hash. The search for collisions has nothing to look at.
+    fn feed_other(&mut self, entry: &Entry) -> Result<(), NoMemory>
+        requires { IsHash entry.now → ⊥ }
+        ensures ok { OnOk result ((sealed : List (List ℕ × List ℕ)) → (es : List AnEntry) → length es + 1 < 2 ^ 64 → HasSearched sealed self.old es → HasSearched sealed self.new (es ++ entry.now ∷ [])) }
+        ensures err { OnErr result ((sealed : List (List ℕ × List ℕ)) → (es : List AnEntry) → HasSearched sealed self.old es → HasSearched sealed self.new es) }
         ensures only { OnErr result (JudgeKeeps entry.now) }
     {
-        match entry {
-            Entry::Hash { .. } => match self.collisions.feed(number, entry) {
-                Ok(()) => {
-                    forge(&mut self.forgeries, &self.sealings, number, entry);
-                    Ok(())
-                }
-                Err(e) => Err(e),
-            },
-            _ => match self.forgeries.feed(&self.sealings, number, entry) {
-                Ok(()) => {
-                    collide(&mut self.collisions, number, entry);
-                    Ok(())
-                }
-                Err(e) => Err(e),
-            },
+        let number = self.count.wrapping_add(1);
+        match self.forgeries.feed(&self.sealings, number, entry) {
+            Ok(()) => {
+                self.count = number;
+                Ok(())
+            }
+            Err(e) => Err(e),
         }
     }
 
@@ -102,27 +106,5 @@ impl<'a> Searches<'a> {
         ensures { (sealed : List (List ℕ × List ℕ)) → (es : List AnEntry) → HasSearched sealed self.now es → result ≡ first_collision es }
     {
         self.collisions.found()
-    }
-}
-
-/// Feeds the search for forgeries, where that wants no memory.
-fn forge(forgeries: &mut Forgeries, owned: &Sealings, number: u64, entry: &Entry)
-    requires { IsSeal entry.now → ⊥ }
-    ensures { (es : List AnEntry) → number ≡ length es + 1 → HasSearchedSeals (all_sealings owned.now) forgeries.old es → HasSearchedSeals (all_sealings owned.now) forgeries.new (es ++ entry.now ∷ []) }
-{
-    match forgeries.feed(owned, number, entry) {
-        Ok(()) => {}
-        Err(_) => unreachable!(),
-    }
-}
-
-/// Feeds the search for collisions, where that wants no memory.
-fn collide(collisions: &mut Collisions, number: u64, entry: &Entry)
-    requires { IsHash entry.now → ⊥ }
-    ensures { (es : List AnEntry) → number ≡ length es + 1 → HasSearchedHashes collisions.old es → HasSearchedHashes collisions.new (es ++ entry.now ∷ []) }
-{
-    match collisions.feed(number, entry) {
-        Ok(()) => {}
-        Err(_) => unreachable!(),
     }
 }

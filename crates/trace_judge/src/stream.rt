@@ -1,5 +1,6 @@
-ghost use Rattle.std.specs.Prelude.{◌≡◌, ◌<◌, ◌+◌, ◌^◌, ◌++◌, [], ◌∷◌, List, ℕ, length, true, OnOk, OnErr, IfOk};
+ghost use Rattle.std.specs.Prelude.{◌≡◌, ◌≤◌, ◌<◌, ◌+◌, ◌^◌, ◌++◌, [], ◌∷◌, List, ℕ, length, true, OnOk, OnErr, IfOk};
 ghost use Rattle.xom_base.specs.declared.entry.Entry.{Entry as AnEntry};
+ghost use Rattle.xom_base.specs.declared.entry.Entry.TheVariants.{Hash as AHash};
 ghost use Rattle.xom_base.specs.declared.key.Key256.{Key256 as AKey};
 ghost use Rattle.xom_owners.specs.declared.owner.Owner.{Owner};
 ghost use Rattle.journal_findings.specs.Findings.{sealed_by};
@@ -63,6 +64,17 @@ impl<'a> Judge<'a> {
         ensures only { OnErr result (WantsMemory entry.now) }
     {
         match self.look(entry) {
+            Ok(()) => Ok(()),
+            Err(e) => Err(e),
+        }
+    }
+
+    /// Takes the next entry, a Hash of this text. No guest has anything to look at.
+    pub(crate) fn feed_hash(&mut self, text: &[u8], digest: &[u8; 32]) -> Result<(), NoMemory>
+        requires { length text.now ≤ 260 }
+        ensures { OnOk result ((machine : AKey) → (owners : List Owner) → (es : List AnEntry) → length es + 1 < 2 ^ 64 → HasJudged machine owners self.old es → HasJudged machine owners self.new (es ++ AHash text.now digest.now ∷ [])) }
+    {
+        match self.searches.feed_hash(text, digest) {
             Ok(()) => Ok(()),
             Err(e) => Err(e),
         }

@@ -168,8 +168,7 @@ impl Journal {
         ensures value { option_map (λ hash. (hash.text.now, hash.digest.now)) result ≡ option_and_then hash_in (slice_get self.now.entries i) }
         ensures few { IfSome result (λ hash. length hash.text.now ≤ 260) }
     {
-        let record = self.records.get(i as usize)?;
-        hash_of(record, &self.bytes)
+        hash_of(self.records.get(i as usize)?, &self.bytes)
     }
 
     /// How many bytes are spare.
