@@ -1,15 +1,16 @@
 -- What is stored is loaded again.
-use Rattle.std.proofs.Common.{◌≡◌, ℕ, ◌+◌, ◌-◌, ◌*◌, ◌/◌, ◌%◌, ◌^◌, ◌<◌, ◌≤◌, List, [], ◌∷◌, length, slice_index, refl, ap, subst, ◌∙◌, ⊎_elim, arith}
+use Rattle.std.proofs.Common.{◌≡◌, ℕ, ◌+◌, ◌-◌, ◌*◌, ◌/◌, ◌%◌, ◌^◌, ◌<◌, ◌≤◌, ℤ, List, [], ◌∷◌, length, slice_index, refl, ap, subst, ◌∙◌, ⊎_elim, arith}
 use Rattle.std.proofs.lemmas.List.Elements.{All-nil, All-cons}
 use Rattle.xom_base.specs.declared.step.Stored.TheVariants as stored
-use Rattle.mips_instruction.specs.declared.instruction.Ins.TheVariants.{Lwl, Lwr, Sb, Sh}
-use Rattle.mips_instruction.specs.Numbers.{number_modulo_word, plus_signed, sign_extended, signed_16, signed_8}
+use Rattle.mips_instruction.specs.declared.instruction.Ins.{Ins}
+use Rattle.mips_instruction.specs.declared.instruction.Ins.TheVariants.{Lb, Lbu, Lh, Lhu, Lwl, Lwr, Sb, Sh}
+use Rattle.mips_instruction.specs.Numbers.{number_modulo_word, plus_signed, sign_extended, signed_16, signed_8, signed_number}
 use Rattle.mips_effect.specs.declared.wish.LoadKind.TheVariants as kind
 use Rattle.mips_effect.specs.Arithmetic.{byte_in_word, half_of}
 use Rattle.mips_effect.specs.Effects.{act, merge_of}
 use Rattle.mips_plain.specs.Memory.{low_bytes, private_size, word_at_address, written_at}
-use Rattle.mips_laws.specs.Accesses.{IsMemory, StoresOnly}
-use Rattle.mips_laws.specs.ReadBack.{WordsAreReadBack, HalvesAreReadBack, BytesAreReadBack, UnalignedWordsAreReadBack}
+use Rattle.mips_laws.specs.Accesses.{IsMemory, LoadsOnly, StoresOnly}
+use Rattle.mips_laws.specs.ReadBack.{ReadsBack, ReadsBackSigned, WordsAreReadBack, HalvesAreReadBack, BytesAreReadBack, UnalignedWordsAreReadBack}
 use Rattle.mips_laws.specs.Unaligned.{LoadsByTwo, WrittenWordsAreAlone}
 use Rattle.mips_laws.proofs.Bytes.{AreBytes, by_four, word_at-is, word_at-of, byte-below, written-before, written-inside, written-behind, written-AreBytes}
 use Rattle.mips_laws.proofs.Steps.{opened, load_step, store_step}
@@ -151,86 +152,73 @@ words_are_read_back bytes rt rs imm s t reg from offset base old memory below pl
           place.same (opened 4 address aligned (omega (arith, inside))) value pc following;
     }
 
+-- a store, and two loads of what it stored: as a number, and as one with its sign
+read_both_ways : (bytes new : List ℕ) (store load load_signed : Ins)
+    (s t base old reg v number : ℕ) (value : ℤ)
+    → StoresOnly bytes store s t new → LoadsOnly new load base old reg v
+    → LoadsOnly new load_signed base old reg number
+    → number < 2 ^ 32 → signed_number number ≡ value
+    → ReadsBack bytes store load s t base old reg v
+    × ReadsBackSigned bytes store load_signed s t base old reg value
+read_both_ways bytes new store load load_signed s t base old reg v number value stores loads
+    loads_signed bits is = (
+      record { new = new; stores = stores; loads = loads },
+      record {
+        number = number;
+        number_bits = bits;
+        reads_back = record { new = new; stores = stores; loads = loads_signed };
+        number_is = is;
+      },
+    )
+
 pub halves_are_read_back : HalvesAreReadBack
 unfolding act merge_of
 halves_are_read_back bytes rt rs imm s t reg from offset base old memory place =
     let address : ℕ = plus_signed s imm in
-    let inside = place.inside in
-    let aligned = place.aligned in
-    let whole = memory.whole in
     let v : ℕ = t % 2 ^ 16 in
-    let v_below : v < 2 ^ 16 = omega arith in
+    let below : v < 2 ^ 16 = omega arith in
     let new : List ℕ = written_at bytes address (low_bytes 2 v) in
-    let opens = opened 2 address aligned (omega (arith, inside)) in
+    let opens = opened 2 address place.aligned (omega (arith, place.inside)) in
     let value : half_of (word_at_address new (address - address % 4)) (address % 4) ≡ v =
-    half_written bytes address v (omega (arith, inside, whole)) memory.are_bytes aligned
-    v_below in
-    let stores : StoresOnly bytes (Sh rt imm rs) s t new =
-    record {
+    half_written bytes address v (omega (arith, place.inside, memory.whole)) memory.are_bytes
+    place.aligned below in
+    read_both_ways bytes new (Sh rt imm rs) (Lhu reg offset from) (Lh reg offset from) s t base old
+    reg v (sign_extended v) (signed_16 v)
+    (record {
       stored = stored.Bytes address 2 v;
-      step = λ pc d following. store_step bytes 2
-          address v opens pc following;
+      step = λ pc d following. store_step bytes 2 address v opens pc following;
       memory = refl;
-    } in (
-      record {
-        new = new;
-        stores = stores;
-        loads = λ pc d following. load_step new kind.HalfU reg
-            (plus_signed base offset) address old v place.same opens value pc following;
-      },
-      record {
-        number = sign_extended v;
-        number_bits = reduced-below (signed_16 v);
-        reads_back = record {
-          new = new;
-          stores = stores;
-          loads = λ pc d following. load_step new
-              kind.Half reg (plus_signed base offset) address old (sign_extended v) place.same opens
-              (ap sign_extended value) pc following;
-        };
-        number_is = signed-extended v v_below;
-      },
-    )
+    })
+    (λ pc d following. load_step new kind.HalfU reg (plus_signed base offset) address old v
+    place.same opens value pc following)
+    (λ pc d following. load_step new kind.Half reg (plus_signed base offset) address old
+    (sign_extended v) place.same opens (ap sign_extended value) pc following)
+    (reduced-below (signed_16 v)) (signed-extended v below)
 
 pub bytes_are_read_back : BytesAreReadBack
 unfolding act merge_of
 bytes_are_read_back bytes rt rs imm s t reg from offset base old memory place =
     let address : ℕ = plus_signed s imm in
-    let inside = place.inside in
-    let aligned = place.aligned in
-    let whole = memory.whole in
     let v : ℕ = t % 2 ^ 8 in
-    let v_below : v < 2 ^ 8 = omega arith in
+    let below : v < 2 ^ 8 = omega arith in
     let new : List ℕ = written_at bytes address (low_bytes 1 v) in
-    let opens = opened 1 address aligned (omega (arith, inside)) in
+    let opens = opened 1 address place.aligned (omega (arith, place.inside)) in
     let value : byte_in_word (word_at_address new (address - address % 4)) (address % 4) ≡ v =
-    byte_written bytes address v (omega (arith, inside, whole)) memory.are_bytes v_below in
-    let stores : StoresOnly bytes (Sb rt imm rs) s t new =
-    record {
+    byte_written bytes address v (omega (arith, place.inside, memory.whole)) memory.are_bytes
+    below in
+    read_both_ways bytes new (Sb rt imm rs) (Lbu reg offset from) (Lb reg offset from) s t base old
+    reg v (number_modulo_word (signed_8 v)) (signed_8 v)
+    (record {
       stored = stored.Bytes address 1 v;
-      step = λ pc d following. store_step bytes 1
-          address v opens pc following;
+      step = λ pc d following. store_step bytes 1 address v opens pc following;
       memory = refl;
-    } in (
-      record {
-        new = new;
-        stores = stores;
-        loads = λ pc d following. load_step new kind.ByteU reg
-            (plus_signed base offset) address old v place.same opens value pc following;
-      },
-      record {
-        number = number_modulo_word (signed_8 v);
-        number_bits = reduced-below (signed_8 v);
-        reads_back = record {
-          new = new;
-          stores = stores;
-          loads = λ pc d following. load_step new
-              kind.Byte reg (plus_signed base offset) address old (number_modulo_word (signed_8 v)) place.same
-              opens (ap (λ b. number_modulo_word (signed_8 b)) value) pc following;
-        };
-        number_is = signed-byte v v_below;
-      },
-    )
+    })
+    (λ pc d following. load_step new kind.ByteU reg (plus_signed base offset) address old v
+    place.same opens value pc following)
+    (λ pc d following. load_step new kind.Byte reg (plus_signed base offset) address old
+    (number_modulo_word (signed_8 v)) place.same opens
+    (ap (λ b. number_modulo_word (signed_8 b)) value) pc following)
+    (reduced-below (signed_8 v)) (signed-byte v below)
 
 -- ---- Unaligned words
 

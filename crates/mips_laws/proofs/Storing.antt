@@ -59,6 +59,15 @@ both-parts bytes address last place last_place n m high low t place_is last_plac
     high_is low_is last_is both =
     rw (place_is, last_place_is, last_is, n_is, m_is, high_is, low_is) both
 
+-- a word in two parts, one behind the other, stored in either order
+in_two : (bytes x y : List ℕ) (a b t : ℕ) → a + length x ≡ b → b + length y ≤ length bytes
+    → x ++ y ≡ low_bytes 4 t
+    → (written_at (written_at bytes a x) b y ≡ written_at bytes a (low_bytes 4 t))
+    × (written_at (written_at bytes b y) a x ≡ written_at bytes a (low_bytes 4 t))
+in_two bytes x y a b t next room parts =
+    let is = ap (written_at bytes a) parts in
+    (written-both bytes x y a b next room ∙ is, written-both_back bytes x y a b next room ∙ is)
+
 -- the four places
 both : (bytes : List ℕ) (address t : ℕ) → address + 4 ≤ length bytes → t < 2 ^ 32
     → Both bytes address t
@@ -70,36 +79,18 @@ both bytes address t room below =
     let again = written-again bytes (low_bytes 4 t) address room in
     both-parts bytes address address 0 3 4 4 t t t place (omega (arith, place)) refl refl
     (omega arith) (omega arith) (omega arith) (again, again))
-    (λ place.
-    let x : List ℕ = low_bytes 3 (t / 2 ^ 8) in
-    let y : List ℕ = low_bytes 1 (t % 2 ^ 8) in
-    let is = ap (written_at bytes address) (bytes-1 t) in
-    both-parts bytes address (address + 3) 1 0 3 1 (t / 2 ^ 8) (t % 2 ^ 8) t place
-    (omega (arith, place)) refl refl refl refl (omega arith) (
-      written-both bytes x y address (address + 3) refl (omega arith) ∙ is,
-      written-both_back bytes x
-          y address (address + 3) refl (omega arith) ∙ is,
-    ))
-    (λ place.
-    let x : List ℕ = low_bytes 2 (t / 2 ^ 16) in
-    let y : List ℕ = low_bytes 2 (t % 2 ^ 16) in
-    let is = ap (written_at bytes address) (bytes-2 t) in
-    both-parts bytes address (address + 2) 2 1 2 2 (t / 2 ^ 16) (t % 2 ^ 16) t place
-    (omega (arith, place)) refl refl refl refl (omega arith) (
-      written-both bytes x y address (address + 2) refl (omega arith) ∙ is,
-      written-both_back bytes x
-          y address (address + 2) refl (omega arith) ∙ is,
-    ))
-    (λ place.
-    let x : List ℕ = low_bytes 1 (t / 2 ^ 24) in
-    let y : List ℕ = low_bytes 3 (t % 2 ^ 24) in
-    let is = ap (written_at bytes address) (bytes-3 t) in
-    both-parts bytes address (address + 1) 3 2 1 3 (t / 2 ^ 24) (t % 2 ^ 24) t place
-    (omega (arith, place)) refl refl refl refl (omega arith) (
-      written-both bytes x y address (address + 1) refl (omega arith) ∙ is,
-      written-both_back bytes x
-          y address (address + 1) refl (omega arith) ∙ is,
-    ))
+    (λ place. both-parts bytes address (address + 3) 1 0 3 1 (t / 2 ^ 8) (t % 2 ^ 8) t place
+    (omega (arith, place)) refl refl refl refl (omega arith)
+    (in_two bytes (low_bytes 3 (t / 2 ^ 8)) (low_bytes 1 (t % 2 ^ 8)) address (address + 3) t refl
+    (omega arith) (bytes-1 t)))
+    (λ place. both-parts bytes address (address + 2) 2 1 2 2 (t / 2 ^ 16) (t % 2 ^ 16) t place
+    (omega (arith, place)) refl refl refl refl (omega arith)
+    (in_two bytes (low_bytes 2 (t / 2 ^ 16)) (low_bytes 2 (t % 2 ^ 16)) address (address + 2) t refl
+    (omega arith) (bytes-2 t)))
+    (λ place. both-parts bytes address (address + 1) 3 2 1 3 (t / 2 ^ 24) (t % 2 ^ 24) t place
+    (omega (arith, place)) refl refl refl refl (omega arith)
+    (in_two bytes (low_bytes 1 (t / 2 ^ 24)) (low_bytes 3 (t % 2 ^ 24)) address (address + 1) t refl
+    (omega arith) (bytes-3 t)))
 
 -- ---- The instructions
 
