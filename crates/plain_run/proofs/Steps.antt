@@ -63,18 +63,7 @@ HasReceived false got value = got ≡ received.Nothing
 made_received : (pc npc : ℕ) (written : Writes) (w : Wish) (word got : ℕ)
     → HasReceived (receives_value w) (step_of_wish pc npc written w word got).received got
 made_received pc npc written wish.Nothing word got = refl
-made_received pc npc written (wish.Load reg address kind old) word got = refl
-made_received pc npc written (wish.Store address count value) word got = refl
-made_received pc npc written (wish.Release reg value) word got = refl
-made_received pc npc written (wish.Receive reg from) word got = refl
-made_received pc npc written (wish.NullLoad reg address) word got = refl
-made_received pc npc written (wish.NullStore address value) word got = refl
-made_received pc npc written (wish.Hand address) word got = refl
-made_received pc npc written wish.SigRet word got = refl
-made_received pc npc written wish.Exit word got = refl
-made_received pc npc written (wish.Call code) word got = refl
-made_received pc npc written (wish.Do operation) word got = refl
-made_received pc npc written (wish.Ask reg what) word got = refl
+made_received pc npc written _ word got = refl
 
 -- the step that an effect does, where a value was received
 abbrev done : State → Effect → ℕ → Step
