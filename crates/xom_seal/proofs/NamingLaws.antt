@@ -3,7 +3,7 @@ use Rattle.std.proofs.Common.{◌≡◌, ◌≢◌, ℕ, ◌^◌, ◌<◌, ◌==
 use Rattle.std.specs.Int.{w32, w64, to_be_bytes}
 use Rattle.std.specs.Str.{bytes_eq}
 use Rattle.std.proofs.lemmas.Bool.{cases_Bool}
-use Rattle.std.proofs.lemmas.Bool.Decides.{Decides-eqb, Decides-like, same_from_decides}
+use Rattle.std.proofs.lemmas.Bool.Decides.{Decides-eqb}
 use Rattle.std.proofs.lemmas.Nat.{from_be_bytes-to_be_bytes_4, from_be_bytes-to_be_bytes_8}
 use Rattle.std.proofs.lemmas.Slice.Eq.{bytes_eq-Decides}
 use Rattle.xom_base.specs.declared.key.ImageId.{ImageId}
@@ -13,26 +13,7 @@ use Rattle.xom_seal.specs.Laws.{RunLinesAreTold}
 use Rattle.xom_seal.specs.NameLaws.{RegistersAreTold, RunFieldsAreTold}
 use Rattle.xom_seal.specs.Readers.{epoch_in, install_in, kind_of_text, line_of_message, names_register, register_kind, register_of_message, run_line_kind}
 use Rattle.xom_seal.specs.Messages.{IsRegName, envelope_message, line_message, names_run_line, register_message, version_of_message}
-use Rattle.xom_seal.proofs.Fields.{same_numbers_4, same_numbers_8}
-
--- a test of two fields is a test of their numbers
-same_test_8 : (n m : ℕ) → n < 2 ^ 64 → m < 2 ^ 64
-    → bytes_eq (to_be_bytes w64 n) (to_be_bytes w64 m) ≡ (n == m)
-same_test_8 n m below other =
-    same_from_decides {P = n ≡ m} (bytes_eq (to_be_bytes w64 n) (to_be_bytes w64 m)) (n == m)
-    (Decides-like (bytes_eq (to_be_bytes w64 n) (to_be_bytes w64 m))
-    (same_numbers_8 n m below other) (ap (λ k. to_be_bytes w64 k))
-    (bytes_eq-Decides (to_be_bytes w64 n) (to_be_bytes w64 m)))
-    (Decides-eqb n m)
-
-same_test_4 : (n m : ℕ) → n < 2 ^ 32 → m < 2 ^ 32
-    → bytes_eq (to_be_bytes w32 n) (to_be_bytes w32 m) ≡ (n == m)
-same_test_4 n m below other =
-    same_from_decides {P = n ≡ m} (bytes_eq (to_be_bytes w32 n) (to_be_bytes w32 m)) (n == m)
-    (Decides-like (bytes_eq (to_be_bytes w32 n) (to_be_bytes w32 m))
-    (same_numbers_4 n m below other) (ap (λ k. to_be_bytes w32 k))
-    (bytes_eq-Decides (to_be_bytes w32 n) (to_be_bytes w32 m)))
-    (Decides-eqb n m)
+use Rattle.xom_seal.proofs.Fields.{same_test_4, same_test_8}
 
 run_told : (n at boot install line version : ℕ) (ct : List ℕ) → n < 2 ^ 64 → at < 2 ^ 32
     → install < 2 ^ 64 → line < 2 ^ 32
