@@ -1,13 +1,15 @@
 -- What each of the elements gives, element by element.
-use Rattle.std.proofs.Common.{◌≡◌, ℕ, suc, ◌+◌, ◌<◌, List, [], ◌∷◌, ◌++◌, length, map, get_or, take, drop, Option, Some, None, refl, sym, ap, ◌∙◌}
+use Rattle.std.proofs.Common.{◌≡◌, ℕ, suc, ◌+◌, ◌<◌, List, [], ◌∷◌, ◌++◌, length, get_or, take, drop, Option, Some, None, refl, sym, ap, ◌∙◌, append_assoc, append-nil}
 use Rattle.std.specs.Prelude.{option_and_then}
 use Rattle.std.proofs.lemmas.List.{take_more, take-append-drop}
 use Rattle.std.proofs.Math.Seq.{drop-cons}
 use Rattle.std.proofs.lemmas.Option.{option_and_then_some as steps, same_Some}
-use Rattle.asm_syntax.specs.Forms.{map_some}
+use Rattle.text_lines.specs.declared.lines.LineFault.{LineFault}
+use Rattle.text_lines.specs.declared.lines.LineFault.TheVariants.{Bad, NoMemory}
+use Rattle.asm_syntax.specs.Forms.{FormRefuses, in_front, map_some}
 
 -- nothing comes of what always gives nothing
-none_then : {X Y : Type 0} (f : X → Option Y) → ((x : X) → f x ≡ None) → (o : Option X)
+pub none_then : {X Y : Type 0} (f : X → Option Y) → ((x : X) → f x ≡ None) → (o : Option X)
     → option_and_then f o ≡ None
 none_then f never None = refl
 none_then f never (Some x) = never x
@@ -49,12 +51,26 @@ module _ {X Y : Type 0} (f : X → Option Y) where
       (drop-cons xs i d within))
       ∙ map_some-none (take i xs) (get_or xs i d) (drop (suc i) xs) none
 
--- what each of the elements gives that others are made to
-pub map_some_map : {X Y Z : Type 0} (f : Y → Option Z) (g : X → Y) (xs : List X)
-    → map_some f (map g xs) ≡ map_some (λ (x : X). f (g x)) xs
-map_some_map f g [] = refl
-map_some_map {X} {Y} {Z} f g (x ∷ xs) =
-    ap
-    (λ (o : Option (List Z)). option_and_then
-    (λ (y : Z). option_and_then (λ (ys : List Z). Some (y ∷ ys)) o) (f (g x)))
-    (map_some_map f g xs)
+-- ---- what is read one by one, in front of what follows
+
+module _ {A : Type 0} where
+  -- one more is read
+  pub in_front_one : (before : List A) (x : A) (rest : Option (List A))
+      → in_front before (in_front (x ∷ []) rest) ≡ in_front (before ++ x ∷ []) rest
+  in_front_one before x None = refl
+  in_front_one before x (Some more) = ap (λ (all : List A). Some all) (sym (append_assoc before (x ∷ []) more))
+
+  -- nothing is read yet
+  pub in_front_none : (rest : Option (List A)) → in_front [] rest ≡ rest
+  in_front_none None = refl
+  in_front_none (Some more) = refl
+
+  -- nothing follows
+  pub in_front_nil : (before : List A) → in_front before (Some []) ≡ Some before
+  in_front_nil before = ap (λ (all : List A). Some all) (append-nil before)
+
+  -- what follows is refused, so the whole is
+  pub in_front_refused : (before : List A) (rest : Option (List A)) (fault : LineFault)
+      → FormRefuses rest fault → FormRefuses (in_front before rest) fault
+  in_front_refused before rest Bad refused = ap (in_front before) refused
+  in_front_refused before rest NoMemory refused = tt

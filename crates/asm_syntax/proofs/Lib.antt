@@ -1,2 +1,4 @@
+pub mod CommaLaws
 pub mod FormLaws
+pub mod LexemeLaws
 pub mod LineLaws

@@ -1,5 +1,5 @@
 -- What a line adds, label by label.
-use Rattle.std.proofs.Common.{◌≡◌, ℕ, List, [], ◌∷◌, ◌++◌, Option, Some, None, Result, Ok, Err, refl, sym, ap, ◌∙◌, append_assoc, option_map}
+use Rattle.std.proofs.Common.{◌≡◌, ℕ, List, [], ◌∷◌, ◌++◌, Option, Some, None, Result, Ok, Err, refl, sym, ap, ◌∙◌, option_map}
 use Rattle.std.proofs.lemmas.Option.{none-some, same_Some}
 use Rattle.text_lines.specs.declared.lines.LineFault.{LineFault}
 use Rattle.text_lines.specs.declared.lines.LineFault.TheVariants.{Bad, NoMemory}
@@ -10,14 +10,7 @@ use Rattle.asm_syntax.specs.declared.lexeme.Lexeme.{Lexeme}
 use Rattle.asm_syntax.specs.declared.lexeme.Lexeme.TheVariants as lexeme
 use Rattle.asm_syntax.specs.Forms.{Adds}
 use Rattle.asm_syntax.specs.Lines.{part_of_line, parts_of_line}
-
--- one part in front, behind those before it
-in_front : (before : List Part) (p : Part) (o : Option (List Part))
-    → option_map (λ (more : List Part). before ++ more) (option_map (λ (more : List Part). p ∷ more)
-    o) ≡ option_map (λ (more : List Part). (before ++ p ∷ []) ++ more) o
-in_front before p None = refl
-in_front before p (Some more) =
-    ap (λ (parts : List Part). Some parts) (sym (append_assoc before (p ∷ []) more))
+use Rattle.asm_syntax.proofs.FormLaws.{in_front_one}
 
 -- a label in front is added first
 pub parts_of_label : (n : ℕ) (before : List Part) (label : List ℕ) (rest : List Lexeme)
@@ -27,7 +20,7 @@ pub parts_of_label : (n : ℕ) (before : List Part) (label : List ℕ) (rest : L
     (parts_of_line n rest)
 unfolding parts_of_line
 parts_of_label n before label rest =
-    in_front before (part_of_line n (content.Label label)) (parts_of_line n rest)
+    in_front_one before (part_of_line n (content.Label label)) (parts_of_line n rest)
 
 -- what has no value in front of others has none
 nothing_mapped : {A B : Type 0} (f : A → B) (o : Option A) → option_map f o ≡ None → o ≡ None

@@ -1,5 +1,5 @@
 -- How a form of one line is written and answered.
-use Rattle.std.specs.Prelude.{◌≡◌, List, [], ◌∷◌, ◌++◌, Option, Some, None, Result, Ok, Err}
+use Rattle.std.specs.Prelude.{◌≡◌, List, [], ◌∷◌, ◌++◌, Option, Some, None, Result, Ok, Err, option_map}
 use Rattle.xom_base.specs.Options.{◌>>=◌}
 use Rattle.text_lines.specs.declared.lines.LineFault.{LineFault}
 use Rattle.text_lines.specs.declared.lines.LineFault.TheVariants.{Bad, NoMemory}
@@ -21,6 +21,16 @@ FormRefuses form NoMemory = Unit {0}
 abbrev pub FormAnswers : {A : Type 0} → Option A → Result A LineFault → Type 0
 FormAnswers form (Ok value) = form ≡ Some value
 FormAnswers form (Err fault) = FormRefuses form fault
+
+-- What the form has stands in a list, in place of what stood there. Where it was refused, nothing is
+-- said of the list.
+abbrev pub Fills : {A B : Type 0} → Option (List A) → Result B LineFault → List A → Type 0
+Fills form (Ok done) new = form ≡ Some new
+Fills form (Err fault) new = FormRefuses form fault
+
+-- these in front of those that follow, if there is an end to them
+abbrev pub in_front : {A : Type 0} → List A → Option (List A) → Option (List A)
+in_front front more = option_map (λ more. front ++ more) more
 
 -- What the form has was added at the end of a list. Where it was refused, nothing is said of the
 -- list.

@@ -1,9 +1,9 @@
 -- The lexemes of a line: its tokens with what they stand for.
-use Rattle.std.specs.Prelude.{ℕ, List, slice_range, Option, Some, None, Result, Ok, Err, option_map}
+use Rattle.std.specs.Prelude.{ℕ, List, slice_range, Option, Some, None, Result, Ok, Err, drop, option_map}
 use Rattle.asm_tokens.specs.Integers.{integer_of}
 use Rattle.asm_tokens.specs.Lexemes.{quoted_of}
 use Rattle.asm_tokens.specs.Registers.{register_of}
-use Rattle.asm_tokens.specs.Tokens.{tokens_of}
+use Rattle.asm_tokens.specs.Tokens.{tokens_from, tokens_of}
 use Rattle.asm_tokens.specs.declared.token.Token.{Token}
 use Rattle.asm_tokens.specs.declared.token.TokenKind.{TokenKind}
 use Rattle.asm_tokens.specs.declared.token.TokenKind.TheVariants as kinds
@@ -30,6 +30,10 @@ lexeme_at line token = lexeme_of token.kind (slice_range line token.start token.
 abbrev pub lexemes_in : List ℕ → Result (List Token) ℕ → Option (List Lexeme)
 lexemes_in line (Ok tokens) = map_some (lexeme_at line) tokens
 lexemes_in line (Err bad) = None
+
+-- the lexemes of what stands from a place of a line on, or none
+unfoldable pub lexemes_from : List ℕ → ℕ → Option (List Lexeme)
+lexemes_from line at = lexemes_in line (tokens_from at 0 (drop at line))
 
 -- the lexemes of a line, or none where a byte of it begins no token
 unfoldable pub lexemes_of : List ℕ → Option (List Lexeme)

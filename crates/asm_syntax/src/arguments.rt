@@ -1,4 +1,4 @@
-ghost use Rattle.std.specs.Prelude.{◌≡◌, IfOk, map};
+ghost use Rattle.std.specs.Prelude.{◌≡◌, ◌<◌, [], ◌∷◌, IfSome, MatchOption, length, position};
 ghost use Rattle.std.specs.List.{slice_split};
 ghost use Rattle.asm_syntax.specs.Arguments.{argument_of, arguments_of, based_of, is_comma, offset_of, single_of, value_of_lexeme};
 ghost use Rattle.asm_syntax.specs.Forms.{FormAnswers, map_some};
@@ -9,7 +9,7 @@ use asm_source::{Argument, SourceName, Value};
 use asm_tokens::Integer;
 use std::alloc::Global;
 use text_lines::LineFault;
-use xom_base::{List, NoMemory};
+use xom_base::List;
 
 /// The number of an operand that is not there.
 pub const ZERO: Integer = Integer {
@@ -18,39 +18,50 @@ pub const ZERO: Integer = Integer {
 };
 
 /// All operands of a statement: the parts between commas.
-#[tactic(auto, using(crate::proofs::FormLaws::map_some_map), unfolding(crate::specs::Arguments::arguments_of))]
+#[tactic(auto, unfolding(crate::specs::Arguments::arguments_of))]
 pub fn arguments(alloc: Global, lexemes: &[Lexeme]) -> Result<List<Argument>, LineFault>
     ensures { FormAnswers (arguments_of lexemes.now) result }
 {
     if lexemes.is_empty() {
         return Ok(List::new(alloc));
     }
-    let parts = between_commas(alloc, lexemes)?;
-    each_argument(alloc, parts.as_slice())
+    between_commas(alloc, lexemes)
 }
 
-/// The parts between commas.
-fn between_commas(alloc: Global, lexemes: &[Lexeme]) -> Result<Vec<&[Lexeme]>, NoMemory>
-    ensures { IfOk result (λ parts. map (λ part. part.now) parts.items ≡ slice_split is_comma lexemes.now) }
+/// The operand of each part between commas.
+fn between_commas(alloc: Global, lexemes: &[Lexeme]) -> Result<List<Argument>, LineFault>
+    ensures { FormAnswers (map_some argument_of (slice_split is_comma lexemes.now)) result }
 {
-    Ok(
-        lexemes
-            .split(|lexeme| matches!(lexeme, Lexeme::Comma))
-            .collect(alloc)?,
-    )
-}
-
-/// The operand of each part.
-#[tactic(auto, using(crate::proofs::FormLaws::map_some_more, crate::proofs::FormLaws::map_some_stops))]
-fn each_argument(alloc: Global, parts: &[&[Lexeme]]) -> Result<List<Argument>, LineFault>
-    ensures { FormAnswers (map_some (λ part. argument_of part.now) parts.now) result }
-{
-    let mut arguments = room(alloc, parts.len())?;
-    for part in parts {
+    let mut arguments = room(alloc, 3)?;
+    let mut rest = lexemes;
+    while let Some((part, more)) = first_part(rest) {
         let argument = argument(alloc, part)?;
         arguments.push(argument)?;
+        rest = more;
     }
+    let last = argument(alloc, rest)?;
+    arguments.push(last)?;
     Ok(arguments)
+}
+
+/// What stands before the first comma, and what stands behind it.
+#[tactic(auto, using(crate::proofs::CommaLaws::split_at_none))]
+fn first_part(lexemes: &[Lexeme]) -> Option<(&[Lexeme], &[Lexeme])>
+    ensures parts { let parts = slice_split is_comma in
+        MatchOption result (parts lexemes.now ≡ lexemes.now ∷ []) (λ found. parts lexemes.now ≡ found.0.now ∷ parts found.1.now) }
+    ensures shorter { IfSome result (λ found. length found.1.now < length lexemes.now) }
+{
+    let comma = first_comma(lexemes)?;
+    Some((&lexemes[..comma], &lexemes[comma + 1..]))
+}
+
+/// The place of the first comma.
+fn first_comma(lexemes: &[Lexeme]) -> Option<usize>
+    ensures { result ≡ position is_comma lexemes.now }
+{
+    lexemes
+        .iter()
+        .position(|lexeme| matches!(lexeme, Lexeme::Comma))
 }
 
 /// One operand.

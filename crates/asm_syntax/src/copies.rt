@@ -1,4 +1,4 @@
-ghost use Rattle.std.specs.Prelude.{◌≡◌, [], IfOk};
+ghost use Rattle.std.specs.Prelude.{◌≡◌, [], ◌∷◌, ◌++◌, IfOk, OnOk};
 
 use asm_source::{SourceName, Value};
 use std::alloc::Global;
@@ -9,6 +9,13 @@ pub fn room<T>(alloc: Global, count: usize) -> Result<List<T>, NoMemory>
     ensures { IfOk result (λ list. list ≡ []) }
 {
     Ok(List::from_vec(Vec::with_capacity(alloc, count)?))
+}
+
+/// Adds an item at the end of a list.
+pub fn add<T: Drop>(list: &mut Vec<T>, item: T) -> Result<(), NoMemory>
+    ensures { OnOk result (list.new.items ≡ list.old.items ++ item ∷ []) }
+{
+    Ok(list.push(item)?)
 }
 
 /// A list of these bytes.

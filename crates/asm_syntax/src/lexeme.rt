@@ -1,14 +1,13 @@
-ghost use Rattle.std.specs.Prelude.{All};
-ghost use Rattle.asm_tokens.specs.Tokens.{IsTokenOf};
-ghost use Rattle.asm_syntax.specs.Forms.{FormAnswers, map_some};
-ghost use Rattle.asm_syntax.specs.Lexing.{lexeme_at, lexeme_of, lexemes_of};
+ghost use Rattle.std.specs.Prelude.{◌≡◌, ◌<◌, ◌≤◌, [], ◌∷◌, Some, IfOk, IfSome, MatchOption, MatchResult, length};
+ghost use Rattle.asm_syntax.specs.Forms.{Fills, FormAnswers, FormRefuses, in_front};
+ghost use Rattle.asm_syntax.specs.Lexing.{lexeme_of, lexemes_from, lexemes_of};
 
-use crate::copies::room;
+use crate::copies::add;
 use asm_source::SourceName;
-use asm_tokens::{Integer, Token, TokenFault, TokenKind, integer, register, tokens, unquoted};
+use asm_tokens::{Integer, TokenKind, integer, next_token, register, unquoted};
 use std::alloc::Global;
 use text_lines::LineFault;
-use xom_base::{ByteList, List};
+use xom_base::ByteList;
 
 /// A token of a line with what it stands for.
 #[derive(Drop)]
@@ -31,32 +30,35 @@ pub enum Lexeme {
     Right,
 }
 
-/// The lexemes of a line. Bad is for a byte that begins no token. It costs time linear in the line.
-#[tactic(auto, unfolding(crate::specs::Lexing::lexemes_of))]
-pub fn lexemes(alloc: Global, line: &[u8]) -> Result<List<Lexeme>, LineFault>
-    ensures { FormAnswers (lexemes_of line.now) result }
+/// Reads the lexemes of a line into a list, in place of those that it has. Bad is for a byte that begins
+/// no token. It costs time linear in the line.
+pub fn read_lexemes(alloc: Global, line: &[u8], lexemes: &mut Vec<Lexeme>) -> Result<(), LineFault>
+    ensures { Fills (lexemes_of line.now) result lexemes.new.items }
 {
-    let tokens = match tokens(alloc, line) {
-        Ok(tokens) => tokens,
-        Err(TokenFault::Token(_)) => return Err(LineFault::Bad),
-        Err(TokenFault::NoMemory) => return Err(LineFault::NoMemory),
-    };
-    lexemes_in(alloc, line, tokens.as_slice())
+    lexemes.clear();
+    let mut at = 0;
+    while let Some((lexeme, end)) = next_lexeme(alloc, line, at)? {
+        add(lexemes, lexeme)?;
+        at = end;
+    }
+    Ok(())
 }
 
-/// The lexemes of tokens of this line.
-#[tactic(auto, using(crate::proofs::FormLaws::map_some_more, crate::proofs::FormLaws::map_some_stops))]
-fn lexemes_in(alloc: Global, line: &[u8], tokens: &[Token]) -> Result<List<Lexeme>, LineFault>
-    requires { All (IsTokenOf line.now) tokens.now }
-    ensures { FormAnswers (map_some (lexeme_at line.now) tokens.now) result }
+/// The first lexeme from a place on with the place behind it, or none where the line is over. Bad is for
+/// a byte that begins no token.
+#[tactic(auto, using(crate::proofs::LexemeLaws::lexemes_from_over, crate::proofs::LexemeLaws::lexemes_from_bad, crate::proofs::LexemeLaws::lexemes_from_none, crate::proofs::LexemeLaws::lexemes_from_one))]
+fn next_lexeme(alloc: Global, line: &[u8], at: usize) -> Result<Option<(Lexeme, usize)>, LineFault>
+    requires { at ≤ length line.now }
+    ensures value { let all = lexemes_from line.now at in
+        MatchResult result (λ next. MatchOption next (all ≡ Some []) (λ found. all ≡ in_front (found.0 ∷ []) (lexemes_from line.now found.1))) (λ fault. FormRefuses all fault) }
+    ensures onward { IfOk result (λ next. IfSome next (λ found. (at < found.1) × (found.1 ≤ length line.now))) }
 {
-    let mut lexemes = room(alloc, tokens.len())?;
-    for token in tokens {
-        let text = &line[token.start as usize..token.end as usize];
-        let lexeme = make_lexeme(alloc, token.kind, text)?;
-        lexemes.push(lexeme)?;
-    }
-    Ok(lexemes)
+    let Some(token) = next_token(line, at).map_err(|_| LineFault::Bad)? else {
+        return Ok(None);
+    };
+    let text = &line[token.start as usize..token.end as usize];
+    let lexeme = make_lexeme(alloc, token.kind, text)?;
+    Ok(Some((lexeme, token.end as usize)))
 }
 
 /// The lexeme of a token of this kind with this text.

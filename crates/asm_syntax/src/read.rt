@@ -5,7 +5,7 @@ ghost use Rattle.asm_syntax.specs.Forms.{Adds};
 ghost use Rattle.asm_syntax.specs.Lines.{parts_of_line, source_of, statement_parts};
 
 use crate::arguments::arguments;
-use crate::lexeme::{Lexeme, lexemes};
+use crate::lexeme::{Lexeme, read_lexemes};
 use crate::statement::statement;
 use asm_source::{Content, Part, SourceName};
 use std::alloc::Global;
@@ -21,15 +21,18 @@ pub fn read_source(alloc: Global, text: &[u8]) -> Result<List<Part>, TextFault>
 {
     let mut source = Source {
         parts: List::new(alloc),
+        lexemes: Vec::new(alloc),
     };
     let _lines = read_lines(alloc, text, &mut source)?;
     Ok(source.into_parts())
 }
 
-/// The labels and statements of the lines that were read.
+/// The labels and statements of the lines that were read. The lexemes are room that is used again for
+/// each line.
 #[derive(Drop)]
 struct Source {
     parts: List<Part>,
+    lexemes: Vec<Lexeme>,
 }
 
 impl Model for Source {
@@ -58,8 +61,8 @@ impl LineFormat for Source {
 
     #[tactic(auto, unfolding(crate::specs::Lines::line_parts))]
     fn read(&mut self, alloc: Global, number: u64, line: &[u8]) -> Result<Option<()>, LineFault> {
-        let lexemes = lexemes(alloc, line)?;
-        add_line(alloc, number, lexemes.as_slice(), &mut self.parts)?;
+        read_lexemes(alloc, line, &mut self.lexemes)?;
+        add_line(alloc, number, self.lexemes.as_slice(), &mut self.parts)?;
         Ok(None)
     }
 }

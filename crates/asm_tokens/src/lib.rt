@@ -1,7 +1,7 @@
 //! A line of source, cut into tokens: names, numbers, registers, quoted texts and signs.
 //!
-//! `tokens` cuts a line, or answers the first byte that begins no token. `register`, `integer` and
-//! `unquoted` say what a token's text stands for.
+//! `tokens` cuts a line, or answers the first byte that begins no token; `next_token` cuts off one token.
+//! `register`, `integer` and `unquoted` say what a token's text stands for.
 #![tactic(auto)]
 
 mod integers;
@@ -16,4 +16,4 @@ pub use lexemes::integer;
 pub use quoted::unquoted;
 pub use registers::register;
 pub use token::{Token, TokenFault, TokenKind, TokenList};
-pub use tokenizer::tokens;
+pub use tokenizer::{next_token, tokens};

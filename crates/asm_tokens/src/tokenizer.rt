@@ -47,12 +47,12 @@ fn room(alloc: Global) -> Result<TokenList, NoMemory>
 }
 
 /// The first token from a place on, or none where the line is over. The error is the place of the
-/// first byte that begins no token.
-fn next_token(line: &[u8], at: usize) -> Result<Option<Token>, u64>
+/// first byte that begins no token. It costs time linear in the bytes up to the token's end.
+pub fn next_token(line: &[u8], at: usize) -> Result<Option<Token>, u64>
     requires { at ≤ length line.now }
     ensures value { let all = tokens_from at 0 (drop at line.now) in
         MatchResult result (λ next. MatchOption next (all ≡ Ok []) (λ token. all ≡ with_tokens (token ∷ []) (tokens_from token.end 0 (drop token.end line.now)))) (λ bad. all ≡ Err bad) }
-    ensures onward { IfOk result (λ next. IfSome next (λ token. (at < token.end) × (token.end ≤ length line.now))) }
+    ensures onward { IfOk result (λ next. IfSome next (λ token. (at ≤ token.start) × (token.start < token.end) × (token.end ≤ length line.now))) }
 {
     let start = at + blanks(&line[at..]);
     let bytes = &line[start..];
@@ -112,11 +112,16 @@ fn size_of(kind: TokenKind, bytes: &[u8]) -> Option<usize>
     ensures value { result ≡ size_of_token kind bytes.now }
     ensures within { IfSome result (λ size. (0 < size) × (size ≤ length bytes.now)) }
 {
-    let run = run_of(bytes);
     match kind {
-        TokenKind::Name => Some(run),
-        TokenKind::Number => integer(&bytes[..run]).map(|_| run),
-        TokenKind::Register => register(&bytes[..run]).map(|_| run),
+        TokenKind::Name => Some(run_of(bytes)),
+        TokenKind::Number => {
+            let run = run_of(bytes);
+            integer(&bytes[..run]).map(|_| run)
+        }
+        TokenKind::Register => {
+            let run = run_of(bytes);
+            register(&bytes[..run]).map(|_| run)
+        }
         TokenKind::Text => behind_quote(&bytes[1..]).map(|behind| bytes.len() - behind.len()),
         TokenKind::Comma | TokenKind::Colon | TokenKind::Left | TokenKind::Right => Some(1),
     }
