@@ -19,7 +19,7 @@ use text_lines::TextFault;
 use xom_base::PlainImage;
 
 /// Assembles a source: the image that it stands for, or the fault of the first kind that occurs in it.
-/// It costs time linear in the text and the image, beside the ordered map of the labels.
+/// It costs time linear in the text and the image, beside the table of the labels.
 pub fn assemble(alloc: Global, text: &[u8]) -> Result<PlainImage, AsmFault>
     // What is answered is the image of the source.
     ensures found { IfOk result (IsImageOf text.now) }

@@ -7,7 +7,7 @@ use asm_source::{Content, Part};
 use std::alloc::Global;
 
 /// Looks for the first label that was named before. It costs time linear in the source, beside the
-/// ordered map of its names.
+/// table of its names.
 pub fn no_duplicate(alloc: Global, parts: &[Part]) -> Result<(), AsmFault>
     ensures { AnswersPass AsmFault.Duplicate (duplicate_line parts.now) result }
 {

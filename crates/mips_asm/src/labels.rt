@@ -2,14 +2,14 @@ ghost use Rattle.std.specs.Prelude.{◌≡◌, ℕ, List, Some, None, IfOk, OnOk
 ghost use Rattle.std.specs.Str.{bytes_eq};
 
 use std::alloc::Global;
-use std::collections::BTreeMap;
+use std::collections::HashMap;
 use xom_base::NoMemory;
 
-/// The places that names stand for. A look-up or an insertion costs
-/// time logarithmic in their number.
+/// The places that names stand for. A look-up or an insertion costs constant time on average, beside
+/// that of the name.
 #[derive(Drop)]
 pub struct Labels<'a> {
-    places: BTreeMap<&'a [u8], u64>,
+    places: HashMap<&'a [u8], u64>,
 }
 
 impl<'a> Labels<'a> {
@@ -20,7 +20,7 @@ impl<'a> Labels<'a> {
         ensures { (name : List ℕ) → place_in result name ≡ None }
     {
         Labels {
-            places: BTreeMap::new(alloc),
+            places: HashMap::new(alloc),
         }
     }
 

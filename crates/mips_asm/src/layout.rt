@@ -19,7 +19,7 @@ pub fn layout(alloc: Global, parts: List<Part>) -> Result<Vec<Placed>, AsmFault>
     ensures sized { IfOk result (λ placed. All IsSized placed.items) }
     ensures fault { AnswersPass AsmFault.TooLong (too_long_line (layout_of 0 parts)) result }
 {
-    let mut placed = Vec::new(alloc);
+    let mut placed = Vec::with_capacity(alloc, parts.len())?;
     let mut place = 0;
     for part in parts.into_vec() {
         let size = size(place, &part.content);

@@ -13,10 +13,10 @@ use Rattle.mips_asm.proofs.layout.layout.Goals as goal
 
 pub loop-part-init : goal.loop-part-init
 loop-part-init c = record {
-  placed = c.new-placed.ensures.items ∙ sym (layout-none 0);
+  placed = c.in_ok-placed.ensures.items ∙ sym (layout-none 0);
   place = refl;
-  inside = subst (All IsInsideImage) (sym c.new-placed.ensures.items) (All-nil IsInsideImage);
-  sized = subst (All IsSized) (sym c.new-placed.ensures.items) (All-nil IsSized);
+  inside = subst (All IsInsideImage) (sym c.in_ok-placed.ensures.items) (All-nil IsInsideImage);
+  sized = subst (All IsSized) (sym c.in_ok-placed.ensures.items) (All-nil IsSized);
 }
 
 pub returns-then-is_past-clause-fault : goal.returns-then-is_past-clause-fault

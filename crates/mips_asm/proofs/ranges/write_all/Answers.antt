@@ -1,6 +1,5 @@
 -- The first statement that writes no bytes, or what all of them write.
 use Rattle.std.proofs.Common.{◌≡◌, Some, inl, inr, refl, sym, subst, ◌∙◌, arith}
-use Rattle.std.specs.List.{All}
 use Rattle.std.proofs.lemmas.List.Elements.{All-get_or, All-more}
 use Rattle.mips_asm.specs.declared.placed.Placed.{Placed}
 use Rattle.mips_asm.specs.LabelMaps.{place_in}
