@@ -8,7 +8,7 @@ use Rattle.asm_source.specs.declared.content.Content.{Content}
 use Rattle.asm_source.specs.declared.content.Content.TheVariants.{Label, Words, Bytes, Ascii, Space, Align, Org, Entry, LoadNumber, LoadAddress, Instruction}
 use Rattle.asm_source.specs.declared.content.Part.{Part}
 use Rattle.asm_syntax.specs.Lines.{source_of}
-use Rattle.mips_asm.specs.declared.placed.Placed.{Placed}
+use Rattle.mips_asm.specs.Places.{Placed}
 use Rattle.mips_asm.specs.Images.{PlacedBytes}
 use Rattle.mips_asm.specs.Layout.{is_too_long, layout, place_after, statement_size}
 use Rattle.mips_asm.specs.Passes.{Labels, duplicate_line, first_fault, is_label, is_unknown, label_said, meets, overlap_line, overlaps, place_of, repeats, statement_line, too_long_line, unknown_line}

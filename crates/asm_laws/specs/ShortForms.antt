@@ -17,7 +17,7 @@ use Rattle.asm_source.specs.declared.argument.Value.TheVariants.{Number, Label}
 use Rattle.asm_source.specs.declared.content.Content.{Content}
 use Rattle.asm_source.specs.declared.content.Part.{Part}
 use Rattle.asm_syntax.specs.Lines.{source_of, statement_of}
-use Rattle.mips_asm.specs.declared.placed.Placed.{Placed}
+use Rattle.mips_asm.specs.Places.{Placed}
 use Rattle.mips_asm.specs.Encoding.{StatementGives, value_number}
 use Rattle.mips_asm.specs.Layout.{layout, limit}
 use Rattle.mips_asm.specs.Passes.{Labels}

@@ -13,7 +13,7 @@ use Rattle.mips_text.specs.Texts.{image_word_at, word_text}
 use Rattle.asm_source.specs.declared.content.Content.{Content}
 use Rattle.asm_source.specs.declared.content.Part.{Part}
 use Rattle.asm_syntax.specs.Lines.{line_parts, part_of_line, source_of, source_step, state_behind}
-use Rattle.mips_asm.specs.declared.placed.Placed.{Placed}
+use Rattle.mips_asm.specs.Places.{Placed}
 use Rattle.mips_asm.specs.Layout.{layout, padding, place_after}
 use Rattle.mips_asm.specs.Passes.{duplicate_line, first_fault, repeats, statement_line}
 use Rattle.mips_asm.specs.Sources.{IsPlacedImage, entry_by, labels_of}

@@ -5,7 +5,7 @@ use Rattle.std.specs.Prelude.{find}
 use Rattle.std.specs.List.{list_any}
 use Rattle.std.proofs.lemmas.Bool.{cases_lt}
 use Rattle.std.proofs.lemmas.Bool.Decides.{nat_tests}
-use Rattle.mips_asm.specs.declared.placed.Placed.{Placed}
+use Rattle.mips_asm.specs.Places.{Placed}
 use Rattle.mips_asm.specs.Images.{PlacedBytes, byte_over, chunk_end, chunks_end, piece_covers}
 use Rattle.mips_asm.specs.Layout.{covers, is_too_long}
 use Rattle.mips_asm.specs.Passes.{Labels, first_fault, is_unknown, overlap_line, overlaps, statement_line}

@@ -10,7 +10,7 @@ use Rattle.asm_source.specs.declared.content.Part.{Part}
 use Rattle.asm_syntax.specs.Lines.{source_of}
 use Rattle.mips_asm.specs.declared.fault.AsmFault.{AsmFault}
 use Rattle.mips_asm.specs.declared.fault.AsmFault.TheVariants.{Syntax, Duplicate, TooLong, Overlap, UnknownName, Range, NoMemory}
-use Rattle.mips_asm.specs.declared.placed.Placed.{Placed}
+use Rattle.mips_asm.specs.Places.{Placed}
 use Rattle.mips_asm.specs.Layout.{layout}
 use Rattle.mips_asm.specs.Passes.{Labels, duplicate_line, overlap_line, statement_line, too_long_line, unknown_line}
 use Rattle.mips_asm.specs.Sources.{IsFaultOf, IsFirst, IsOutOfRange, IsPlacedFault, OrNoMemory, bad_entry, bad_entry_of, entry_value, is_entry_statement, labels_of, last_entry}

@@ -9,7 +9,7 @@ use Rattle.std.proofs.lemmas.List.Folds.{find-append}
 use Rattle.std.proofs.lemmas.Bool.{cases_lt, lt-ltb, true≢false}
 use Rattle.std.proofs.lemmas.Bool.Decides.{nat_tests}
 use Rattle.asm_source.specs.declared.content.Part.{Part}
-use Rattle.mips_asm.specs.declared.placed.Placed.{Placed}
+use Rattle.mips_asm.specs.Places.{Placed}
 use Rattle.mips_asm.specs.Layout.{IsInsideImage, is_too_long, last_end, layout, limit, place_after, statement_end, statement_size}
 use Rattle.mips_asm.specs.Passes.{statement_line, too_long_line}
 

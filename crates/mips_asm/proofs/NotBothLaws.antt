@@ -5,7 +5,7 @@ use Rattle.xom_base.specs.declared.image.PlainImage.{PlainImage}
 use Rattle.asm_source.specs.declared.content.Part.{Part}
 use Rattle.mips_asm.specs.declared.fault.AsmFault.{AsmFault}
 use Rattle.mips_asm.specs.declared.fault.AsmFault.TheVariants.{Syntax, Duplicate, TooLong, Overlap, UnknownName, Range, NoMemory}
-use Rattle.mips_asm.specs.declared.placed.Placed.{Placed}
+use Rattle.mips_asm.specs.Places.{Placed}
 use Rattle.mips_asm.specs.Layout.{layout}
 use Rattle.mips_asm.specs.Passes.{Labels, duplicate_line, statement_line, too_long_line}
 use Rattle.mips_asm.specs.Sources.{GivesNothing, IsFirst, IsOutOfRange, IsPartsFault, IsPlacedFault, IsPlacedImage, StatementsWrite, bad_entry, bad_entry_of, entry_by, labels_of, last_entry}

@@ -9,7 +9,7 @@ use Rattle.mips_instruction.specs.Words.{word_of}
 use Rattle.mips_instruction.specs.declared.instruction.Ins.{Ins}
 use Rattle.asm_source.specs.declared.content.Content.{Content}
 use Rattle.asm_source.specs.declared.content.Content.TheVariants.{Label, Words, Bytes, Ascii, Space, Align, Org, Entry, LoadNumber, LoadAddress, Instruction}
-use Rattle.mips_asm.specs.declared.placed.Placed.{Placed}
+use Rattle.mips_asm.specs.Places.{Placed}
 use Rattle.mips_asm.specs.Encoding.{AreWords, IsCode, StatementGives}
 use Rattle.mips_asm.specs.Images.{IsWritten, PlacedBytes}
 use Rattle.mips_asm.specs.Passes.{Labels}

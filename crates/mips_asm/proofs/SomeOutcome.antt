@@ -14,7 +14,7 @@ use Rattle.asm_source.specs.declared.content.Part.{Part}
 use Rattle.asm_syntax.specs.Lines.{source_of}
 use Rattle.mips_asm.specs.declared.fault.AsmFault.{AsmFault}
 use Rattle.mips_asm.specs.declared.fault.AsmFault.TheVariants.{Syntax, Duplicate, TooLong, Overlap, UnknownName, Range}
-use Rattle.mips_asm.specs.declared.placed.Placed.{Placed}
+use Rattle.mips_asm.specs.Places.{Placed}
 use Rattle.mips_asm.specs.Encoding.{StatementGives, unsigned_below, value_number}
 use Rattle.mips_asm.specs.Images.{PlacedBytes, IsWritten, byte_over, chunks_end}
 use Rattle.mips_asm.specs.Laws.{ImageOrFault}

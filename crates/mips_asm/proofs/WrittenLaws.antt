@@ -3,7 +3,7 @@ use Rattle.std.proofs.Common.{◌≡◌, ℕ, ◌+◌, ◌-◌, ◌<◌, cond, L
 use Rattle.std.proofs.Math.Seq.{take-append_seam}
 use Rattle.std.specs.List.{All}
 use Rattle.xom_base.specs.declared.image.PlainImage.{PlainImage}
-use Rattle.mips_asm.specs.declared.placed.Placed.{Placed}
+use Rattle.mips_asm.specs.Places.{Placed}
 use Rattle.mips_asm.specs.Encoding.{StatementGives}
 use Rattle.mips_asm.specs.Images.{IsOver, piece_covers}
 use Rattle.mips_asm.specs.Layout.{IsSized, last_end}

@@ -4,7 +4,7 @@ use Rattle.xom_base.specs.declared.image.PlainImage.{PlainImage}
 use Rattle.asm_source.specs.declared.content.Part.{Part}
 use Rattle.asm_syntax.specs.Lines.{source_of}
 use Rattle.mips_asm.specs.declared.fault.AsmFault.{AsmFault}
-use Rattle.mips_asm.specs.declared.placed.Placed.{Placed}
+use Rattle.mips_asm.specs.Places.{Placed}
 use Rattle.mips_asm.specs.Encoding.{StatementGives}
 use Rattle.mips_asm.specs.Layout.{covers, last_end, layout}
 use Rattle.mips_asm.specs.Passes.{Labels}

@@ -5,7 +5,7 @@ use Rattle.asm_tokens.specs.declared.integers.Integer.{Integer}
 use Rattle.asm_source.specs.declared.content.Content.{Content}
 use Rattle.asm_source.specs.declared.content.Content.TheVariants.{Label, Words, Bytes, Ascii, Space, Align, Org, Entry, LoadNumber, LoadAddress, Instruction}
 use Rattle.asm_source.specs.declared.content.Part.{Part}
-use Rattle.mips_asm.specs.declared.placed.Placed.{Placed}
+use Rattle.mips_asm.specs.Places.{Placed}
 
 -- the number is from -low to high
 abbrev pub in_range : (low high : ℕ) → Integer → Bool

@@ -1,5 +1,6 @@
 pub mod Layout
 pub mod Passes
+pub mod Places
 pub mod Encoding
 pub mod Images
 pub mod Sources

@@ -12,7 +12,7 @@ use Rattle.asm_source.specs.declared.content.Content.TheVariants.{Label, Words, 
 use Rattle.asm_source.specs.declared.content.Part.{Part}
 use Rattle.mips_asm.specs.declared.fault.AsmFault.{AsmFault}
 use Rattle.mips_asm.specs.declared.fault.AsmFault.TheVariants.{NoMemory}
-use Rattle.mips_asm.specs.declared.placed.Placed.{Placed}
+use Rattle.mips_asm.specs.Places.{Placed}
 use Rattle.mips_asm.specs.Layout.{is_too_long}
 
 -- The line of the first element that is bad, as it stands behind those before it.

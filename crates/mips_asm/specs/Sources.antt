@@ -8,7 +8,7 @@ use Rattle.xom_base.specs.Options.{◌>>=◌, where_holds}
 use Rattle.asm_syntax.specs.Lines.{source_of}
 use Rattle.mips_asm.specs.declared.fault.AsmFault.{AsmFault}
 use Rattle.mips_asm.specs.declared.fault.AsmFault.TheVariants.{Syntax, Duplicate, TooLong, Overlap, UnknownName, Range, NoMemory}
-use Rattle.mips_asm.specs.declared.placed.Placed.{Placed}
+use Rattle.mips_asm.specs.Places.{Placed}
 use Rattle.mips_asm.specs.Layout.{layout}
 use Rattle.mips_asm.specs.Passes.{Labels, duplicate_line, overlap_line, place_of, statement_line, too_long_line, unknown_line}
 use Rattle.mips_asm.specs.Encoding.{StatementGives, unsigned_below, value_number}

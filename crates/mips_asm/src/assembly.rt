@@ -42,7 +42,7 @@ fn assembled(alloc: Global, text: &[u8]) -> Result<PlainImage, AsmFault>
         Err(TextFault::NoMemory) => return Err(AsmFault::NoMemory),
     };
     no_duplicate(alloc, parts.as_slice())?;
-    let placed = layout(alloc, parts)?;
+    let placed = layout(alloc, parts.as_slice())?;
     image_of(alloc, placed.as_slice())
 }
 

@@ -8,13 +8,13 @@ use crate::placed::Placed;
 use asm_source::Content;
 
 /// The last `.entry`, if there is one.
-pub fn last_entry(placed: &[Placed]) -> Option<&Placed>
+pub fn last_entry<'a, 'b>(placed: &'b [Placed<'a>]) -> Option<&'b Placed<'a>>
     ensures { option_map (λ placed. placed.now) result ≡ last_entry_of placed.now }
 {
     placed
         .iter()
         .rev()
-        .find(|placed| is_entry(&placed.part.content))
+        .find(|placed| is_entry(placed.content()))
 }
 
 fn is_entry(content: &Content) -> bool
@@ -33,7 +33,7 @@ pub fn entry(labels: &Labels, last: Option<&Placed>) -> Result<u32, u64>
 {
     match last {
         None => Ok(0),
-        Some(placed) => entry_in(labels, &placed.part.content).ok_or(placed.part.line),
+        Some(placed) => entry_in(labels, placed.content()).ok_or(placed.line()),
     }
 }
 

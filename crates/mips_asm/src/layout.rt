@@ -7,27 +7,26 @@ use crate::placed::Placed;
 use asm_source::{Content, Part};
 use asm_tokens::Integer;
 use std::alloc::Global;
-use xom_base::List;
 
 /// How many bytes an image may have.
 pub const LIMIT: u64 = 1 << 20;
 
 /// Gives each label and statement its place. It costs time linear in their number.
-pub fn layout(alloc: Global, parts: List<Part>) -> Result<Vec<Placed>, AsmFault>
-    ensures placed { IfOk result (λ placed. placed.items ≡ layout_of 0 parts) }
+pub fn layout<'a>(alloc: Global, parts: &'a [Part]) -> Result<Vec<Placed<'a>>, AsmFault>
+    ensures placed { IfOk result (λ placed. placed.items ≡ layout_of 0 parts.now) }
     ensures inside { IfOk result (λ placed. All IsInsideImage placed.items) }
     ensures sized { IfOk result (λ placed. All IsSized placed.items) }
-    ensures fault { AnswersPass AsmFault.TooLong (too_long_line (layout_of 0 parts)) result }
+    ensures fault { AnswersPass AsmFault.TooLong (too_long_line (layout_of 0 parts.now)) result }
 {
     let mut placed = Vec::with_capacity(alloc, parts.len())?;
     let mut place = 0;
-    for part in parts.into_vec() {
+    for part in parts {
         let size = size(place, &part.content);
         if is_past(place, size) {
             return Err(AsmFault::TooLong(part.line));
         }
         let next = after(place, size, &part.content);
-        placed.push(Placed { place, size, part })?;
+        placed.push(Placed::new(place, size, part))?;
         place = next;
     }
     Ok(placed)

@@ -9,13 +9,13 @@ use std::alloc::Global;
 use xom_base::NoMemory;
 
 /// The places of all labels.
-pub fn all_labels(alloc: Global, placed: &[Placed]) -> Result<Labels, NoMemory>
+pub fn all_labels<'a>(alloc: Global, placed: &[Placed<'a>]) -> Result<Labels<'a>, NoMemory>
     ensures { IfOk result (λ labels. place_in labels ≡ place_of placed.now) }
 {
     let mut labels = Labels::new(alloc);
     for placed in placed {
-        if let Some(name) = label_of(&placed.part.content) {
-            let _known = labels.insert(name, placed.place)?;
+        if let Some(name) = label_of(placed.content()) {
+            let _known = labels.insert(name, placed.place())?;
         }
     }
     Ok(labels)

@@ -30,11 +30,11 @@ fn first_overlap(written: &mut [bool], placed: &[Placed]) -> Option<u64>
     ensures { result ≡ overlap_line placed.now }
 {
     for placed in placed {
-        if placed.size > 0 {
-            let start = placed.place as usize;
-            let end = start + placed.size as usize;
+        if placed.size() > 0 {
+            let start = placed.place() as usize;
+            let end = start + placed.size() as usize;
             if any_written(written, start, end) {
-                return Some(placed.part.line);
+                return Some(placed.line());
             }
             mark(written, start, end);
         }
@@ -51,8 +51,8 @@ pub fn last_end(placed: &[Placed]) -> usize
 {
     let mut end: usize = 0;
     for placed in placed {
-        if placed.size > 0 {
-            end = end.max((placed.place + placed.size) as usize);
+        if placed.size() > 0 {
+            end = end.max((placed.place() + placed.size()) as usize);
         }
     }
     end

@@ -54,7 +54,7 @@ fn write_all(
     let mut operands = Vec::new(alloc);
     let mut bytes = Vec::new(alloc);
     for placed in placed {
-        let line = placed.part.line;
+        let line = placed.line();
         if bad_entry == Some(line) {
             return Err(AsmFault::Range(line));
         }
@@ -85,14 +85,14 @@ fn write_one(
     let written = add_bytes(
         alloc,
         labels,
-        placed.place,
-        &placed.part.content,
+        placed.place(),
+        placed.content(),
         operands,
         bytes,
     )?;
     if !written {
         return Ok(false);
     }
-    write(image, placed.place as usize, bytes.as_slice());
+    write(image, placed.place() as usize, bytes.as_slice());
     Ok(true)
 }

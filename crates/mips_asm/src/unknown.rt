@@ -14,9 +14,9 @@ pub fn no_unknown(labels: &Labels, placed: &[Placed]) -> Result<(), AsmFault>
 {
     let unknown = placed
         .iter()
-        .find(|placed| content_unknown(labels, &placed.part.content));
+        .find(|placed| content_unknown(labels, placed.content()));
     match unknown {
-        Some(placed) => Err(AsmFault::UnknownName(placed.part.line)),
+        Some(placed) => Err(AsmFault::UnknownName(placed.line())),
         None => Ok(()),
     }
 }

@@ -2,7 +2,7 @@
 use Rattle.std.proofs.Common.{List, Some, cond, sym, ap, ◌∙◌}
 use Rattle.std.specs.Str.{bytes_eq}
 use Rattle.std.proofs.lemmas.List.{take_all}
-use Rattle.mips_asm.specs.declared.placed.Placed.{Placed}
+use Rattle.mips_asm.specs.Places.{Placed}
 use Rattle.mips_asm.specs.LabelMaps.{place_in}
 use Rattle.mips_asm.specs.Passes.{label_said, place_of}
 use Rattle.mips_asm.proofs.LabelLaws.{place_label, place_none, place_of_nil}
@@ -20,16 +20,16 @@ loop-placed-preserved c =
     let here = ap (λ (p : Placed). label_said p.part.content) (sym c.placed-item.is) in
     elim c.match-label_of.branch [
       | in-Some+in_ok-_known w ↦
-          let labelled = sym (rw w.in-Some.is at c.label_of.ensures) in
+          let labelled = rw c.content.ensures at (sym (rw w.in-Some.is at c.label_of.ensures)) in
           λ q. rw w.labels-is (place_label placed i item q w.in-Some.name.now
           (place_in c.loop-placed.labels q) (place_in w.insert.new.self q) c.loop-placed-test.true
           (here ∙ labelled)
-          (w.in_ok-_known.ensures.places q
+          (rw w.place.ensures at (w.in_ok-_known.ensures.places q)
           ∙ ap (λ (p : Placed). cond (bytes_eq w.in-Some.name.now q) (Some p.place)
           (place_in c.loop-placed.labels q)) c.placed-item.is)
           (c.loop-placed.invariant q))
       | in_default w ↦
-          let none = sym (rw w.in_default.is at c.label_of.ensures) in
+          let none = rw c.content.ensures at (sym (rw w.in_default.is at c.label_of.ensures)) in
           λ q. rw w.labels-is (c.loop-placed.invariant q ∙ place_none placed i item q
           c.loop-placed-test.true (here ∙ none))
     ]

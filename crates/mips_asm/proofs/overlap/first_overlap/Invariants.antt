@@ -1,7 +1,7 @@
 -- The places written so far are marked, and the statements so far overlap nowhere.
 use Rattle.std.proofs.Common.{◌≡◌, ℕ, false, get_or, take, drop}
 use Rattle.std.specs.List.{list_any}
-use Rattle.mips_asm.specs.declared.placed.Placed.{Placed}
+use Rattle.mips_asm.specs.Places.{Placed}
 use Rattle.mips_asm.specs.Layout.{covers}
 use Rattle.mips_asm.specs.Passes.{first_fault, overlap_line, overlaps, statement_line}
 use Rattle.mips_asm.proofs.overlap.first_overlap.Given as goal

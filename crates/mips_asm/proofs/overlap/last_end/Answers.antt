@@ -5,7 +5,7 @@ use Rattle.std.proofs.lemmas.Bool.Decides.{nat_tests}
 use Rattle.mips_asm.specs.Layout.{IsInsideImage}
 use Rattle.mips_asm.proofs.LayoutLaws.{last_end_more}
 use Rattle.mips_asm.proofs.overlap.last_end.Goals as goal
-use Rattle.mips_asm.proofs.overlap.last_end.Goals.{then-placed-gt0, else-placed-gt0}
+use Rattle.mips_asm.proofs.overlap.last_end.Goals.{then-size-gt0, else-size-gt0}
 
 pub loop-placed-preserved : goal.loop-placed-preserved
 loop-placed-preserved c =
@@ -14,13 +14,13 @@ loop-placed-preserved c =
     c.loop-placed-test.true) in
     let inside = subst IsInsideImage (sym c.placed-item.is) (All-get_or IsInsideImage c.args.placed.now
     c.loop-placed.placed-index c.placed-item.result c.loop-placed-test.true c.requires) in
-    elim c.if-placed-gt0.branch [
-      | then-placed-gt0 w ↦ record {
+    elim c.if-size-gt0.branch [
+      | then-size-gt0 w ↦ record {
         value = grind (arith, nat_tests, more);
         inside =
             grind (arith, nat_tests, inside);
       }
-      | else-placed-gt0 w ↦ record {
+      | else-size-gt0 w ↦ record {
         value = grind (arith, nat_tests, more);
         inside =
             grind (arith, nat_tests);

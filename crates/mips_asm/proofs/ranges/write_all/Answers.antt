@@ -1,7 +1,7 @@
 -- The first statement that writes no bytes, or what all of them write.
 use Rattle.std.proofs.Common.{◌≡◌, Some, inl, inr, refl, sym, subst, ◌∙◌, arith}
 use Rattle.std.proofs.lemmas.List.Elements.{All-get_or, All-more}
-use Rattle.mips_asm.specs.declared.placed.Placed.{Placed}
+use Rattle.mips_asm.specs.Places.{Placed}
 use Rattle.mips_asm.specs.LabelMaps.{place_in}
 use Rattle.mips_asm.specs.Layout.{IsInsideImage, IsSized}
 use Rattle.mips_asm.specs.Passes.{statement_line}
@@ -19,20 +19,22 @@ loop-placed-init c = record {
 
 pub returns-then-eq-clause-fault : goal.returns-then-eq-clause-fault
 returns-then-eq-clause-fault c =
-    inr (
+    let same = rw c.line-line.ensures at (sym c.eq.ensures ∙ c.if-eq.true) in
+    rw c.line-line.ensures
+    (inr (
       _,
       refl,
       first_here (place_in c.args.labels.now) c.args.bad_entry c.args.placed.now
           c.loop-placed.placed-index c.placed-item.result c.loop-placed.invariant.stands.0
           c.loop-placed-test.true c.placed-item.is c.loop-placed.invariant.stands.1
           c.loop-placed.invariant.entry
-          (inr (same_line c.args.bad_entry (statement_line c.placed-item.result) (sym c.eq.ensures
-          ∙ c.if-eq.true))),
-    )
+          (inr (same_line c.args.bad_entry (statement_line c.placed-item.result) same)),
+    ))
 
 pub returns-then-not-written-clause-fault : goal.returns-then-not-written-clause-fault
 returns-then-not-written-clause-fault c =
-    inr (
+    rw c.line-line.ensures
+    (inr (
       _,
       refl,
       first_here (place_in c.args.labels.now) c.args.bad_entry c.args.placed.now
@@ -40,7 +42,7 @@ returns-then-not-written-clause-fault c =
           c.loop-placed-test.true c.placed-item.is c.loop-placed.invariant.stands.1
           c.loop-placed.invariant.entry
           (inl (rw c.if-not-written.true at c.in_ok-written.ensures)),
-    )
+    ))
 
 pub write_one-requires-clause-inside : goal.write_one-requires-clause-inside
 write_one-requires-clause-inside c =
@@ -64,12 +66,12 @@ loop-placed-preserved c =
     let placed = c.args.placed.now in
     let i = c.loop-placed.placed-index in
     let P : Placed → Type 0 = λ p. ¬ (c.args.bad_entry ≡ Some (statement_line p)) in
+    let other = rw c.line-line.ensures at (sym c.eq.ensures ∙ c.if-eq.false) in
     record {
       stands = stands_more (place_in c.args.labels.now) placed i item c.loop-placed.image
           c.write_one.new.image c.loop-placed-test.true c.placed-item.is
           c.loop-placed.invariant.stands
           (rw c.if-not-written.false at c.in_ok-written.ensures);
       entry = All-more P placed i item c.loop-placed-test.true c.loop-placed.invariant.entry
-          (subst P c.placed-item.is (other_line c.args.bad_entry (statement_line item) (sym c.eq.ensures
-          ∙ c.if-eq.false)));
+          (subst P c.placed-item.is (other_line c.args.bad_entry (statement_line item) other));
     }

@@ -12,7 +12,8 @@ returns-in-Some c =
     let found = find_from_yields_List (is_unknown (place_in c.args.labels.now))
     _ _ _ c.find-unknown.ensures.ran (YieldsList-from_slice c.args.placed.now cc)
     (λ x b q k. search (rules, tests)) in
-    inr (_, ap (option_map statement_line) (sym found ∙ ap (option_map (λ p. p.now)) c.in-Some.is), refl)
+    rw c.line.ensures
+    (inr (_, ap (option_map statement_line) (sym found ∙ ap (option_map (λ p. p.now)) c.in-Some.is), refl))
 
 pub returns-in-None : goal.returns-in-None
 returns-in-None c =
