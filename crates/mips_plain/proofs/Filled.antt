@@ -1,11 +1,11 @@
 -- Bytes and the zeros behind them.
 use Rattle.std.proofs.Common.{◌≡◌, ℕ, ◌+◌, ◌-◌, ◌≤◌, ◌<◌, List, [], ◌∷◌, ◌++◌, length, take, drop, replicate, refl, sym, ◌∙◌, ap, arith, length-append}
 use Rattle.std.specs.Prelude.{slice_index}
-use Rattle.std.proofs.lemmas.List.{take-append-le, drop-append-le, append_assoc, get_or_append_left, get_or-append_right, get_or-replicate, replicate-append-replicate, length-replicate, drop_more}
-use Rattle.xom_base.specs.Padded.{padded_block, same_at_both}
+use Rattle.std.proofs.lemmas.List.{get_or_append_left, get_or-append_right, get_or-replicate, length-replicate, drop_more}
+use Rattle.xom_base.specs.Padded.{padded_block}
 use Rattle.xom_base.proofs.PaddedLaws.{padded-more, padded-written}
 use Rattle.mips_plain.specs.Memory.{low_bytes, written_at}
-use Rattle.mips_plain.proofs.Stores.{length-written_at, length-low_bytes}
+use Rattle.mips_plain.proofs.Stores.{length-low_bytes}
 
 -- a byte that is used
 pub byte_used : (size : ℕ) (bytes : List ℕ) (i : ℕ) → i < length bytes

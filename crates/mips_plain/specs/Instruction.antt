@@ -78,19 +78,6 @@ is_signal_ready handler kept = not (handler == 0) && is_none kept
 abbrev pub is_signal : ℕ → Bool
 is_signal n = nat_le 1 n && nat_le n 63
 
--- the step of a signal that is delivered at a pair
-abbrev pub signal_step : ℕ → ℕ → ℕ → Step
-signal_step pc npc n = record {
-  pc = pc;
-  npc = npc;
-  writes = writes.One 26 n;
-  stored =
-      stored.Nothing;
-  received = received.Signal n;
-  released = released.Nothing;
-  end = ended.Goes;
-}
-
 -- it takes a value from outside
 abbrev pub receives_value : Wish → Bool
 receives_value (wish.Receive reg from) = true
@@ -102,151 +89,47 @@ abbrev pub word_for : List ℕ → Wish → ℕ
 word_for bytes (wish.Load reg address kind old) = word_at_address bytes (address - address % 4)
 word_for bytes other = 0
 
+-- a step at a pair that writes cells, and does nothing else
+abbrev pub quiet_step : ℕ → ℕ → Writes → Step
+quiet_step pc npc written =
+    record {
+      pc = pc;
+      npc = npc;
+      writes = written;
+      stored = stored.Nothing;
+      received = received.Nothing;
+      released = released.Nothing;
+      end = ended.Goes;
+    }
+
+-- the step of a signal that is delivered at a pair
+abbrev pub signal_step : ℕ → ℕ → ℕ → Step
+signal_step pc npc n = record (quiet_step pc npc (writes.One 26 n)) { received = received.Signal n }
+
 -- the step of a wish at a pair, of the word that it loads, where a value was received; a wish that
 -- never comes to a guest makes the step of none
 abbrev pub step_of_wish : ℕ → ℕ → Writes → Wish → ℕ → ℕ → Step
-step_of_wish pc npc written wish.Nothing word got = record {
-  pc = pc;
-  npc = npc;
-  writes =
-      written;
-  stored = stored.Nothing;
-  received = received.Nothing;
-  released = released.Nothing;
-  end =
-      ended.Goes;
-}
+step_of_wish pc npc written wish.Nothing word got = quiet_step pc npc written
 step_of_wish pc npc written (wish.Load reg address kind old) word got =
-    record {
-      pc = pc;
-      npc = npc;
-      writes = write_of_register reg (merge_of kind old address word);
-      stored =
-          stored.Nothing;
-      received = received.Nothing;
-      released = released.Nothing;
-      end = ended.Goes;
-    }
+    quiet_step pc npc (write_of_register reg (merge_of kind old address word))
 step_of_wish pc npc written (wish.Store address count value) word got =
-    record {
-      pc = pc;
-      npc = npc;
-      writes = written;
-      stored = stored.Bytes address count value;
-      received = received.Nothing;
-      released = released.Nothing;
-      end = ended.Goes;
-    }
+    record (quiet_step pc npc written) { stored = stored.Bytes address count value }
 step_of_wish pc npc written (wish.Release reg value) word got =
-    record {
-      pc = pc;
-      npc = npc;
-      writes = written;
-      stored = stored.Nothing;
-      received =
-          received.Nothing;
-      released = released.Cell reg value;
-      end = ended.Goes;
-    }
-step_of_wish pc npc written (wish.Receive reg from) word got = record {
-  pc = pc;
-  npc = npc;
-  writes =
-      write_of_register reg got;
-  stored = stored.Nothing;
-  received = received.Cell got;
-  released =
-      released.Nothing;
-  end = ended.Goes;
-}
+    record (quiet_step pc npc written) { released = released.Cell reg value }
+step_of_wish pc npc written (wish.Receive reg from) word got =
+    record (quiet_step pc npc (write_of_register reg got)) { received = received.Cell got }
 step_of_wish pc npc written (wish.NullLoad reg address) word got =
-    record {
-      pc = pc;
-      npc = npc;
-      writes = write_of_register reg got;
-      stored = stored.Nothing;
-      received =
-          received.Null address got;
-      released = released.Nothing;
-      end = ended.Goes;
-    }
+    record (quiet_step pc npc (write_of_register reg got)) { received = received.Null address got }
 step_of_wish pc npc written (wish.NullStore address value) word got =
-    record {
-      pc = pc;
-      npc = npc;
-      writes = written;
-      stored = stored.Nothing;
-      received =
-          received.Nothing;
-      released = released.Null address value;
-      end = ended.Goes;
-    }
-step_of_wish pc npc written (wish.Hand address) word got = record {
-  pc = pc;
-  npc = npc;
-  writes =
-      written;
-  stored = stored.Nothing;
-  received = received.Nothing;
-  released = released.Nothing;
-  end =
-      ended.Goes;
-}
-step_of_wish pc npc written wish.SigRet word got = record {
-  pc = pc;
-  npc = npc;
-  writes =
-      written;
-  stored = stored.Nothing;
-  received = received.Nothing;
-  released = released.Nothing;
-  end =
-      ended.Goes;
-}
-step_of_wish pc npc written wish.Exit word got = record {
-  pc = pc;
-  npc = npc;
-  writes =
-      written;
-  stored = stored.Nothing;
-  received = received.Nothing;
-  released = released.Nothing;
-  end =
-      ended.Exit;
-}
-step_of_wish pc npc written (wish.Call code) word got = record {
-  pc = pc;
-  npc = npc;
-  writes =
-      written;
-  stored = stored.Nothing;
-  received = received.Nothing;
-  released = released.Nothing;
-  end =
-      ended.Call code;
-}
-step_of_wish pc npc written (wish.Do operation) word got = record {
-  pc = pc;
-  npc = npc;
-  writes =
-      written;
-  stored = stored.Nothing;
-  received = received.Nothing;
-  released = released.Nothing;
-  end =
-      ended.Goes;
-}
-step_of_wish pc npc written (wish.Ask reg what) word got = record {
-  pc = pc;
-  npc = npc;
-  writes =
-      written;
-  stored = stored.Nothing;
-  received = received.Nothing;
-  released = released.Nothing;
-  end =
-      ended.Goes;
-}
+    record (quiet_step pc npc written) { released = released.Null address value }
+step_of_wish pc npc written (wish.Hand address) word got = quiet_step pc npc written
+step_of_wish pc npc written wish.SigRet word got = quiet_step pc npc written
+step_of_wish pc npc written wish.Exit word got =
+    record (quiet_step pc npc written) { end = ended.Exit }
+step_of_wish pc npc written (wish.Call code) word got =
+    record (quiet_step pc npc written) { end = ended.Call code }
+step_of_wish pc npc written (wish.Do operation) word got = quiet_step pc npc written
+step_of_wish pc npc written (wish.Ask reg what) word got = quiet_step pc npc written
 
 -- the step that an effect makes
 unfoldable pub step_made : ℕ → ℕ → Effect → ℕ → ℕ → Step
