@@ -63,22 +63,15 @@ pub record IsTable (sessions : List Session) : Type 0 where
 
 -- a guest that was just installed
 abbrev pub fresh_session : ℕ → ImageId → Key256 → ℕ → ℕ → Session
-fresh_session install id key entry lines = record {
-  install = install;
-  id = id;
-  key = key;
-  entry =
-      entry;
-  lines = lines;
-  pc = 0;
-  npc = 0;
-  mask = 0;
-  epoch = 0;
-  handler = 0;
-  saved = None;
-  state =
-      state.Fresh;
-}
+fresh_session install id key entry lines =
+    record free {
+      install = install;
+      id = id;
+      key = key;
+      entry = entry;
+      lines = lines;
+      state = state.Fresh;
+    }
 
 -- a guest that is started at its entry
 abbrev pub session_after_enter : Session → Session

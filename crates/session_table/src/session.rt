@@ -120,13 +120,8 @@ impl Session {
             key,
             entry,
             lines,
-            pc: 0,
-            npc: 0,
-            mask: 0,
-            epoch: 0,
-            handler: 0,
-            saved: None,
             state: SlotState::Fresh,
+            ..Session::free()
         }
     }
 
