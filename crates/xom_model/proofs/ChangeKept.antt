@@ -28,7 +28,7 @@ use Rattle.xom_model.specs.Holds.{Agrees, FollowsAlone, Holds, IsHeld, IsLive, I
 use Rattle.xom_model.proofs.Growth.{Goes, goes_entry, goes_none, seals_none}
 use Rattle.xom_model.proofs.KeptLaws.{aside, aside_private, aside_shape}
 use Rattle.xom_model.proofs.Parts.{session_private, session_shape}
-use Rattle.xom_model.proofs.Frame.{FollowsAlone-same, IsAlone-same, Owes, changed_holds}
+use Rattle.xom_model.proofs.Frame.{Agrees-at, FollowsAlone-same, IsAlone-same, Owes, changed_holds}
 use Rattle.xom_model.proofs.Left.{RunningHolds-one}
 use Rattle.xom_model.proofs.RamSize.{areas_stay}
 use Rattle.xom_model.proofs.SealsKept.{Rises, length-more, saves_carry, seals_set}
@@ -150,20 +150,9 @@ module _ (Stands : StandsFor) (owners : List Owner) (v : Versions) (law : Versio
       (record { step = λ n. refl; install = λ n id no. no }) in
       change_holds Stands owners v law core slot some known live holds.slots (session_after_pause s)
       (core.entries ++ trap ∷ []) grows (seals_none core.entries trap refl) refl refl refl refl
-      (record {
-        key = old.key;
-        entry = old.entry;
-        lines = old.lines;
-        fresh = λ fresh. absurd (cc);
-        pc = λ _. old.pc (rw runs refl);
-        npc = λ _. old.npc (rw runs refl);
-        over = old.over;
-        handler = old.handler;
-        saved = old.saved;
-        mask = old.mask;
-        cells = old.cells;
-        places = old.places;
-      })
+      (Agrees-at s state.Paused (s.epoch + 1) s.pc s.npc core.cells core.cells core.entries
+      (core.entries ++ trap ∷ []) slot _ _ (λ fresh. absurd (cc)) (λ _. old.pc (rw runs refl))
+      (λ _. old.npc (rw runs refl)) old.cells old)
       (record {
         live = live;
         install = refl;
@@ -204,21 +193,11 @@ module _ (Stands : StandsFor) (owners : List Owner) (v : Versions) (law : Versio
       λ reg to. ap (λ p. plain_cell p.cells reg) began ∙ get_or-replicate 34 reg Lent Lent to in
       change_holds Stands owners v law core slot some known live holds.slots (session_after_enter s)
       core.entries (goes_none core.entries) refl refl refl refl refl
-      (record {
-        key = old.key;
-        entry = old.entry;
-        lines = old.lines;
-        fresh = λ is. absurd (cc);
-        pc = λ _. old.entry ∙ sym (ap (λ p. p.pc) began);
-        npc = λ _. ap (λ n. (n + 4) % 2 ^ 32) old.entry
-            ∙ omega (arith, sym (ap (λ p. p.npc) began));
-        over = old.over;
-        handler = old.handler;
-        saved = old.saved;
-        mask = old.mask;
-        cells = old.cells;
-        places = old.places;
-      })
+      (Agrees-at s state.Running s.epoch s.entry ((s.entry + 4) % 2 ^ 32) core.cells core.cells
+      core.entries core.entries slot _ _ (λ fresh. absurd (cc))
+      (λ _. old.entry ∙ sym (ap (λ p. p.pc) began))
+      (λ _. ap (λ n. (n + 4) % 2 ^ 32) old.entry ∙ omega (arith, sym (ap (λ p. p.npc) began)))
+      old.cells old)
       (record { live = live; install = refl; up = omega arith; few = omega arith })
       (λ paused. absurd (cc))
       (λ other differs. none other)
@@ -238,20 +217,9 @@ module _ (Stands : StandsFor) (owners : List Owner) (v : Versions) (law : Versio
       let old = (holds.slots.held slot live).3 in
       change_holds Stands owners v law core slot some known live holds.slots (session_after_resume s)
       core.entries (goes_none core.entries) refl refl refl refl refl
-      (record {
-        key = old.key;
-        entry = old.entry;
-        lines = old.lines;
-        fresh = λ is. absurd (cc);
-        pc = λ _. old.pc (rw is_paused refl);
-        npc = λ _. old.npc (rw is_paused refl);
-        over = old.over;
-        handler = old.handler;
-        saved = old.saved;
-        mask = old.mask;
-        cells = old.cells;
-        places = old.places;
-      })
+      (Agrees-at s state.Running s.epoch s.pc s.npc core.cells core.cells core.entries core.entries
+      slot _ _ (λ fresh. absurd (cc)) (λ _. old.pc (rw is_paused refl))
+      (λ _. old.npc (rw is_paused refl)) old.cells old)
       (record { live = live; install = refl; up = omega arith; few = omega arith })
       (λ paused. absurd (cc))
       (λ other differs. none other)

@@ -29,7 +29,7 @@ use Rattle.xom_model.proofs.Growth.{IsTrusted, goes_hashes, no_collision_before,
 use Rattle.xom_model.proofs.KeptLaws.{kept_none, kept_on, kept_rest}
 use Rattle.xom_model.proofs.Gone.{free_if-left, less, pages-other, stopped_kept, way-without}
 use Rattle.xom_model.proofs.PutKept.{IsDone}
-use Rattle.xom_model.proofs.SealKept.{seal_done, seal_kept}
+use Rattle.xom_model.proofs.SealKept.{seal_keeps}
 
 -- A core in which every live slot's private memory is some owner's guest's.
 pub record Sound (Stands : StandsFor) (owners : List Owner) (core : CoreState) : Type 0 where
@@ -166,23 +166,17 @@ module _ (Stands : StandsFor) (owners : List Owner) (v : Versions) (law : Versio
         let all : length (first ++ seal ∷ []) < 2 ^ 63 = honest.room in
         let a = length-append first (seal ∷ []) in let b = length-append core.entries
         (map hash_entry texts) in omega arith in
+        let both = seal_keeps Stands owners v law core sound.shape room way.slot way.line place some
+        known live (sound.shape.inside place some) (refl, refl) dirty its.0 its.1 its.3 number
+        raised texts refl none _ (λ fit. let raised_size = sized fit in
+        length-with_sealed (v.ram_after_raise (store_of core way.slot) way.line core.ram)
+        (frame_of core.pages way.slot (page_of way.line)) way.line
+        (sealed_as who way.line number way.bytes) sizes.0 sizes.1
+        (λ f is. let within : f * 8192 + 8192 ≤ length core.ram =
+        fit.frames way.slot (page_of way.line) f is in omega arith) ∙ raised_size) in
         record {
-          kept = seal_kept Stands owners v law core sound.shape room way.slot way.line place some
-              known live (sound.shape.inside place some) (refl, refl) dirty its.0 its.1 its.3 number
-              raised texts refl none _ (λ fit. let raised_size = sized fit in
-              length-with_sealed (v.ram_after_raise (store_of core way.slot) way.line core.ram)
-              (frame_of core.pages way.slot (page_of way.line)) way.line
-              (sealed_as who way.line number way.bytes) sizes.0 sizes.1
-              (λ f is. let within : f * 8192 + 8192 ≤ length core.ram =
-              fit.frames way.slot (page_of way.line) f is in omega arith) ∙ raised_size);
-          done = seal_done Stands owners v law core sound.shape room way.slot way.line place some
-              known live (sound.shape.inside place some) (refl, refl) dirty its.0 its.1 its.3 number
-              raised texts refl none _ (λ fit. let raised_size = sized fit in
-              length-with_sealed (v.ram_after_raise (store_of core way.slot) way.line core.ram)
-              (frame_of core.pages way.slot (page_of way.line)) way.line
-              (sealed_as who way.line number way.bytes) sizes.0 sizes.1
-              (λ f is. let within : f * 8192 + 8192 ≤ length core.ram =
-              fit.frames way.slot (page_of way.line) f is in omega arith) ∙ raised_size);
+          kept = both.0;
+          done = both.1;
           ways = λ at filled. refl;
           places = refl;
           calm = λ _ slot. (refl, λ page. refl);

@@ -1,25 +1,27 @@
 -- One event changes one slot. What it owes about that slot, and about the rest, so that what holds
 -- of every slot still does.
-use Rattle.std.proofs.Common.{◌≡◌, ◌≢◌, inl, inr, ℕ, ◌<◌, ◌≤◌, List, Some, length, sym, ◌∙◌, ap, subst, arith}
+use Rattle.std.proofs.Common.{◌≡◌, ◌≢◌, inl, inr, ℕ, ◌<◌, ◌≤◌, true, List, [], Some, length, sym, ◌∙◌, ap, subst, arith}
 use Rattle.std.proofs.lemmas.Bool.Decides.{eqb_tells}
 use Rattle.xom_base.specs.Entries.{steps_of}
 use Rattle.xom_base.specs.declared.entry.Entry.{Entry}
 use Rattle.xom_base.specs.declared.key.ImageId.{ImageId}
 use Rattle.xom_owners.specs.declared.owner.Owner.{Owner}
 use Rattle.xom_owners.specs.Owners.{owner_of}
-use Rattle.mips_plain.specs.Machine.{State, start}
+use Rattle.mips_plain.specs.Machine.{State, plain_cell_at as plain_cell, start}
 use Rattle.mips_plain.specs.declared.cell.PlainCell.TheVariants.{Own}
 use Rattle.mips_plain.specs.Follows.{Reaches}
 use Rattle.tag_regs.specs.declared.cell.Cell.{Cell}
 use Rattle.tag_regs.specs.TaggedCells.{cell_at}
 use Rattle.session_table.specs.declared.session.Session.{Session}
+use Rattle.session_table.specs.declared.session.SlotState.{SlotState}
+use Rattle.session_table.specs.declared.session.SlotState.TheVariants as state
 use Rattle.session_table.specs.Sessions.{is_live}
 use Rattle.xom_model.specs.Versions.{StandsFor}
 use Rattle.xom_model.specs.Honest.{seals_of}
 use Rattle.xom_model.specs.State.{CoreState, session_of}
 use Rattle.xom_model.specs.Lines.{who_of}
 use Rattle.xom_model.specs.Saves.{SavesAgree, SealsHold}
-use Rattle.xom_model.specs.Holds.{Agrees, FollowsAlone, IsAlone, IsHeld, IsInstalled, IsLive, Private, RamFits, Shape, SlotsHold, line_of_bytes}
+use Rattle.xom_model.specs.Holds.{Agrees, FollowsAlone, IsAlone, IsHeld, IsInstalled, IsLive, Private, RamFits, Shape, SlotsHold, line_of_bytes, was_entered}
 
 -- no slot but this one changed, and the journal grew by no other install
 pub record Owes (Stands : StandsFor) (owners : List Owner) (core new : CoreState) (slot : ℕ) : Type
@@ -72,30 +74,58 @@ pub IsAlone-same : (owners : List Owner) (old new : List Entry) (install : ℕ) 
 IsAlone-same owners old new install id same alone =
     (alone.0, alone.1, FollowsAlone-same owners old new install id alone.0 alone.1 same alone.2)
 
--- a slot whose session, cells and steps are as they were agrees as it did
+-- a slot agrees, whatever its state, epoch and pair, where it stands at the program's pair and each
+-- cell with its tag has the program's value
+pub Agrees-at : (s : Session) (now : SlotState) (epoch pc npc : ℕ) (cells new : List Cell)
+    (entries longer : List Entry) (slot : ℕ) (owner : Owner) (p : State)
+    → (now ≡ state.Fresh → steps_of s.install longer ≡ [])
+    → (was_entered now ≡ true → pc ≡ p.pc) → (was_entered now ≡ true → npc ≡ p.npc)
+    → ((reg : ℕ) → 1 ≤ reg → reg < 34 → (cell_at new reg).tag ≡ slot
+    → plain_cell p.cells reg ≡ Own (cell_at new reg).value)
+    → Agrees s cells entries slot owner p
+    → Agrees (record s { state = now; epoch = epoch; pc = pc; npc = npc }) new longer slot owner p
+Agrees-at s now epoch pc npc cells new entries longer slot owner p fresh pc_is npc_is values
+    agrees =
+    record {
+      key = agrees.key;
+      entry = agrees.entry;
+      lines = agrees.lines;
+      fresh = fresh;
+      pc = pc_is;
+      npc = npc_is;
+      over = agrees.over;
+      handler = agrees.handler;
+      saved = agrees.saved;
+      mask = agrees.mask;
+      cells = values;
+      places = agrees.places;
+    }
+
+-- so does one whose session and steps are as they were
+pub Agrees-cells : (s : Session) (cells new : List Cell) (entries longer : List Entry) (slot : ℕ)
+    (owner : Owner) (p : State)
+    → ((reg : ℕ) → 1 ≤ reg → reg < 34 → (cell_at new reg).tag ≡ slot
+    → plain_cell p.cells reg ≡ Own (cell_at new reg).value)
+    → steps_of s.install longer ≡ steps_of s.install entries
+    → Agrees s cells entries slot owner p → Agrees s new longer slot owner p
+Agrees-cells s cells new entries longer slot owner p values steps agrees =
+    Agrees-at s s.state s.epoch s.pc s.npc cells new entries longer slot owner p
+    (λ is. steps ∙ agrees.fresh is) agrees.pc agrees.npc values agrees
+
+-- and one whose cells are as they were, too
 pub Agrees-same : (s : Session) (cells new : List Cell) (entries longer : List Entry) (slot : ℕ)
     (owner : Owner) (p : State)
     → ((reg : ℕ) → 1 ≤ reg → reg < 34 → (cell_at new reg).tag ≡ slot → cell_at new reg ≡ cell_at
     cells reg)
     → steps_of s.install longer ≡ steps_of s.install entries
     → Agrees s cells entries slot owner p → Agrees s new longer slot owner p
-Agrees-same s cells new entries longer slot owner p cell steps agrees = record {
-  key = agrees.key;
-  entry = agrees.entry;
-  lines = agrees.lines;
-  fresh = λ is. steps ∙ agrees.fresh is;
-  pc = agrees.pc;
-  npc = agrees.npc;
-  over = agrees.over;
-  handler = agrees.handler;
-  saved = agrees.saved;
-  mask = agrees.mask;
-  cells = λ reg some known tag.
-      let same = cell reg some known tag in
-      agrees.cells reg some known (sym (ap (λ c. c.tag) same) ∙ tag) ∙ ap (λ c. Own c.value)
-      (sym same);
-  places = agrees.places;
-}
+Agrees-same s cells new entries longer slot owner p cell steps agrees =
+    Agrees-cells s cells new entries longer slot owner p
+    (λ reg some known tag.
+    let same = cell reg some known tag in
+    agrees.cells reg some known (sym (ap (λ c. c.tag) same) ∙ tag) ∙ ap (λ c. Own c.value)
+    (sym same))
+    steps agrees
 
 module _ (Stands : StandsFor) (owners : List Owner) (core new : CoreState) (slot : ℕ)
     (holds : SlotsHold Stands owners core) (owes : Owes Stands owners core new slot) where

@@ -73,25 +73,15 @@ word-Fits : (word : ℕ) (ins : Ins) → instruction_or_fault (instruction_of_wo
 word-Fits word ins is = known-Fits (instruction_of_word word) ins (λ i has. read-Fits i word has) is
 
 -- an address of a wish is a private one
-address-low : (wished : Wish) (address : ℕ) → IsInRange wished → address_in wished ≡ Some address
-    → address / 32 < 2 ^ 15
+pub address-low : (wished : Wish) (address : ℕ) → IsInRange wished
+    → address_in wished ≡ Some address → address / 32 < 2 ^ 15
 address-low (wish.Load reg at how old) address range is =
     let same : at ≡ address = cc in let word : at - at % 4 + 4 ≤ 2 ^ 20 = range.word in omega arith
 address-low (wish.Store at count value) address range is =
     let same : at
     ≡ address = cc in let room : at + count ≤ 2 ^ 20 = range.private in let one : 1 ≤ count =
     range.some in omega arith
-address-low wish.Nothing address range is = absurd (cc)
-address-low (wish.NullLoad reg at) address range is = absurd (cc)
-address-low (wish.NullStore at value) address range is = absurd (cc)
-address-low (wish.Hand at) address range is = absurd (cc)
-address-low wish.SigRet address range is = absurd (cc)
-address-low (wish.Release reg value) address range is = absurd (cc)
-address-low (wish.Receive reg from) address range is = absurd (cc)
-address-low wish.Exit address range is = absurd (cc)
-address-low (wish.Call code) address range is = absurd (cc)
-address-low (wish.Do operation) address range is = absurd (cc)
-address-low (wish.Ask reg what) address range is = absurd (cc)
+address-low _ address range is = absurd (cc)
 
 -- the word that is loaded is that of the program's memory
 loaded-same : (wished : Wish) (address : ℕ) (bytes : List ℕ) → address_in wished ≡ Some address
@@ -99,34 +89,13 @@ loaded-same : (wished : Wish) (address : ℕ) (bytes : List ℕ) → address_in 
 loaded-same (wish.Load reg at how old) address bytes is =
     let same : at ≡ address = cc in ap (λ a. word_in (line_of_bytes bytes (a / 32)) at) (sym same)
     ∙ word-in_line bytes at
-loaded-same (wish.Store at count value) address bytes is = refl
-loaded-same wish.Nothing address bytes is = refl
-loaded-same (wish.NullLoad reg at) address bytes is = refl
-loaded-same (wish.NullStore at value) address bytes is = refl
-loaded-same (wish.Hand at) address bytes is = refl
-loaded-same wish.SigRet address bytes is = refl
-loaded-same (wish.Release reg value) address bytes is = refl
-loaded-same (wish.Receive reg from) address bytes is = refl
-loaded-same wish.Exit address bytes is = refl
-loaded-same (wish.Call code) address bytes is = refl
-loaded-same (wish.Do operation) address bytes is = refl
-loaded-same (wish.Ask reg what) address bytes is = refl
+loaded-same _ address bytes is = refl
 
 none-loaded : (wished : Wish) (bytes : List ℕ) → address_in wished ≡ None
     → 0 ≡ word_for bytes wished
 none-loaded (wish.Load reg at how old) bytes is = absurd (cc)
 none-loaded (wish.Store at count value) bytes is = absurd (cc)
-none-loaded wish.Nothing bytes is = refl
-none-loaded (wish.NullLoad reg at) bytes is = refl
-none-loaded (wish.NullStore at value) bytes is = refl
-none-loaded (wish.Hand at) bytes is = refl
-none-loaded wish.SigRet bytes is = refl
-none-loaded (wish.Release reg value) bytes is = refl
-none-loaded (wish.Receive reg from) bytes is = refl
-none-loaded wish.Exit bytes is = refl
-none-loaded (wish.Call code) bytes is = refl
-none-loaded (wish.Do operation) bytes is = refl
-none-loaded (wish.Ask reg what) bytes is = refl
+none-loaded _ bytes is = refl
 
 -- a step stores in the line of its address
 stores-at : (core : CoreState) (slot place pc npc : ℕ) (written : Writes) (wished : Wish)
@@ -144,23 +113,7 @@ stores-at core slot place pc npc written (wish.Store at count value) word got ad
       let room : at + count ≤ 2 ^ 20 = range.private in let one : 1 ≤ count = range.some in
           omega arith,
     )
-stores-at core slot place pc npc written (wish.Load reg at how old) word got address range is its
-    low = tt
-stores-at core slot place pc npc written wish.Nothing word got address range is its low = tt
-stores-at core slot place pc npc written (wish.NullLoad reg at) word got address range is its low =
-    tt
-stores-at core slot place pc npc written (wish.NullStore at value) word got address range is its
-    low = tt
-stores-at core slot place pc npc written (wish.Hand at) word got address range is its low = tt
-stores-at core slot place pc npc written wish.SigRet word got address range is its low = tt
-stores-at core slot place pc npc written (wish.Release reg value) word got address range is its
-    low = tt
-stores-at core slot place pc npc written (wish.Receive reg from) word got address range is its low =
-    tt
-stores-at core slot place pc npc written wish.Exit word got address range is its low = tt
-stores-at core slot place pc npc written (wish.Call code) word got address range is its low = tt
-stores-at core slot place pc npc written (wish.Do operation) word got address range is its low = tt
-stores-at core slot place pc npc written (wish.Ask reg what) word got address range is its low = tt
+stores-at core slot place pc npc written _ word got address range is its low = tt
 
 stores-none : (core : CoreState) (slot place pc npc : ℕ) (written : Writes) (wished : Wish)
     (word got : ℕ)
@@ -168,20 +121,10 @@ stores-none : (core : CoreState) (slot place pc npc : ℕ) (written : Writes) (w
     → StoresAt core slot place (step_of_wish pc npc written wished word got).stored
 stores-none core slot place pc npc written (wish.Store at count value) word got is = absurd (cc)
 stores-none core slot place pc npc written (wish.Load reg at how old) word got is = absurd (cc)
-stores-none core slot place pc npc written wish.Nothing word got is = tt
-stores-none core slot place pc npc written (wish.NullLoad reg at) word got is = tt
-stores-none core slot place pc npc written (wish.NullStore at value) word got is = tt
-stores-none core slot place pc npc written (wish.Hand at) word got is = tt
-stores-none core slot place pc npc written wish.SigRet word got is = tt
-stores-none core slot place pc npc written (wish.Release reg value) word got is = tt
-stores-none core slot place pc npc written (wish.Receive reg from) word got is = tt
-stores-none core slot place pc npc written wish.Exit word got is = tt
-stores-none core slot place pc npc written (wish.Call code) word got is = tt
-stores-none core slot place pc npc written (wish.Do operation) word got is = tt
-stores-none core slot place pc npc written (wish.Ask reg what) word got is = tt
+stores-none core slot place pc npc written _ word got is = tt
 
 -- a place of code is private, and a fetched instruction is the word there
-code-low : (pc : ℕ) → is_code pc ≡ true → (pc % 4 ≡ 0) × (pc / 32 < 2 ^ 15)
+pub code-low : (pc : ℕ) → is_code pc ≡ true → (pc % 4 ≡ 0) × (pc / 32 < 2 ^ 15)
 code-low pc is = elim (eqb_tells (pc % 4) 0) [
   | inl whole ↦ (
     whole.1,
@@ -399,6 +342,14 @@ module _ (Stands : StandsFor) (owners : List Owner) (v : Versions) (law : Versio
         (instruction_or_fault (instruction_of_word word)) pc (session_of new slot).npc effect fits is)
         honest
 
+  -- the running guest stands somewhere in its program
+  stands_at : (core : CoreState) (live : IsLive core slot) → IsRunning core slot
+      → (holds : Holds Stands owners core)
+      → At core (holds.slots.held slot live).0 (holds.slots.held slot live).1
+  stands_at core live runs holds =
+      let h = holds.slots.held slot live in
+      record { runs = runs; holds = holds; follows = h.2; agrees = h.3; private = h.4 }
+
   -- an event of the running guest
   pub guest_keeps : (core : CoreState) → OwnersTell core.machine owners
       → sealed ≡ sealed_by core.machine owners → IsRunning core slot → Holds Stands owners core
@@ -408,14 +359,7 @@ module _ (Stands : StandsFor) (owners : List Owner) (v : Versions) (law : Versio
   guest_keeps core tell sealings runs holds honest =
       let live : IsLive core slot = rw runs refl in
       let h = holds.slots.held slot live in
-      let start : At core h.0 h.1 = record {
-        runs = runs;
-        holds = holds;
-        follows = h.2;
-        agrees =
-            h.3;
-        private = h.4;
-      } in
+      let start : At core h.0 h.1 = stands_at core live runs holds in
       let at_pc = (session_of core slot).pc in
       let result = access v core slot (at_pc / 32) in
       elim (is_code at_pc) as (λ b. is_code at_pc ≡ b → IsTrusted sealed
@@ -526,14 +470,7 @@ module _ (Stands : StandsFor) (owners : List Owner) (v : Versions) (law : Versio
   faults_own core tell sealings runs holds fault honest is =
       let live : IsLive core slot = rw runs refl in
       let h = holds.slots.held slot live in
-      let start : At core h.0 h.1 = record {
-        runs = runs;
-        holds = holds;
-        follows = h.2;
-        agrees =
-            h.3;
-        private = h.4;
-      } in
+      let start : At core h.0 h.1 = stands_at core live runs holds in
       let at_pc = (session_of core slot).pc in
       let result = access v core slot (at_pc / 32) in
       let whole = elim (is_code at_pc) as (λ b. is_code at_pc ≡ b → IsTrusted sealed

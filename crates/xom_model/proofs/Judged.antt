@@ -62,15 +62,7 @@ no_forgery_at : (sealed : List Sealing) (entries b : List Entry) (e : Entry) (be
     → NoForgery sealed entries → entries ≡ b ++ (e ∷ behind) → forgery_at sealed b e ≡ None
 no_forgery_at sealed entries b (entry.Accept key message place) behind none is =
     rw (none b behind key message place is) refl
-no_forgery_at sealed entries b (entry.Install install slot id place start lines) behind none is =
-    refl
-no_forgery_at sealed entries b (entry.Step install step) behind none is = refl
-no_forgery_at sealed entries b (entry.Trap install why) behind none is = refl
-no_forgery_at sealed entries b (entry.Seal key message) behind none is = refl
-no_forgery_at sealed entries b (entry.Hash preimage digest) behind none is = refl
-no_forgery_at sealed entries b (entry.Stop install rule) behind none is = refl
-no_forgery_at sealed entries b (entry.Kill install) behind none is = refl
-no_forgery_at sealed entries b (entry.Out byte) behind none is = refl
+no_forgery_at sealed entries b _ behind none is = refl
 
 pub none_forged : (sealed : List Sealing) (entries : List Entry) → NoForgery sealed entries
     → first_forgery sealed entries ≡ None
@@ -156,13 +148,7 @@ calm_at preimage digest (entry.Hash other same) one = elim (same_bytes digest sa
   | inr differs ↦ and_left (bytes_eq digest same) (not (bytes_eq preimage other)) differs
 ]
 calm_at preimage digest (entry.Install install slot id place start lines) one = refl
-calm_at preimage digest (entry.Step install step) one = refl
-calm_at preimage digest (entry.Trap install why) one = refl
-calm_at preimage digest (entry.Seal key message) one = refl
-calm_at preimage digest (entry.Accept key message place) one = refl
-calm_at preimage digest (entry.Stop install rule) one = refl
-calm_at preimage digest (entry.Kill install) one = refl
-calm_at preimage digest (entry.Out byte) one = refl
+calm_at preimage digest _ one = refl
 
 module _ (entries : List Entry) (none : NoCollision entries) where
   no_collision_at : (b : List Entry) (e : Entry) (behind : List Entry) → entries ≡ b ++ (e ∷ behind)
@@ -178,14 +164,7 @@ module _ (entries : List Entry) (none : NoCollision entries) where
       (Contains-append_left b (hash ∷ behind) (entry.Hash other digest)
       (j, within, any_default b j (entry.Hash other digest) hash within ∙ its))))) in
       ap (option_map (numbers (length b))) calm
-  no_collision_at b (entry.Install install slot id place start lines) behind is = refl
-  no_collision_at b (entry.Step install step) behind is = refl
-  no_collision_at b (entry.Trap install why) behind is = refl
-  no_collision_at b (entry.Seal key message) behind is = refl
-  no_collision_at b (entry.Accept key message place) behind is = refl
-  no_collision_at b (entry.Stop install rule) behind is = refl
-  no_collision_at b (entry.Kill install) behind is = refl
-  no_collision_at b (entry.Out byte) behind is = refl
+  no_collision_at b _ behind is = refl
 
   pub none_collides : first_collision entries ≡ None
   none_collides = nothing_there collision_at [] entries no_collision_at

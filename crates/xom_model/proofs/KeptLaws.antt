@@ -10,7 +10,6 @@ use Rattle.xom_base.specs.declared.key.ImageId.{ImageId}
 use Rattle.xom_owners.specs.declared.owner.Owner.{Owner}
 use Rattle.xom_owners.specs.Owners.{owner_of}
 use Rattle.mips_plain.specs.Machine.{State, start}
-use Rattle.mips_plain.specs.declared.cell.PlainCell.TheVariants.{Own}
 use Rattle.mips_plain.specs.Follows.{Reaches}
 use Rattle.tag_regs.specs.declared.cell.Cell.{Cell}
 use Rattle.tag_regs.specs.TaggedCells.{cell_at}
@@ -25,6 +24,7 @@ use Rattle.xom_model.specs.Lines.{line_seals, version_of_line, who_of}
 use Rattle.xom_model.specs.Saves.{SavesAgree}
 use Rattle.xom_model.specs.Holds.{Agrees, FollowsAlone, Holds, IsHeld, IsInstalled, IsLive, IsRunning, LineHolds, Private, Shape, SlotsHold, line_of_bytes}
 use Rattle.xom_model.specs.Kept.{Kept}
+use Rattle.xom_model.proofs.Frame.{Agrees-same}
 use Rattle.xom_model.proofs.Growth.{Goes, goes_none, goes_on}
 use Rattle.xom_model.proofs.RamSize.{areas_stay, frames_stay}
 use Rattle.xom_model.proofs.SealsKept.{length-more, saves_carry, seals_stay}
@@ -239,23 +239,10 @@ module _ (Stands : StandsFor) (owners : List Owner) where
       pub held_agrees : Agrees (session_of core slot) core.cells core.entries slot owner p
           → Agrees (session_of new slot) new.cells new.entries slot owner p
       held_agrees old = subst (λ (s : Session). Agrees s new.cells new.entries slot owner p)
-          (sym session) (record {
-            key = old.key;
-            entry = old.entry;
-            lines = old.lines;
-            fresh = λ fresh. kept.steps (session_of core slot).install ∙ old.fresh fresh;
-            pc = old.pc;
-            npc = old.npc;
-            over = old.over;
-            handler = old.handler;
-            saved = old.saved;
-            mask = old.mask;
-            cells = λ reg from to tag.
-                let same = kept.cells reg from to (λ none. some (sym tag ∙ none)) in
-                old.cells reg from to (sym (ap (λ c. c.tag) same) ∙ tag) ∙ ap (λ c. Own c.value)
-                (sym same);
-            places = old.places;
-          })
+          (sym session) (Agrees-same (session_of core slot) core.cells new.cells core.entries
+          new.entries slot owner p
+          (λ reg from to tag. kept.cells reg from to (λ none. some (sym tag ∙ none)))
+          (kept.steps (session_of core slot).install) old)
 
     held_saves : (slot : ℕ) → IsLive new slot → (p : State)
         → SavesAgree (who_of core slot) (session_of core slot) (seals_of core.entries) p

@@ -1,41 +1,27 @@
 -- Which install a message names, and what entries behind a journal's add to it.
-use Rattle.std.proofs.Common.{◌≡◌, ◌⊎◌, inl, inr, ℕ, ◌<◌, ◌^◌, ◌==◌, true, false, List, [], ◌∷◌, ◌++◌, map, refl, sym, ◌∙◌, ap}
-use Rattle.std.specs.Int.{w64, to_be_bytes}
-use Rattle.std.specs.Str.{bytes_eq}
+use Rattle.std.proofs.Common.{◌≡◌, ◌⊎◌, inl, inr, ℕ, ◌<◌, ◌^◌, ◌==◌, true, false, List, [], ◌∷◌, ◌++◌, map, refl, sym, ◌∙◌}
 use Rattle.std.proofs.lemmas.Bool.{cond_both, eqb-true}
-use Rattle.std.proofs.lemmas.Bool.Decides.{Decides-eqb, Decides-like, same_from_decides}
-use Rattle.std.proofs.lemmas.Slice.Eq.{bytes_eq-Decides}
 use Rattle.xom_base.specs.declared.entry.Entry.{Entry}
 use Rattle.xom_base.specs.declared.key.ImageId.{ImageId}
 use Rattle.xom_seal.specs.declared.names.LineName.{LineName}
 use Rattle.xom_seal.specs.declared.names.LineName.TheVariants.{Image, Run}
 use Rattle.xom_seal.specs.declared.names.RegName.{RegName}
 use Rattle.xom_seal.specs.Messages.{envelope_message, line_message, register_message}
-use Rattle.xom_seal.proofs.Fields.{same_numbers_8}
+use Rattle.xom_seal.proofs.Fields.{same_test_8}
 use Rattle.xom_versions.specs.Store.{hash_entry}
 use Rattle.xom_model.specs.Lines.{Who, is_image_at, message_as, run_name}
 use Rattle.xom_model.specs.Named.{HasOne, UsesIt, names_install}
 use Rattle.xom_model.specs.Stops.{InstallsAreTold, StopsAreLast, StopsIt}
 
--- a test of a field is a test of its number
-same_test : (n m : ℕ) → n < 2 ^ 64 → m < 2 ^ 64
-    → bytes_eq (to_be_bytes w64 n) (to_be_bytes w64 m) ≡ (n == m)
-same_test n m below other =
-    same_from_decides {P = n ≡ m} (bytes_eq (to_be_bytes w64 n) (to_be_bytes w64 m)) (n == m)
-    (Decides-like (bytes_eq (to_be_bytes w64 n) (to_be_bytes w64 m))
-    (same_numbers_8 n m below other) (ap (λ k. to_be_bytes w64 k))
-    (bytes_eq-Decides (to_be_bytes w64 n) (to_be_bytes w64 m)))
-    (Decides-eqb n m)
-
 line_told : (n boot install line version : ℕ) (ct : List ℕ) → n < 2 ^ 64 → install < 2 ^ 64
     → names_install n (line_message (Run boot install line version) ct) ≡ (install == n)
 unfolding names_install line_message
-line_told n boot install line version ct low few = same_test install n few low
+line_told n boot install line version ct low few = same_test_8 install n few low
 
 register_told : (n : ℕ) (name : RegName) (ct : List ℕ) → n < 2 ^ 64 → name.install < 2 ^ 64
     → names_install n (register_message name ct) ≡ (name.install == n)
 unfolding names_install register_message
-register_told n name ct low few = same_test name.install n few low
+register_told n name ct low few = same_test_8 name.install n few low
 
 image_told : (n line : ℕ) (id : ImageId) (ct : List ℕ)
     → names_install n (line_message (Image id line) ct) ≡ false

@@ -45,13 +45,7 @@ opens_granted told s effect (wish.Store address count value) =
 opens_granted told s effect (wish.Call code) = opens_none s.cells
 opens_granted told s effect (wish.Do operation) = (effect.writes, refl)
 opens_granted told s effect (wish.Ask reg what) = (set_register reg (null_answer told what), refl)
-opens_granted told s effect (wish.Release reg value) = opens_none s.cells
-opens_granted told s effect (wish.Receive reg from) = opens_none s.cells
-opens_granted told s effect (wish.NullLoad reg address) = opens_none s.cells
-opens_granted told s effect (wish.NullStore address value) = opens_none s.cells
-opens_granted told s effect (wish.Hand address) = opens_none s.cells
-opens_granted told s effect wish.SigRet = opens_none s.cells
-opens_granted told s effect wish.Exit = opens_none s.cells
+opens_granted told s effect _ = opens_none s.cells
 
 opens_ran : (told : Told) (s : Open) (found : Result Effect OwnFault)
     → Opens s.cells (ran_open told s found).0.cells

@@ -157,10 +157,7 @@ module _ (Stands : StandsFor) (owners : List Owner) (v : Versions) (law : Versio
   enter_holds slot some known state.Free is = holds
   enter_holds slot some known state.Fresh is =
       entered_holds Stands owners v law core slot (some_slot slot some) known holds none is
-  enter_holds slot some known state.Running is = holds
-  enter_holds slot some known state.Paused is = holds
-  enter_holds slot some known state.Ended is = holds
-  enter_holds slot some known (state.Stopped why) is = holds
+  enter_holds slot some known _ is = holds
 
   go_on_holds : (slot signal : ℕ) → 1 ≤ slot → slot ≤ 16
       → (session_of core slot).state ≡ state.Paused
@@ -279,10 +276,7 @@ module _ (Stands : StandsFor) (owners : List Owner) (v : Versions) (law : Versio
   waits_live : (s : SlotState) → not (can_come_back s) ≡ false → is_live s ≡ true
   waits_live state.Fresh is = refl
   waits_live state.Paused is = refl
-  waits_live state.Free is = absurd (cc)
-  waits_live state.Running is = absurd (cc)
-  waits_live state.Ended is = absurd (cc)
-  waits_live (state.Stopped why) is = absurd (cc)
+  waits_live _ is = absurd (cc)
 
   none_of_some : (o : Option ℕ) → is_some o ≡ false → o ≡ None
   none_of_some None is = refl
@@ -302,11 +296,7 @@ module _ (Stands : StandsFor) (owners : List Owner) (v : Versions) (law : Versio
 
   free_of : (s : SlotState) → not (is_free_state s) ≡ false → s ≡ state.Free
   free_of state.Free is = refl
-  free_of state.Fresh is = absurd (cc)
-  free_of state.Running is = absurd (cc)
-  free_of state.Paused is = absurd (cc)
-  free_of state.Ended is = absurd (cc)
-  free_of (state.Stopped why) is = absurd (cc)
+  free_of _ is = absurd (cc)
 
   map_holds : (slot page frame : ℕ) → Holds Stands owners (map_page v core slot page frame).0
   map_holds slot page frame = tested_holds (map_tests core slot page frame)
@@ -407,11 +397,7 @@ record MaySeal (core : CoreState) (slot reg : ℕ) : Type 0 where
 
 pub paused_of : (s : SlotState) → not (is_paused s) ≡ false → s ≡ state.Paused
 paused_of state.Paused is = refl
-paused_of state.Free is = absurd (cc)
-paused_of state.Fresh is = absurd (cc)
-paused_of state.Running is = absurd (cc)
-paused_of state.Ended is = absurd (cc)
-paused_of (state.Stopped why) is = absurd (cc)
+paused_of _ is = absurd (cc)
 
 pub cell_from : (reg : ℕ) → not (is_cell reg) ≡ false → (1 ≤ reg) × (reg < 34)
 cell_from reg good = elim (is_cell reg) as (λ b. is_cell reg ≡ b → not b ≡ false → (1 ≤ reg)

@@ -402,10 +402,7 @@ stay_enter : (core : CoreState) (slot : ℕ) (at : SlotState) → (session_of co
 stay_enter core slot state.Free is = stay_none core
 stay_enter core slot state.Fresh is =
     stay_live core slot (session_after_enter (session_of core slot)) (rw is refl)
-stay_enter core slot state.Running is = stay_none core
-stay_enter core slot state.Paused is = stay_none core
-stay_enter core slot state.Ended is = stay_none core
-stay_enter core slot (state.Stopped why) is = stay_none core
+stay_enter core slot _ is = stay_none core
 
 stay_delivered : (core : CoreState) (slot signal : ℕ)
     → PagesStay core (after_delivery core slot signal)

@@ -3,7 +3,7 @@ use Rattle.std.proofs.Common.{◌≡◌, ℕ, Bool, Option, Some, None, Ok, Err,
 use Rattle.xom_base.specs.declared.event.Cause.{Cause}
 use Rattle.xom_base.specs.declared.event.Event.TheVariants as event
 use Rattle.xom_base.specs.declared.event.Op.{Op}
-use Rattle.xom_base.specs.declared.event.Op.TheVariants.{Install, Enter, Resume, Save, Restore, Map, Unmap, SetReg, Kill, Out, Halt}
+use Rattle.xom_base.specs.declared.event.Op.TheVariants.{Halt}
 use Rattle.xom_model.specs.declared.outcome.Outcome.TheVariants as outcome
 use Rattle.xom_versions.specs.Versions.{Versions}
 use Rattle.xom_model.specs.State.{CoreState, Record}
@@ -19,16 +19,7 @@ use Rattle.xom_model.proofs.Turns.{running-runs, running-slot}
 -- no guest leaves with an operation
 not_left : (op : Op) (why : Cause) → ¬ (outcome_of op ≡ outcome.Left why)
 not_left Halt why never = cc
-not_left (Install slot envelope area) why never = cc
-not_left (Enter slot) why never = cc
-not_left (Resume slot signal) why never = cc
-not_left (Save slot reg address) why never = cc
-not_left (Restore slot reg address) why never = cc
-not_left (Map slot page frame) why never = cc
-not_left (Unmap slot page) why never = cc
-not_left (SetReg reg value) why never = cc
-not_left (Kill slot) why never = cc
-not_left (Out byte) why never = cc
+not_left _ why never = cc
 
 null_not_left : (v : Versions) (r : Record) (answer : Answer) (why : Cause)
     → ¬ ((null_turn v r answer).1 ≡ outcome.Left why)

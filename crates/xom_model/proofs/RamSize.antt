@@ -124,16 +124,7 @@ length-granted told s effect (wish.Store address count value) =
     (let within : address + count ≤ length s.ram = grind (arith, nat_tests) in let size =
     length-drop (4 - count) (to_be_bytes w32 value) in omega arith))
     (λ _. refl)
-length-granted told s effect (wish.Call code) = refl
-length-granted told s effect (wish.Do operation) = refl
-length-granted told s effect (wish.Ask reg what) = refl
-length-granted told s effect (wish.Release reg value) = refl
-length-granted told s effect (wish.Receive reg from) = refl
-length-granted told s effect (wish.NullLoad reg address) = refl
-length-granted told s effect (wish.NullStore address value) = refl
-length-granted told s effect (wish.Hand address) = refl
-length-granted told s effect wish.SigRet = refl
-length-granted told s effect wish.Exit = refl
+length-granted told s effect _ = refl
 
 length-ran : (told : Told) (s : Open) (found : Result Effect OwnFault)
     → length (ran_open told s found).0.ram ≡ length s.ram

@@ -4,12 +4,12 @@ use Rattle.std.proofs.Common.{◌≡◌, inl, inr, cond, ℕ, ◌+◌, ◌-◌, 
 use Rattle.std.specs.Prelude.{is_none}
 use Rattle.xom_model.specs.declared.outcome.NullFault.TheVariants as null
 use Rattle.xom_base.specs.declared.event.Op.{Op}
-use Rattle.xom_base.specs.declared.event.Op.TheVariants.{Install, Enter, Resume, Save, Restore, Map, Unmap, SetReg, Kill, Out, Halt}
+use Rattle.xom_base.specs.declared.event.Op.TheVariants.{Halt}
 use Rattle.xom_base.specs.declared.event.OwnFault.{OwnFault}
 use Rattle.xom_base.specs.declared.event.OwnFault.TheVariants as fault
 use Rattle.xom_base.specs.declared.step.Writes.TheVariants as writes
 use Rattle.mips_instruction.specs.declared.instruction.Ins.{Ins}
-use Rattle.mips_instruction.specs.declared.instruction.Ins.TheVariants.{Sll, Srl, Sra, Sllv, Srlv, Srav, Jr, Jalr, Syscall, Break, Mfhi, Mthi, Mflo, Mtlo, Mult, Multu, Div, Divu, Add, Addu, Sub, Subu, And, Or, Xor, Nor, Slt, Sltu, Bltz, Bgez, Bltzal, Bgezal, J, Jal, Beq, Bne, Blez, Bgtz, Addi, Addiu, Slti, Sltiu, Andi, Ori, Xori, Lui, Lb, Lh, Lwl, Lw, Lbu, Lhu, Lwr, Sb, Sh, Swl, Sw, Swr, Xlwn, Xswn, Xmvtn, Xmvfn, Xexit, Xhand, Xsigret, Xinstall, Xenter, Xresume, Xsave, Xrestore, Xmap, Xunmap, Xkill, Xout, Xhalt, Xstat, Xcause, Xarg, Xwho}
+use Rattle.mips_instruction.specs.declared.instruction.Ins.TheVariants.{Sll, Srl, Sra, Sllv, Srlv, Srav, Jr, Jalr, Syscall, Break, Mfhi, Mthi, Mflo, Mtlo, Mult, Multu, Div, Divu, Add, Addu, Sub, Subu, And, Or, Xor, Nor, Slt, Sltu, Bltz, Bgez, Bltzal, Bgezal, J, Jal, Beq, Bne, Blez, Bgtz, Addi, Addiu, Slti, Sltiu, Andi, Ori, Xori, Lui, Lb, Lh, Lwl, Lw, Lbu, Lhu, Lwr, Sb, Sh, Swl, Sw, Swr, Xlwn, Xswn}
 use Rattle.mips_effect.specs.declared.effects.Effect.{Effect}
 use Rattle.mips_effect.specs.declared.seen.Mode.{Mode}
 use Rattle.mips_effect.specs.declared.seen.Mode.TheVariants.{Null}
@@ -121,25 +121,7 @@ act-asks (Xlwn rt imm rs) mode s t d following =
     either-asks (plus_signed s imm % 4 == 0) _ _ (λ op is. refl) tt
 act-asks (Xswn rt imm rs) mode s t d following =
     either-asks (plus_signed s imm % 4 == 0) _ _ (λ op is. refl) tt
-act-asks (Xmvtn rs) mode s t d following = λ op is. refl
-act-asks (Xmvfn rd rs) mode s t d following = λ op is. refl
-act-asks Xexit mode s t d following = λ op is. refl
-act-asks (Xhand rs) mode s t d following = λ op is. refl
-act-asks Xsigret mode s t d following = λ op is. refl
-act-asks (Xinstall rs rt rd) mode s t d following = λ op is. refl
-act-asks (Xenter rs) mode s t d following = λ op is. refl
-act-asks (Xresume rs rt) mode s t d following = λ op is. refl
-act-asks (Xsave rs rt rd) mode s t d following = λ op is. refl
-act-asks (Xrestore rs rt rd) mode s t d following = λ op is. refl
-act-asks (Xmap rs rt rd) mode s t d following = λ op is. refl
-act-asks (Xunmap rs rt) mode s t d following = λ op is. refl
-act-asks (Xkill rs) mode s t d following = λ op is. refl
-act-asks (Xout rs) mode s t d following = λ op is. refl
-act-asks Xhalt mode s t d following = λ op is. refl
-act-asks (Xstat rd) mode s t d following = λ op is. refl
-act-asks (Xcause rd) mode s t d following = λ op is. refl
-act-asks (Xarg rd) mode s t d following = λ op is. refl
-act-asks (Xwho rd) mode s t d following = λ op is. refl
+act-asks _ mode s t d following = λ op is. refl
 
 judged-asks : (i : Ins) (mode : Mode) (first second third : Seen) (following : ℕ)
     → IfOk (effect_or_fault i mode first second third following) AsksOnly
@@ -185,14 +167,7 @@ granted_stays told s effect asks (wish.Store address count value) is op asked =
 granted_stays told s effect asks (wish.Call code) is op asked = absurd (cc)
 granted_stays told s effect asks (wish.Do done) is op asked =
     (ap (λ written. (open_after s effect written).cells) (asks done is), refl)
-granted_stays told s effect asks (wish.Ask reg what) is op asked = absurd (cc)
-granted_stays told s effect asks (wish.Release reg value) is op asked = absurd (cc)
-granted_stays told s effect asks (wish.Receive reg from) is op asked = absurd (cc)
-granted_stays told s effect asks (wish.NullLoad reg address) is op asked = absurd (cc)
-granted_stays told s effect asks (wish.NullStore address value) is op asked = absurd (cc)
-granted_stays told s effect asks (wish.Hand address) is op asked = absurd (cc)
-granted_stays told s effect asks wish.SigRet is op asked = absurd (cc)
-granted_stays told s effect asks wish.Exit is op asked = absurd (cc)
+granted_stays told s effect asks _ is op asked = absurd (cc)
 
 ran_stays : (told : Told) (s : Open) (found : Result Effect OwnFault) → IfOk found AsksOnly
     → Stays s (ran_open told s found)
@@ -213,16 +188,7 @@ halt_done : (v : Versions) (core : CoreState) (op : Op) → IsRefusalStatus (ope
     → is_halt op ≡ false
 unfolding operation
 halt_done v core Halt refusal = absurd (let low = refusal.0 in omega arith)
-halt_done v core (Install slot envelope area) refusal = refl
-halt_done v core (Enter slot) refusal = refl
-halt_done v core (Resume slot signal) refusal = refl
-halt_done v core (Save slot reg address) refusal = refl
-halt_done v core (Restore slot reg address) refusal = refl
-halt_done v core (Map slot page frame) refusal = refl
-halt_done v core (Unmap slot page) refusal = refl
-halt_done v core (SetReg reg value) refusal = refl
-halt_done v core (Kill slot) refusal = refl
-halt_done v core (Out byte) refusal = refl
+halt_done v core _ refusal = refl
 
 core_same : (v : Versions) (core : CoreState) (op : Op) → IsRefusalStatus (operation v core op).1
     → (operation v core op).0 ≡ core

@@ -25,10 +25,7 @@ either core false one other first second = second
 enter_outcome : (core : CoreState) (slot : ℕ) (at : SlotState) → Outcome core (enter core slot at)
 enter_outcome core slot state.Free = inr (inr refl)
 enter_outcome core slot state.Fresh = inl refl
-enter_outcome core slot state.Running = inr (inr refl)
-enter_outcome core slot state.Paused = inr (inr refl)
-enter_outcome core slot state.Ended = inr (inr refl)
-enter_outcome core slot (state.Stopped why) = inr (inr refl)
+enter_outcome core slot _ = inr (inr refl)
 
 go_on_outcome : (core : CoreState) (slot signal : ℕ) (lost : Option ℕ)
     → Outcome core (resume_or_stop core slot signal lost)

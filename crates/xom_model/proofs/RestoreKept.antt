@@ -6,7 +6,6 @@ use Rattle.std.specs.Str.{bytes_eq}
 use Rattle.std.proofs.lemmas.List.{get_or-set_same, get_or-set_other}
 use Rattle.std.proofs.lemmas.List.Folds.{list_any-append}
 use Rattle.std.proofs.lemmas.Bool.Decides.{eqb_tells}
-use Rattle.xom_base.specs.Entries.{steps_of}
 use Rattle.xom_base.specs.declared.entry.Entry.{Entry}
 use Rattle.xom_seal.specs.declared.keys.RegisterKeys.{RegisterKeys}
 use Rattle.xom_seal.specs.declared.names.RegName.{RegName}
@@ -16,10 +15,9 @@ use Rattle.xom_seal.specs.Sealing.{register_masked, register_tag, unsealed_regis
 use Rattle.xom_seal.proofs.SealLaws.{lets_through, registers_open}
 use Rattle.xom_owners.specs.declared.owner.Owner.{Owner}
 use Rattle.mips_plain.specs.declared.cell.PlainCell.TheVariants.{Own}
-use Rattle.mips_plain.specs.Machine.{State, plain_cell_at as plain_cell}
+use Rattle.mips_plain.specs.Machine.{plain_cell_at as plain_cell}
 use Rattle.tag_regs.specs.declared.cell.Cell.{Cell}
 use Rattle.tag_regs.specs.TaggedCells.{cell_at, empty_cell}
-use Rattle.session_table.specs.declared.session.Session.{Session}
 use Rattle.session_table.specs.declared.session.SlotState.TheVariants as state
 use Rattle.image_sealer.specs.Membership.{is_sealed, is_sealing}
 use Rattle.journal_findings.specs.Findings.{sealed_by}
@@ -30,10 +28,10 @@ use Rattle.xom_model.specs.State.{CoreState, session_of}
 use Rattle.xom_model.specs.Lines.{who_of}
 use Rattle.xom_model.specs.Saves.{reg_accept_entry, reg_keys, reg_name, saved_at}
 use Rattle.xom_model.specs.Operation.{epoch_of}
-use Rattle.xom_model.specs.Holds.{Agrees, Holds, IsHeld, IsLive, IsRunning, line_of_bytes}
+use Rattle.xom_model.specs.Holds.{Holds, IsHeld, IsLive, IsRunning, line_of_bytes}
 use Rattle.xom_model.proofs.Growth.{IsTrusted, Goes, goes_entry, honest_before, seals_none}
 use Rattle.xom_model.proofs.KeptLaws.{aside_private, aside_shape}
-use Rattle.xom_model.proofs.Frame.{FollowsAlone-same, IsAlone-same}
+use Rattle.xom_model.proofs.Frame.{Agrees-cells, FollowsAlone-same, IsAlone-same}
 use Rattle.xom_model.proofs.OwnersTell.{no_register}
 use Rattle.xom_model.proofs.SealsKept.{length-more, saves_carry, seals_stay}
 use Rattle.xom_model.proofs.SavesKept.{epoch_low, install_low}
@@ -61,28 +59,6 @@ masked_back name keys value small =
     some_same (from_be_bytes w32 (register_masked name keys ct)) value
     (sym (lets_through (register_tag name keys ct)
     (from_be_bytes w32 (register_masked name keys ct))) ∙ registers_open name keys value small)
-
--- a slot agrees as it did where each cell with its tag has the program's value
-agrees_cells : (s : Session) (cells new : List Cell) (entries longer : List Entry) (slot : ℕ)
-    (owner : Owner) (p : State)
-    → ((r : ℕ) → 1 ≤ r → r < 34 → (cell_at new r).tag ≡ slot → plain_cell p.cells r ≡ Own
-    (cell_at new r).value)
-    → steps_of s.install longer ≡ steps_of s.install entries
-    → Agrees s cells entries slot owner p → Agrees s new longer slot owner p
-agrees_cells s cells new entries longer slot owner p values steps agrees = record {
-  key = agrees.key;
-  entry = agrees.entry;
-  lines = agrees.lines;
-  fresh = λ is. steps ∙ agrees.fresh is;
-  pc = agrees.pc;
-  npc = agrees.npc;
-  over = agrees.over;
-  handler = agrees.handler;
-  saved = agrees.saved;
-  mask = agrees.mask;
-  cells = values;
-  places = agrees.places;
-}
 
 module _ (Stands : StandsFor) (owners : List Owner) (v : Versions) (law : VersionLaw v Stands)
     (core : CoreState) (none : (other : ℕ) → ¬ IsRunning core other)
@@ -185,7 +161,7 @@ module _ (Stands : StandsFor) (owners : List Owner) (v : Versions) (law : Versio
         h.1,
         FollowsAlone-same owners core.entries entries (session_of core k).install
             (session_of core k).id h.0 h.1 steps h.2,
-        agrees_cells (session_of core k) core.cells cells core.entries entries k h.0 h.1
+        Agrees-cells (session_of core k) core.cells cells core.entries entries k h.0 h.1
             (values k lives) steps h.3,
         aside_private Stands owners v law core cells core.pointers core.ram entries goes_out.more
             seals_same k h.0 (line_of_bytes h.1.bytes) h.4,

@@ -36,13 +36,7 @@ made-AreCells pc npc written (wish.Receive reg from) word got cells range =
     set-AreCells reg got range.0.1
 made-AreCells pc npc written (wish.NullLoad reg address) word got cells range =
     set-AreCells reg got range
-made-AreCells pc npc written (wish.NullStore address value) word got cells range = cells
-made-AreCells pc npc written (wish.Hand address) word got cells range = cells
-made-AreCells pc npc written wish.SigRet word got cells range = cells
-made-AreCells pc npc written wish.Exit word got cells range = cells
-made-AreCells pc npc written (wish.Call code) word got cells range = cells
-made-AreCells pc npc written (wish.Do operation) word got cells range = cells
-made-AreCells pc npc written (wish.Ask reg what) word got cells range = cells
+made-AreCells pc npc written _ word got cells range = cells
 
 pub step_made-AreCells : (pc npc : ℕ) (effect : Effect) (word : ℕ) (got : ℕ) → Ranged effect
     → AreCells (step_made pc npc effect word got).writes
@@ -58,15 +52,7 @@ made-IsKnown pc npc written (wish.Load reg address how old) word got range = tt
 made-IsKnown pc npc written (wish.Store address count value) word got range = tt
 made-IsKnown pc npc written (wish.Release reg value) word got range =
     (range.0, let low : reg < 32 = range.1 in omega arith)
-made-IsKnown pc npc written (wish.Receive reg from) word got range = tt
-made-IsKnown pc npc written (wish.NullLoad reg address) word got range = tt
-made-IsKnown pc npc written (wish.NullStore address value) word got range = tt
-made-IsKnown pc npc written (wish.Hand address) word got range = tt
-made-IsKnown pc npc written wish.SigRet word got range = tt
-made-IsKnown pc npc written wish.Exit word got range = tt
-made-IsKnown pc npc written (wish.Call code) word got range = tt
-made-IsKnown pc npc written (wish.Do operation) word got range = tt
-made-IsKnown pc npc written (wish.Ask reg what) word got range = tt
+made-IsKnown pc npc written _ word got range = tt
 
 pub step_made-IsKnown : (pc npc : ℕ) (effect : Effect) (word : ℕ) (got : ℕ) → Ranged effect
     → IsKnown (step_made pc npc effect word got).released
@@ -83,18 +69,7 @@ answered-made : (p : State) (cells : List Cell) (ram : List ℕ) (pc npc next af
     ≡ step_done p (record { writes = written; wish = wished; pc = next; npc = after })
     (received_by cells ram wished)
 answered-made p cells ram pc npc next after written wish.Nothing word = refl
-answered-made p cells ram pc npc next after written (wish.Load reg address how old) word = refl
-answered-made p cells ram pc npc next after written (wish.Store address count value) word = refl
-answered-made p cells ram pc npc next after written (wish.Release reg value) word = refl
-answered-made p cells ram pc npc next after written (wish.Receive reg from) word = refl
-answered-made p cells ram pc npc next after written (wish.NullLoad reg address) word = refl
-answered-made p cells ram pc npc next after written (wish.NullStore address value) word = refl
-answered-made p cells ram pc npc next after written (wish.Hand address) word = refl
-answered-made p cells ram pc npc next after written wish.SigRet word = refl
-answered-made p cells ram pc npc next after written wish.Exit word = refl
-answered-made p cells ram pc npc next after written (wish.Call code) word = refl
-answered-made p cells ram pc npc next after written (wish.Do operation) word = refl
-answered-made p cells ram pc npc next after written (wish.Ask reg what) word = refl
+answered-made p cells ram pc npc next after written _ word = refl
 
 answered-step : (p : State) (cells : List Cell) (ram : List ℕ) (pc npc : ℕ) (effect : Effect)
     (word : ℕ)

@@ -3,7 +3,7 @@ use Rattle.std.proofs.Common.{◌≡◌, ℕ, zero, suc, ◌+◌, ◌≤◌, con
 use Rattle.std.specs.Prelude.{nat_le}
 use Rattle.std.specs.List.{find}
 use Rattle.std.proofs.Math.Nat.{min-le_right}
-use Rattle.std.proofs.lemmas.List.Elements.{All-tail}
+use Rattle.std.proofs.lemmas.List.Elements.{All-head, All-tail}
 use Rattle.std.proofs.lemmas.Bool.Decides.{nat_tests}
 use Rattle.xom_base.specs.declared.event.Event.{Event}
 use Rattle.xom_base.specs.declared.event.Event.TheVariants as event
@@ -18,20 +18,20 @@ use Rattle.xom_model.specs.Seen.{View, view_of}
 use Rattle.xom_model.specs.Run.{IsPoke, IsSchedule, after_turn, event_of, is_flagged, one_event, own_event, poke_at, run_from}
 use Rattle.xom_model.specs.Sequence.{IsRunOf, RunsAreEvents}
 
--- a write that is found is one of the list
-found-IsPoke : (test : Poke → Bool) (pokes : List Poke) (poke : Poke) → All IsPoke pokes
-    → find test pokes ≡ Some poke → IsPoke poke
-found-IsPoke test [] poke are is = absurd (cc)
-found-IsPoke test (first ∷ pokes) poke are is =
-    elim (test first) as (λ b. cond b (Some first) (find test pokes) ≡ Some poke → IsPoke poke) [
-      | true ↦ λ here. subst IsPoke (same here) (are 0 first (omega arith))
-      | false ↦ λ later. found-IsPoke test pokes poke (All-tail IsPoke first pokes are) later
+-- what holds of each write of a list holds of one that is found there
+pub found-keeps : (P : Poke → Type 0) (test : Poke → Bool) (pokes : List Poke) (poke : Poke)
+    → All P pokes → find test pokes ≡ Some poke → P poke
+found-keeps P test [] poke are is = absurd (cc)
+found-keeps P test (first ∷ pokes) poke are is =
+    elim (test first) as (λ b. cond b (Some first) (find test pokes) ≡ Some poke → P poke) [
+      | true ↦ λ here. subst P (same here) (All-head P first pokes are)
+      | false ↦ λ later. found-keeps P test pokes poke (All-tail P first pokes are) later
     ] is
   where
     same : {a b : Poke} → Some a ≡ Some b → a ≡ b
     same eq = cc
 
-one_record : (a b : Record) → Some a ≡ Some b → b ≡ a
+pub one_record : (a b : Record) → Some a ≡ Some b → b ≡ a
 one_record a b is = cc
 
 fits_in : (n : ℕ) → n ≤ chunk_size → nat_le n chunk_size ≡ true
@@ -82,7 +82,7 @@ module _ (v : Versions) {K : Type 0} (told : K → View → Option (Turn × (Lis
         → one_event v told schedule (run_from v told schedule n) guests r k poke ≡ Some last
         → IsRunOf v (suc n) r last
     by_poke (Some poke) listed is =
-        let is_poke = found-IsPoke _ schedule.pokes poke keeps.pokes listed in
+        let is_poke = found-keeps IsPoke _ schedule.pokes poke keeps.pokes listed in
         first n r last (event.Poke poke.address (length poke.bytes)) poke.bytes
         (rw going (fits_in (length poke.bytes) is_poke.few)) (next guests _ k last is)
     by_poke None none is = by_running (running_slot r) refl is

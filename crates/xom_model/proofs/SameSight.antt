@@ -74,27 +74,7 @@ returned-Ranged_at None before effect wish.SigRet ranged is = absurd (cc)
 returned-Ranged_at (Some pair) before effect wish.SigRet ranged is =
     ok_ranged (record before { pc = pair.0; npc = pair.1 }) effect
     (record { writes = ranged.writes; wish = ranged.wish }) is
-returned-Ranged_at kept before effect wish.Nothing ranged is = ok_ranged before effect ranged is
-returned-Ranged_at kept before effect (wish.Load reg address how old) ranged is =
-    ok_ranged before effect ranged is
-returned-Ranged_at kept before effect (wish.Store address count value) ranged is =
-    ok_ranged before effect ranged is
-returned-Ranged_at kept before effect (wish.NullLoad reg address) ranged is =
-    ok_ranged before effect ranged is
-returned-Ranged_at kept before effect (wish.NullStore address value) ranged is =
-    ok_ranged before effect ranged is
-returned-Ranged_at kept before effect (wish.Hand address) ranged is =
-    ok_ranged before effect ranged is
-returned-Ranged_at kept before effect (wish.Release reg value) ranged is =
-    ok_ranged before effect ranged is
-returned-Ranged_at kept before effect (wish.Receive reg from) ranged is =
-    ok_ranged before effect ranged is
-returned-Ranged_at kept before effect wish.Exit ranged is = ok_ranged before effect ranged is
-returned-Ranged_at kept before effect (wish.Call code) ranged is = ok_ranged before effect ranged is
-returned-Ranged_at kept before effect (wish.Do operation) ranged is =
-    ok_ranged before effect ranged is
-returned-Ranged_at kept before effect (wish.Ask reg what) ranged is =
-    ok_ranged before effect ranged is
+returned-Ranged_at kept before effect _ ranged is = ok_ranged before effect ranged is
 
 returned-Ranged : (kept : Option (ℕ × ℕ)) (found : Result Effect OwnFault) (effect : Effect)
     → ((before : Effect) → found ≡ Ok before → Ranged before)

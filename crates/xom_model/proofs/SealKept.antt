@@ -360,7 +360,7 @@ module _ (Stands : StandsFor) (owners : List Owner) (v : Versions) (law : Versio
     | inr other ↦ ap (λ s. s.area) (store_there k other.1)
   ]
 
-  pub seal_kept : Kept Stands owners core out
+  seal_kept : Kept Stands owners core out
   seal_kept = record {
     shape = λ _. shape_out;
     boot = refl;
@@ -399,7 +399,7 @@ module _ (Stands : StandsFor) (owners : List Owner) (v : Versions) (law : Versio
   plain_of now = (now.lines line low).cached place is
 
   -- and what stands in the place is behind its line
-  pub seal_done : IsDone Stands owners out place
+  seal_done : IsDone Stands owners out place
   seal_done k at filled lives its_of its_dirty its memory' whose now =
       let own : slot ≡ k = sym is.0 ∙ its_of.0 in
       let here : line ≡ at = sym is.1 ∙ its_of.1 in
@@ -412,3 +412,7 @@ module _ (Stands : StandsFor) (owners : List Owner) (v : Versions) (law : Versio
       (seals_of out.entries) (memory' l)) here
       (subst (λ s. Behind its who line (version_of_line who s line) s (memory' line))
       (sym seals_out) (behind_it its (memory' line) plain)))
+
+  -- so both hold of a sealed line
+  pub seal_keeps : Kept Stands owners core out × IsDone Stands owners out place
+  seal_keeps = (seal_kept, seal_done)

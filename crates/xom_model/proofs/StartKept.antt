@@ -47,7 +47,7 @@ unfolding no_ways
 length-no_ways = length-replicate 128 free_way
 
 -- no page is mapped
-none_mapped : (slot page : ℕ) → frame_of nothing_mapped slot page ≡ None
+pub none_mapped : (slot page : ℕ) → frame_of nothing_mapped slot page ≡ None
 unfolding nothing_mapped
 none_mapped slot page =
     ap (λ pages. get_or pages page None) (elim (less slot 17) [

@@ -33,11 +33,7 @@ use Rattle.xom_model.proofs.RamSize.{length-null, length-poked}
 
 is_running-state : (s : SlotState) → is_running s ≡ true → s ≡ state.Running
 is_running-state state.Running is = refl
-is_running-state state.Free is = cc
-is_running-state state.Fresh is = cc
-is_running-state state.Paused is = cc
-is_running-state state.Ended is = cc
-is_running-state (state.Stopped why) is = cc
+is_running-state _ is = cc
 
 -- the slot that runs is a slot
 pub running-slot : (core : CoreState) (slot : ℕ) → running_in core.sessions ≡ Some slot

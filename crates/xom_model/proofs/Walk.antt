@@ -167,20 +167,9 @@ stores-in : (core : CoreState) (slot place pc npc : ℕ) (written : Writes) (wis
     → StoresIn core slot place (step_of_wish pc npc written wished word got).stored
 stores-in core slot place pc npc written (wish.Store address count value) word got own =
     own address refl
-stores-in core slot place pc npc written (wish.Load reg at how old) word got own = tt
-stores-in core slot place pc npc written wish.Nothing word got own = tt
-stores-in core slot place pc npc written (wish.NullLoad reg at) word got own = tt
-stores-in core slot place pc npc written (wish.NullStore at value) word got own = tt
-stores-in core slot place pc npc written (wish.Hand at) word got own = tt
-stores-in core slot place pc npc written wish.SigRet word got own = tt
-stores-in core slot place pc npc written (wish.Release reg value) word got own = tt
-stores-in core slot place pc npc written (wish.Receive reg from) word got own = tt
-stores-in core slot place pc npc written wish.Exit word got own = tt
-stores-in core slot place pc npc written (wish.Call code) word got own = tt
-stores-in core slot place pc npc written (wish.Do operation) word got own = tt
-stores-in core slot place pc npc written (wish.Ask reg what) word got own = tt
+stores-in core slot place pc npc written _ word got own = tt
 
-step-stores : (core : CoreState) (slot place pc npc : ℕ) (effect : Effect) (word got : ℕ)
+pub step-stores : (core : CoreState) (slot place pc npc : ℕ) (effect : Effect) (word got : ℕ)
     → ((address : ℕ) → address_in effect.wish ≡ Some address → IsOwnPlace core slot place)
     → StoresIn core slot place (step_made pc npc effect word got).stored
 unfolding step_made

@@ -106,26 +106,15 @@ good_slot core slot good = elim (is_slot slot) as (λ b. is_slot slot ≡ b
 pub waits_live : (s : SlotState) → not (can_come_back s) ≡ false → is_live s ≡ true
 waits_live state.Fresh is = refl
 waits_live state.Paused is = refl
-waits_live state.Free is = absurd (cc)
-waits_live state.Running is = absurd (cc)
-waits_live state.Ended is = absurd (cc)
-waits_live (state.Stopped why) is = absurd (cc)
+waits_live _ is = absurd (cc)
 
 pub paused_live : (s : SlotState) → not (is_paused s) ≡ false → is_live s ≡ true
 paused_live state.Paused is = refl
-paused_live state.Fresh is = absurd (cc)
-paused_live state.Free is = absurd (cc)
-paused_live state.Running is = absurd (cc)
-paused_live state.Ended is = absurd (cc)
-paused_live (state.Stopped why) is = absurd (cc)
+paused_live _ is = absurd (cc)
 
 pub free_of : (s : SlotState) → not (is_free_state s) ≡ false → s ≡ state.Free
 free_of state.Free is = refl
-free_of state.Fresh is = absurd (cc)
-free_of state.Running is = absurd (cc)
-free_of state.Paused is = absurd (cc)
-free_of state.Ended is = absurd (cc)
-free_of (state.Stopped why) is = absurd (cc)
+free_of _ is = absurd (cc)
 
 module _ (v : Versions) (slot : ℕ) (R T : CoreState → CoreState → Type 0) (parts : Parts v slot R)
     (ends : Ends slot R T) (deeds : Deeds v slot R T) where
@@ -187,10 +176,7 @@ module _ (v : Versions) (slot : ℕ) (R T : CoreState → CoreState → Type 0) 
       → T core (enter core slot at).0
   walk_enter core state.Free is = ends.went core
   walk_enter core state.Fresh is = by_parts core _ (deeds.enters core is)
-  walk_enter core state.Running is = ends.went core
-  walk_enter core state.Paused is = ends.went core
-  walk_enter core state.Ended is = ends.went core
-  walk_enter core (state.Stopped why) is = ends.went core
+  walk_enter core _ is = ends.went core
 
   module _ (core : CoreState) (is : (session_of core slot).state ≡ state.Paused) (signal : ℕ) where
     abbrev now : CoreState
