@@ -1,8 +1,7 @@
 -- A run under a kernel whose turns have short numbers is events that have, so what it recorded is
 -- read again.
-use Rattle.std.proofs.Common.{◌≡◌, ℕ, zero, suc, ◌+◌, cond, Bool, true, false, List, [], ◌∷◌, Option, Some, None, IfSome, All, length, refl, sym, ap, subst}
-use Rattle.std.specs.List.{find}
-use Rattle.std.proofs.lemmas.List.Elements.{All-cons, All-head, All-nil, All-tail}
+use Rattle.std.proofs.Common.{◌≡◌, ℕ, zero, suc, ◌+◌, cond, true, false, List, [], ◌∷◌, Option, Some, None, IfSome, All, length, refl, sym, ap, subst}
+use Rattle.std.proofs.lemmas.List.Elements.{All-cons, All-nil}
 use Rattle.xom_base.specs.declared.event.Event.{Event}
 use Rattle.xom_base.specs.declared.event.Event.TheVariants as event
 use Rattle.xom_base.specs.declared.key.Key256.{Key256}
@@ -19,6 +18,7 @@ use Rattle.xom_model.specs.Honest.{IsBounded}
 use Rattle.xom_model.specs.Run.{after_turn, event_of, is_flagged, one_event, own_event, poke_at, run_from}
 use Rattle.xom_model.specs.Seen.{View, view_of}
 use Rattle.xom_model.specs.Sequence.{after_all}
+use Rattle.xom_model.proofs.RunEvents.{found-keeps, one_record}
 use Rattle.journal_laws.specs.RulesOfRecord.{StoresKeepRules}
 use Rattle.journal_laws.specs.RulesKept.{IsPlainEvent, IsPlainPoke, IsPlainStart, KernelsAreReadAgain}
 use Rattle.journal_laws.proofs.PlainBytes.{bytes-none}
@@ -29,22 +29,6 @@ record IsPlainRun (v : Versions) (r last : Record) : Type 0 where
   events : List (Event × List ℕ)
   plain : All IsPlainEvent events
   made : last ≡ after_all v r events
-
--- a write that is found is one of the list
-found-IsPlainPoke : (test : Poke → Bool) (pokes : List Poke) (poke : Poke) → All IsPlainPoke pokes
-    → find test pokes ≡ Some poke → IsPlainPoke poke
-found-IsPlainPoke test [] poke are is = absurd (cc)
-found-IsPlainPoke test (first ∷ pokes) poke are is =
-    elim (test first) as (λ b. cond b (Some first) (find test pokes) ≡ Some poke → IsPlainPoke poke) [
-      | true ↦ λ here. subst IsPlainPoke (same here) (All-head IsPlainPoke first pokes are)
-      | false ↦ λ later. found-IsPlainPoke test pokes poke (All-tail IsPlainPoke first pokes are) later
-    ] is
-  where
-    same : {a b : Poke} → Some a ≡ Some b → a ≡ b
-    same eq = cc
-
-one_record : (a b : Record) → Some a ≡ Some b → b ≡ a
-one_record a b is = cc
 
 module _ (v : Versions) {K : Type 0} (told : K → View → Option (Turn × (List ℕ × K)))
     (schedule : Schedule)
@@ -84,7 +68,7 @@ module _ (v : Versions) {K : Type 0} (told : K → View → Option (Turn × (Lis
         → IsPlainRun v r last
     by_poke (Some poke) listed is =
         first r last (event.Poke poke.address (length poke.bytes)) poke.bytes
-        (tt, found-IsPlainPoke _ schedule.pokes poke pokes listed) (next guests _ k last is)
+        (tt, found-keeps IsPlainPoke _ schedule.pokes poke pokes listed) (next guests _ k last is)
     by_poke None none is = by_running (running_slot r) is
 
   run-IsPlainRun : (n guests : ℕ) (r : Record) (k : K) (last : Record)

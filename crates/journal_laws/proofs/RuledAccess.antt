@@ -32,25 +32,15 @@ use Rattle.xom_model.specs.Holds.{IsLive}
 use Rattle.xom_model.proofs.RamSize.{area_stays}
 use Rattle.journal_laws.specs.RulesOfRecord.{StoresKeepRules, IsSoundWay, RulesHold}
 use Rattle.journal_laws.proofs.PlainBytes.{IsPlainName, bytes-drop, bytes-take, bytes-written, bytes-zeros, image_aes-bytes, line_masked-bytes, line_masked-short, line_message-payload, line_tag-bytes, line_tag-size, run_aes-bytes, run_tag-payload}
-use Rattle.journal_laws.proofs.RuledParts.{free_way-sound, hashed-holds, live-came, noted-holds, out-holds, session-sound, with_ram-holds, with_store-holds, with_way-holds, ways-hold}
+use Rattle.journal_laws.proofs.RuledParts.{free_way-sound, hashed-holds, live-came, noted-holds, out-holds, session-on, session-sound, with_ram-holds, with_store-holds, with_way-holds, ways-hold}
 
 -- ---- A stop
 
 pub gone-holds : (core : CoreState) (slot : ℕ) (final : SlotState) → IsLive core slot
     → RulesHold core → RulesHold (after_leaving core slot final)
 gone-holds core slot final live holds =
-    let sound = session-sound core holds slot in
-    out-holds core holds slot (session_after_leaving (session_of core slot) final) (record {
-      entry = sound.entry;
-      pc = sound.pc;
-      npc = sound.npc;
-      handler = sound.handler;
-      saved = sound.saved;
-      id = sound.id;
-      id_length = sound.id_length;
-      key = sound.key;
-      install = λ _. live-came core holds slot live;
-    })
+    out-holds core holds slot (session_after_leaving (session_of core slot) final)
+    (session-on core holds slot live final (session_of core slot).epoch)
 
 pub stopped-holds : (core : CoreState) (slot : ℕ) (why : Rule) → KeepsRule why → IsLive core slot
     → RulesHold core → RulesHold (after_stop core slot why)

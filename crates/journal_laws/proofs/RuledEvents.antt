@@ -1,5 +1,5 @@
 -- The rules hold at power-on, and each event keeps them.
-use Rattle.std.proofs.Common.{◌≡◌, ℕ, ◌+◌, ◌^◌, ◌<◌, ◌≤◌, inl, inr, Bool, List, Option, Some, None, Result, Ok, Err, length, get_or, take, replicate, lit<, lit≤, refl, sym, ◌∙◌, ap, subst, arith}
+use Rattle.std.proofs.Common.{◌≡◌, ℕ, ◌+◌, ◌^◌, ◌<◌, ◌≤◌, inl, inr, Bool, List, Option, Some, None, Result, Ok, Err, length, get_or, take, replicate, lit<, lit≤, refl, sym, subst, arith}
 use Rattle.std.proofs.lemmas.Bool.{cond_both}
 use Rattle.std.proofs.lemmas.List.{get_or-replicate, get_or_past, length-replicate}
 use Rattle.std.proofs.lemmas.List.Elements.{All-nil, All-replicate}
@@ -11,7 +11,6 @@ use Rattle.xom_base.specs.declared.event.Op.{Op}
 use Rattle.xom_base.specs.declared.key.Key256.{Key256}
 use Rattle.journal_round_trip.specs.KeepsRules.{Is32Bit, KeepsPayload}
 use Rattle.line_cache.specs.Ways.{free_way, no_ways, way_at}
-use Rattle.page_map.specs.Pages.{frame_of, no_pages, nothing_mapped}
 use Rattle.tag_regs.specs.TaggedCells.{all_empty, empty_cell}
 use Rattle.session_table.specs.Sessions.{free, none_held}
 use Rattle.xom_versions.specs.Chip.{chip}
@@ -25,7 +24,8 @@ use Rattle.xom_model.specs.Operation.{operation}
 use Rattle.xom_model.specs.Null.{Answer, null_step, ram_after_write}
 use Rattle.xom_model.specs.Event.{after_kernel_write, after_operation, guest_turn, null_asked, null_turn, on, open_in, ran_on, running_slot, told_in, with_open, with_ram}
 use Rattle.xom_model.specs.Honest.{IsBounded}
-use Rattle.xom_model.proofs.Gone.{frame-none, less}
+use Rattle.xom_model.proofs.Gone.{less}
+use Rattle.xom_model.proofs.StartKept.{none_mapped}
 use Rattle.xom_model.proofs.RamSize.{length-null, length-poked}
 use Rattle.xom_model.proofs.Turns.{running-runs}
 use Rattle.journal_laws.specs.RulesOfRecord.{StoresKeepRules, IsShortCell, IsSoundSession, IsSoundWay, RecordKeepsRules, RulesHold}
@@ -61,15 +61,6 @@ no_ways-sound place = elim (less place 128) [
       (sym (get_or_past (replicate 128 free_way) place free_way
       (omega (arith, length-replicate 128 free_way)))) (free_way-sound none_held)
 ]
-
-none_mapped : (slot page : ℕ) → frame_of nothing_mapped slot page ≡ None
-unfolding nothing_mapped
-none_mapped slot page =
-    ap (λ pages. get_or pages page None) (elim (less slot 17) [
-      | inl within ↦ get_or-replicate 17 slot no_pages no_pages within
-      | inr past ↦ get_or_past (replicate 17 no_pages) slot no_pages
-          (omega (arith, length-replicate 17 no_pages))
-    ]) ∙ frame-none page
 
 no_store-fits : (ram : List ℕ) → HoldsArea ram no_store
 unfolding no_store

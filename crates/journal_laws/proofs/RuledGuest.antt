@@ -1,9 +1,7 @@
 -- The rules stay over the event of a running guest.
-use Rattle.std.proofs.Common.{◌≡◌, ◌⊎◌, inl, inr, ℕ, ◌+◌, ◌-◌, ◌/◌, ◌%◌, ◌^◌, ◌<◌, ◌≤◌, ◌==◌, Bool, true, false, List, All, Option, Some, None, Result, Ok, Err, IfSome, length, set, lit<, refl, sym, ◌∙◌, ap, subst, arith}
-use Rattle.std.specs.Prelude.{nat_lt}
+use Rattle.std.proofs.Common.{◌≡◌, ◌⊎◌, inl, inr, ℕ, ◌+◌, ◌-◌, ◌/◌, ◌%◌, ◌≤◌, ◌==◌, Bool, true, false, List, All, Option, Some, None, Result, Ok, Err, IfSome, length, set, lit<, refl, sym, ◌∙◌, ap, subst, arith}
 use Rattle.std.specs.Int.{w32, to_be_bytes}
 use Rattle.std.proofs.lemmas.Bool.{cond_both}
-use Rattle.std.proofs.lemmas.Bool.Decides.{eqb_tells, nat_tests}
 use Rattle.std.proofs.lemmas.List.{get_or-set_same}
 use Rattle.std.proofs.lemmas.List.Elements.{All-set}
 use Rattle.hex.specs.Hex.{IsBytes}
@@ -24,13 +22,12 @@ use Rattle.xom_base.specs.declared.step.Stored.TheVariants as stored
 use Rattle.xom_base.specs.declared.step.Writes.{Writes}
 use Rattle.xom_base.specs.declared.step.Writes.TheVariants as writes
 use Rattle.mips_instruction.specs.Words.{instruction_of_word}
-use Rattle.mips_effect.specs.Effects.{IsInRange, Ranged}
+use Rattle.mips_effect.specs.Effects.{Ranged}
 use Rattle.mips_effect.specs.declared.effects.Effect.{Effect}
 use Rattle.mips_effect.specs.declared.wish.Wish.{Wish}
 use Rattle.mips_effect.specs.declared.wish.Wish.TheVariants as wish
-use Rattle.mips_plain.specs.Instruction.{handler_after, instruction_or_fault, is_code, kept_after, step_made, step_of_wish}
-use Rattle.mips_plain.specs.Memory.{low_bytes, private_size, word_at_address}
-use Rattle.mips_plain.proofs.Sizes.{private_size_is}
+use Rattle.mips_plain.specs.Instruction.{handler_after, instruction_or_fault, is_code, kept_after, step_made}
+use Rattle.mips_plain.specs.Memory.{low_bytes, word_at_address}
 use Rattle.journal_round_trip.specs.KeepsRules.{Is32Bit, KeepsCause, KeepsReleased, KeepsStep, KeepsWrites}
 use Rattle.line_cache.specs.Ways.{free_way, way_at}
 use Rattle.tag_regs.specs.declared.cell.Cell.{Cell}
@@ -38,7 +35,6 @@ use Rattle.tag_regs.specs.TaggedCells.{cell_at}
 use Rattle.session_table.specs.declared.session.Session.{Session}
 use Rattle.session_table.specs.declared.session.SlotState.TheVariants as state
 use Rattle.session_table.specs.Sessions.{free, is_live, session_after_pause}
-use Rattle.xom_versions.specs.Store.{line_limit}
 use Rattle.xom_versions.specs.Versions.{VersionLaw, Versions}
 use Rattle.xom_model.specs.declared.reach.Reach.{Reach}
 use Rattle.xom_model.specs.declared.reach.Reach.TheVariants as reach
@@ -48,13 +44,14 @@ use Rattle.xom_model.specs.Access.{access}
 use Rattle.xom_model.specs.Guest.{address_in, after_effect, after_retirement, after_step, after_trap, cells_after_step, code_reached, core_after_step, data_of, data_reached, given_out, guest, null_word, received_by, retirement, seen_by, session_after_step, stored_at, stored_way, with_release, with_writes, word_in, word_loaded, word_tried}
 use Rattle.xom_model.specs.Holds.{IsLive, IsRunning}
 use Rattle.xom_model.specs.Null.{cause_argument}
+use Rattle.xom_model.proofs.GuestKept.{address-low, code-low}
 use Rattle.xom_model.proofs.RamSize.{length-given_out}
 use Rattle.xom_model.proofs.SameSight.{tried-Ranged}
-use Rattle.xom_model.proofs.Walk.{Parts, Reached, StoresIn, walk_access}
+use Rattle.xom_model.proofs.Walk.{Parts, Reached, StoresIn, step-stores, walk_access}
 use Rattle.journal_laws.specs.RulesOfRecord.{StoresKeepRules, IsShortCell, IsShortPair, IsSoundSession, IsSoundWay, RulesHold}
 use Rattle.journal_laws.proofs.PlainBytes.{bytes-low, bytes-number, bytes-written}
 use Rattle.journal_laws.proofs.RuledAccess.{Answers, access-holds, gone-holds}
-use Rattle.journal_laws.proofs.RuledParts.{cell-short, live-came, live-within, noted-holds, session-sound, set-each, with_cells-holds, with_ram-holds, with_session-holds, ways-hold}
+use Rattle.journal_laws.proofs.RuledParts.{cell-short, live-came, live-within, noted-holds, session-on, session-sound, set-each, with_cells-holds, with_ram-holds, with_session-holds, ways-hold}
 use Rattle.journal_laws.proofs.RuledSteps.{known-Fits, step_made-KeepsStep, tried-IsShortEffect, word_at-short}
 use Rattle.journal_laws.proofs.ShortEffects.{IsShortEffect, IsShortSeen, IsShortWish}
 
@@ -108,17 +105,7 @@ received_by-short core (wish.Receive reg from) rules =
     (λ _. cell-short core rules from) (λ _. lit< tt)
 received_by-short core (wish.NullLoad reg address) rules =
     null_word-short core.ram address rules.ram
-received_by-short core wish.Nothing rules = lit< tt
-received_by-short core (wish.Load reg address how old) rules = lit< tt
-received_by-short core (wish.Store address count value) rules = lit< tt
-received_by-short core (wish.NullStore address value) rules = lit< tt
-received_by-short core (wish.Hand address) rules = lit< tt
-received_by-short core wish.SigRet rules = lit< tt
-received_by-short core (wish.Release reg value) rules = lit< tt
-received_by-short core wish.Exit rules = lit< tt
-received_by-short core (wish.Call code) rules = lit< tt
-received_by-short core (wish.Do operation) rules = lit< tt
-received_by-short core (wish.Ask reg what) rules = lit< tt
+received_by-short core _ rules = lit< tt
 
 seen_by-short : (core : CoreState) (slot : ℕ) → RulesHold core → (reg : ℕ)
     → IsShortSeen (seen_by slot core.cells reg)
@@ -131,108 +118,18 @@ word_loaded-short : (bytes : List ℕ) (wished : Wish) → IsBytes bytes
     → Is32Bit (word_loaded bytes wished)
 word_loaded-short bytes (wish.Load reg address how old) each =
     word_at-short bytes ((address - address % 4) % 32) each
-word_loaded-short bytes wish.Nothing each = lit< tt
-word_loaded-short bytes (wish.Store address count value) each = lit< tt
-word_loaded-short bytes (wish.NullLoad reg address) each = lit< tt
-word_loaded-short bytes (wish.NullStore address value) each = lit< tt
-word_loaded-short bytes (wish.Hand address) each = lit< tt
-word_loaded-short bytes wish.SigRet each = lit< tt
-word_loaded-short bytes (wish.Release reg value) each = lit< tt
-word_loaded-short bytes (wish.Receive reg from) each = lit< tt
-word_loaded-short bytes wish.Exit each = lit< tt
-word_loaded-short bytes (wish.Call code) each = lit< tt
-word_loaded-short bytes (wish.Do operation) each = lit< tt
-word_loaded-short bytes (wish.Ask reg what) each = lit< tt
+word_loaded-short bytes _ each = lit< tt
 
 -- the handler and the kept pair after it
 handler_after-short : (handler : ℕ) (wished : Wish) → Is32Bit handler → IsShortWish wished
     → Is32Bit (handler_after handler wished)
 handler_after-short handler (wish.Hand address) short wished_short = wished_short
-handler_after-short handler wish.Nothing short wished_short = short
-handler_after-short handler (wish.Load reg address how old) short wished_short = short
-handler_after-short handler (wish.Store address count value) short wished_short = short
-handler_after-short handler (wish.NullLoad reg address) short wished_short = short
-handler_after-short handler (wish.NullStore address value) short wished_short = short
-handler_after-short handler wish.SigRet short wished_short = short
-handler_after-short handler (wish.Release reg value) short wished_short = short
-handler_after-short handler (wish.Receive reg from) short wished_short = short
-handler_after-short handler wish.Exit short wished_short = short
-handler_after-short handler (wish.Call code) short wished_short = short
-handler_after-short handler (wish.Do operation) short wished_short = short
-handler_after-short handler (wish.Ask reg what) short wished_short = short
+handler_after-short handler _ short wished_short = short
 
 kept_after-short : (kept : Option (ℕ × ℕ)) (wished : Wish) → IfSome kept IsShortPair
     → IfSome (kept_after kept wished) IsShortPair
 kept_after-short kept wish.SigRet short = tt
-kept_after-short kept (wish.Hand address) short = short
-kept_after-short kept wish.Nothing short = short
-kept_after-short kept (wish.Load reg address how old) short = short
-kept_after-short kept (wish.Store address count value) short = short
-kept_after-short kept (wish.NullLoad reg address) short = short
-kept_after-short kept (wish.NullStore address value) short = short
-kept_after-short kept (wish.Release reg value) short = short
-kept_after-short kept (wish.Receive reg from) short = short
-kept_after-short kept wish.Exit short = short
-kept_after-short kept (wish.Call code) short = short
-kept_after-short kept (wish.Do operation) short = short
-kept_after-short kept (wish.Ask reg what) short = short
-
--- what a step stores is in its line
-made-StoresIn : (core : CoreState) (slot place pc npc : ℕ) (written : Writes) (wished : Wish)
-    (word got : ℕ)
-    → ((address : ℕ) → address_in wished ≡ Some address → ((way_at core.ways place).slot ≡ slot)
-    ⊎ (length core.ways ≤ place))
-    → StoresIn core slot place (step_of_wish pc npc written wished word got).stored
-made-StoresIn core slot place pc npc written (wish.Store address count value) word got own =
-    own address refl
-made-StoresIn core slot place pc npc written (wish.Load reg at how old) word got own = tt
-made-StoresIn core slot place pc npc written wish.Nothing word got own = tt
-made-StoresIn core slot place pc npc written (wish.NullLoad reg at) word got own = tt
-made-StoresIn core slot place pc npc written (wish.NullStore at value) word got own = tt
-made-StoresIn core slot place pc npc written (wish.Hand at) word got own = tt
-made-StoresIn core slot place pc npc written wish.SigRet word got own = tt
-made-StoresIn core slot place pc npc written (wish.Release reg value) word got own = tt
-made-StoresIn core slot place pc npc written (wish.Receive reg from) word got own = tt
-made-StoresIn core slot place pc npc written wish.Exit word got own = tt
-made-StoresIn core slot place pc npc written (wish.Call code) word got own = tt
-made-StoresIn core slot place pc npc written (wish.Do operation) word got own = tt
-made-StoresIn core slot place pc npc written (wish.Ask reg what) word got own = tt
-
-step-StoresIn : (core : CoreState) (slot place pc npc : ℕ) (effect : Effect) (word got : ℕ)
-    → ((address : ℕ) → address_in effect.wish ≡ Some address
-    → ((way_at core.ways place).slot ≡ slot) ⊎ (length core.ways ≤ place))
-    → StoresIn core slot place (step_made pc npc effect word got).stored
-unfolding step_made
-step-StoresIn core slot place pc npc effect word got own =
-    made-StoresIn core slot place pc npc effect.writes effect.wish word got own
-
--- a private address is of a line that a guest has
-address-low : (wished : Wish) (address : ℕ) → IsInRange wished → address_in wished ≡ Some address
-    → address / 32 < line_limit
-address-low (wish.Load reg at how old) address range is =
-    let same : at ≡ address = cc in let word : at - at % 4 + 4 ≤ 2 ^ 20 = range.word in omega arith
-address-low (wish.Store at count value) address range is =
-    let same : at
-    ≡ address = cc in let some : 1 ≤ count = range.some in let private : at + count ≤ 2 ^ 20 =
-    range.private in omega arith
-address-low wish.Nothing address range is = absurd (cc)
-address-low (wish.NullLoad reg at) address range is = absurd (cc)
-address-low (wish.NullStore at value) address range is = absurd (cc)
-address-low (wish.Hand at) address range is = absurd (cc)
-address-low wish.SigRet address range is = absurd (cc)
-address-low (wish.Release reg value) address range is = absurd (cc)
-address-low (wish.Receive reg from) address range is = absurd (cc)
-address-low wish.Exit address range is = absurd (cc)
-address-low (wish.Call code) address range is = absurd (cc)
-address-low (wish.Do operation) address range is = absurd (cc)
-address-low (wish.Ask reg what) address range is = absurd (cc)
-
-code-low : (pc : ℕ) → is_code pc ≡ true → pc / 32 < line_limit
-code-low pc is = elim (eqb_tells (pc % 4) 0) [
-  | inl whole ↦ let low : nat_lt pc private_size ≡ true = rw whole.0 at is in let size =
-      private_size_is in let below : pc < private_size = grind (arith, nat_tests) in omega arith
-  | inr part ↦ absurd (let no = rw part.0 at is in cc)
-]
+kept_after-short kept _ short = short
 
 -- ---- A step
 
@@ -278,19 +175,9 @@ module _ (core : CoreState) (slot : ℕ) (live : IsLive core slot) (rules : Rule
 
   trapped-holds : (why : Cause) → KeepsCause why → RulesHold (after_trap core slot why).0
   trapped-holds why keeps =
-      let sound = session-sound core rules slot in
       noted-holds (core_with_session core slot (session_after_pause (session_of core slot)))
-      (with_session-holds core rules slot (session_after_pause (session_of core slot)) (record {
-        entry = sound.entry;
-        pc = sound.pc;
-        npc = sound.npc;
-        handler = sound.handler;
-        saved = sound.saved;
-        id = sound.id;
-        id_length = sound.id_length;
-        key = sound.key;
-        install = λ _. live-came core rules slot live;
-      }) (λ _. refl))
+      (with_session-holds core rules slot (session_after_pause (session_of core slot))
+      (session-on core rules slot live state.Paused ((session_of core slot).epoch + 1)) (λ _. refl))
       (entry.Trap (session_of core slot).install why) (live-came core rules slot live, keeps) refl
 
 -- ---- The whole event
@@ -313,10 +200,7 @@ rule-short (rule.RegisterMissing reg) = lit< tt
 
 fault-short : (why : OwnFault) → Is32Bit (cause_argument (cause.Fault why))
 fault-short own_fault.Reserved = lit< tt
-fault-short own_fault.Foreign = lit< tt
-fault-short own_fault.Overflow = lit< tt
-fault-short own_fault.Address = lit< tt
-fault-short own_fault.Break = lit< tt
+fault-short _ = lit< tt
 
 after_step-well : (core : CoreState) (slot : ℕ) (interrupt : Bool) (step : Step) → KeepsStep step
     → IsLive core slot → RulesHold core → (end : StepEnd) → step.end ≡ end
@@ -367,7 +251,7 @@ module _ (core : CoreState) (slot : ℕ) (interrupt : Bool) (live : IsLive core 
       ∙ live in
       after_step-well after slot interrupt made_step keeps now
       (stepped-holds core slot live rules place its made_step keeps moved-sound live
-      (step-StoresIn core slot place (session_of core slot).pc (session_of core slot).npc effect
+      (step-stores core slot place (session_of core slot).pc (session_of core slot).npc effect
       word (received_by core.cells core.ram effect.wish) own))
       made_step.end refl
 
@@ -468,7 +352,7 @@ module _ (v : Versions) (Stands : StandsFor) (law : VersionLaw v Stands)
       cond_both (is_code pc) (code_reached v slot interrupt (access v core slot (pc / 32)))
       (after_trap core slot (cause.Fault own_fault.Address)) GoesWell
       (λ is. code-well core (access v core slot (pc / 32)) runs (reached core (pc / 32) runs)
-      (access-holds v Stands law hashes core slot (pc / 32) (code-low pc is) (rw runs refl)
+      (access-holds v Stands law hashes core slot (pc / 32) (code-low pc is).1 (rw runs refl)
       rules))
       (λ _. trapped-well core slot (cause.Fault own_fault.Address) tt (lit< tt) (rw runs refl)
       rules)

@@ -60,12 +60,7 @@ GoesOpen answer = IsOpenPart answer.0 × IsShortAsk answer.1
 
 cause_number-short : (why : Cause) → Is32Bit (cause_number why)
 cause_number-short cause.Nothing = lit< tt
-cause_number-short cause.Interrupt = lit< tt
-cause_number-short (cause.Call code) = lit< tt
-cause_number-short (cause.Page page) = lit< tt
-cause_number-short (cause.Fault kind) = lit< tt
-cause_number-short cause.Exit = lit< tt
-cause_number-short (cause.Stopped rule) = lit< tt
+cause_number-short _ = lit< tt
 
 answer_of-short : (told : Told) (what : Asked) → IsShortTold told → Is32Bit (null_answer told what)
 answer_of-short told asked.Status short = short.status
@@ -158,12 +153,7 @@ module _ (told : Told) (s : Open) (short_told : IsShortTold told) (sound : IsOpe
     tt,
   )
   granted-open effect (wish.Release reg value) is short = stopped-open null.Reserved
-  granted-open effect (wish.Receive reg from) is short = stopped-open null.Reserved
-  granted-open effect (wish.NullLoad reg address) is short = stopped-open null.Reserved
-  granted-open effect (wish.NullStore address value) is short = stopped-open null.Reserved
-  granted-open effect (wish.Hand address) is short = stopped-open null.Reserved
-  granted-open effect wish.SigRet is short = stopped-open null.Reserved
-  granted-open effect wish.Exit is short = stopped-open null.Reserved
+  granted-open effect _ is short = stopped-open null.Reserved
 
   tried-short : (found : Result Ins OwnFault) (effect : Effect)
       → ((ins : Ins) → found ≡ Ok ins → Fits ins)

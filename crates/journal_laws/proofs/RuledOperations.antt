@@ -43,7 +43,7 @@ use Rattle.journal_laws.specs.RulesOfRecord.{StoresKeepRules, IsShortCell, IsSho
 use Rattle.journal_laws.proofs.PlainBytes.{bytes-number, bytes-take, bytes-drop, bytes-written, envelope_message-payload, from_be_bytes-short, key_masked-payload, register_aes-bytes, register_masked-bytes, register_masked-short, register_message-payload, register_tag-bytes, register_tag-payload, register_tag-size}
 use Rattle.journal_laws.proofs.RuledAccess.{flushed-holds, part-bytes, stopped-holds, take-short}
 use Rattle.journal_laws.proofs.RuledGuest.{stepped-holds}
-use Rattle.journal_laws.proofs.RuledParts.{hashed-holds, install-holds, live-came, live-within, noted-holds, out-holds, free-IsSoundSession, session-sound, set-each, with_cells-holds, with_pages-holds, with_ram-holds, with_session-holds, with_store-holds}
+use Rattle.journal_laws.proofs.RuledParts.{hashed-holds, install-holds, live-came, live-within, noted-holds, out-holds, free-IsSoundSession, session-on, session-sound, set-each, with_cells-holds, with_pages-holds, with_ram-holds, with_session-holds, with_store-holds}
 
 -- the rules hold afterwards, and the status has 32 bits
 abbrev pub DoesWell : CoreState × ℕ → Type 0
@@ -140,10 +140,7 @@ module _ (core : CoreState) (rules : RulesHold core) where
       → DoesWell (enter core slot at)
   enter-well slot state.Free is = refused-well 1 (lit< tt)
   enter-well slot state.Fresh is = entered-well slot (rw is refl)
-  enter-well slot state.Running is = refused-well 2 (lit< tt)
-  enter-well slot state.Paused is = refused-well 2 (lit< tt)
-  enter-well slot state.Ended is = refused-well 2 (lit< tt)
-  enter-well slot (state.Stopped why) is = refused-well 2 (lit< tt)
+  enter-well slot _ is = refused-well 2 (lit< tt)
 
   set_register-well : (reg value : ℕ) → Is32Bit value → DoesWell (set_register core reg value)
   set_register-well reg value short =
@@ -182,18 +179,8 @@ module _ (core : CoreState) (rules : RulesHold core) (slot signal : ℕ)
 
   now-holds : RulesHold (core_with_session core slot (session_after_resume (session_of core slot)))
   now-holds =
-      let sound = session-sound core rules slot in
-      with_session-holds core rules slot (session_after_resume (session_of core slot)) (record {
-        entry = sound.entry;
-        pc = sound.pc;
-        npc = sound.npc;
-        handler = sound.handler;
-        saved = sound.saved;
-        id = sound.id;
-        id_length = sound.id_length;
-        key = sound.key;
-        install = λ _. live-came core rules slot live-here;
-      }) (λ _. refl)
+      with_session-holds core rules slot (session_after_resume (session_of core slot))
+      (session-on core rules slot live-here state.Running (session_of core slot).epoch) (λ _. refl)
 
   go_on-well : (lost : Option ℕ) → missing_cell slot (session_of core slot).mask core.cells ≡ lost
       → DoesWell (resume_or_stop core slot signal lost)

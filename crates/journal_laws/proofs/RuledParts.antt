@@ -197,6 +197,23 @@ module _ (core : CoreState) (holds : RulesHold core) where
       → CameBefore core.installs (session_of core slot).install
   live-came slot live = (session-sound slot).install (live-taken (session_of core slot).state live)
 
+  -- it is sound whatever its state and its epoch
+  pub session-on : (slot : ℕ) → IsLive core slot → (now : SlotState) (epoch : ℕ)
+      → IsSoundSession core.installs (record (session_of core slot) { state = now; epoch = epoch })
+  session-on slot live now epoch =
+      let sound = session-sound slot in
+      record {
+        entry = sound.entry;
+        pc = sound.pc;
+        npc = sound.npc;
+        handler = sound.handler;
+        saved = sound.saved;
+        id = sound.id;
+        id_length = sound.id_length;
+        key = sound.key;
+        install = λ _. live-came slot live;
+      }
+
   pub cell-short : (reg : ℕ) → Is32Bit (cell_at core.cells reg).value
   cell-short reg = All-at IsShortCell core.cells reg empty_cell (lit< tt) holds.cells
 

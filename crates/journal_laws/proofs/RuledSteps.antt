@@ -166,28 +166,7 @@ returned-short_at None before effect wish.SigRet pair short is = absurd (cc)
 returned-short_at (Some kept) before effect wish.SigRet pair short is =
     ok_short (record before { pc = kept.0; npc = kept.1 }) effect
     (record { writes = short.writes; wish = short.wish; pc = pair.0; npc = pair.1 }) is
-returned-short_at kept before effect wish.Nothing pair short is = ok_short before effect short is
-returned-short_at kept before effect (wish.Load reg address how old) pair short is =
-    ok_short before effect short is
-returned-short_at kept before effect (wish.Store address count value) pair short is =
-    ok_short before effect short is
-returned-short_at kept before effect (wish.NullLoad reg address) pair short is =
-    ok_short before effect short is
-returned-short_at kept before effect (wish.NullStore address value) pair short is =
-    ok_short before effect short is
-returned-short_at kept before effect (wish.Hand address) pair short is =
-    ok_short before effect short is
-returned-short_at kept before effect (wish.Release reg value) pair short is =
-    ok_short before effect short is
-returned-short_at kept before effect (wish.Receive reg from) pair short is =
-    ok_short before effect short is
-returned-short_at kept before effect wish.Exit pair short is = ok_short before effect short is
-returned-short_at kept before effect (wish.Call code) pair short is =
-    ok_short before effect short is
-returned-short_at kept before effect (wish.Do operation) pair short is =
-    ok_short before effect short is
-returned-short_at kept before effect (wish.Ask reg what) pair short is =
-    ok_short before effect short is
+returned-short_at kept before effect _ pair short is = ok_short before effect short is
 
 returned-short : (kept : Option (ℕ × ℕ)) (found : Result Effect OwnFault) (effect : Effect)
     → IfSome kept IsShortPair → ((before : Effect) → found ≡ Ok before → IsShortEffect before)
