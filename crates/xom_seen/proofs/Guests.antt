@@ -29,7 +29,7 @@ use Rattle.xom_model.specs.State.{CoreState, line_of_address, session_of}
 use Rattle.xom_model.specs.Access.{access, without_guest}
 use Rattle.xom_model.specs.Guest.{address_in, after_effect, after_exit, after_retirement, after_step, after_trap, code_reached, data_of, data_reached, guest, mask_after, received_by, retirement, session_after_step, word_in, word_loaded, word_tried}
 use Rattle.xom_model.specs.Holds.{IsLive}
-use Rattle.xom_model.specs.Seen.{shown_cell, shown_slot}
+use Rattle.xom_model.specs.Seen.{shown_slot}
 use Rattle.xom_seen.specs.Emission.{Signal, SlotLine, code_line, core_after_fetch, data_address, data_line, is_ready, line_pushed_out, signals_of_entries, signals_of_guest}
 use Rattle.xom_seen.specs.SealOwners.{AreToldOf, GiveAll}
 use Rattle.xom_seen.specs.SeenNext.{Sight, after_signals, left_seen, sight_slot, with_slot}
@@ -145,15 +145,7 @@ module _ (v : Versions) (raised : Raised) (law : RaisesInTheOpen v raised) (befo
   paused-is core why live =
       let new = (after_trap core slot why).0 in
       let sight : List SlotView → List (Option ℕ) → Sight =
-      λ ss areas. record {
-        cells = map shown_cell core.cells;
-        slots = ss;
-        pages =
-            core.pages;
-        areas = areas;
-        ram = core.ram;
-        installs = core.installs;
-      } in
+      λ ss areas. record (sight_of core) { slots = ss; areas = areas } in
       let slots = slice_set (map shown_slot core.sessions) slot
       (record (sight_slot (sight_of core) slot) {
         epoch = (sight_slot (sight_of core) slot).epoch + 1;

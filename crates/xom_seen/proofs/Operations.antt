@@ -182,15 +182,7 @@ unfolding sight_of
 set-is core slot session new within same is =
     let after = core_with_session core slot session in
     let sight : List SlotView → List (Option ℕ) → Sight =
-    λ ss areas. record {
-      cells = map shown_cell core.cells;
-      slots = ss;
-      pages =
-          core.pages;
-      areas = areas;
-      ram = core.ram;
-      installs = core.installs;
-    } in
+    λ ss areas. record (sight_of core) { slots = ss; areas = areas } in
     ap (λ ss. sight ss (areas_of after)) (map-set shown_slot core.sessions slot session
     ∙ ap (λ s. slice_set (map shown_slot core.sessions) slot s) is)
     ∙ ap (λ areas. sight (slice_set (map shown_slot core.sessions) slot new) areas)
@@ -224,10 +216,7 @@ module _ (v : Versions) (raised : Raised) (law : RaisesInTheOpen v raised) (befo
   does_enter slot state.Fresh is = λ _.
       does_quiet v raised law before ready (Enter slot) core _ [] (sym (append-nil core.entries))
       refl refl (running-is slot (session_after_enter (session_of core slot)) (ap is_live is) refl refl)
-  does_enter slot state.Running is = refuse (Enter slot) 2 refl
-  does_enter slot state.Paused is = refuse (Enter slot) 2 refl
-  does_enter slot state.Ended is = refuse (Enter slot) 2 refl
-  does_enter slot (state.Stopped why) is = refuse (Enter slot) 2 refl
+  does_enter slot _ is = refuse (Enter slot) 2 refl
 
   -- ---- Resume
 
@@ -384,16 +373,8 @@ module _ (v : Versions) (raised : Raised) (law : RaisesInTheOpen v raised) (befo
       does_stop v raised law before ready (Restore slot reg address) core
       _ (shows_stop v raised law before ready slot 0 (line_named before.sessions slot) core slot (rule.RegisterTag reg) (λ _. live))
   does_reopened slot reg address some live (Some value) = λ _.
-      let cells : List Cell → Sight = λ cs. record {
-        cells = cs;
-        slots =
-            map shown_slot core.sessions;
-        pages = core.pages;
-        areas = areas_of core;
-        ram =
-            core.ram;
-        installs = core.installs;
-      } in
+      let cells : List Cell → Sight =
+      λ cs. record (sight_of core) { cells = cs } in
       does_quiet v raised law before ready (Restore slot reg address) core
       _ (reg_accept_entry (who_of core slot) (epoch_of core slot) reg
       (saved_at core.ram address).ct address ∷ []) refl
@@ -450,11 +431,8 @@ module _ (v : Versions) (raised : Raised) (law : RaisesInTheOpen v raised) (befo
     unfolding after_install contents_of sight_of
     installed-is =
         let sight : List SlotView → List (Option ℕ) → Sight =
-        λ ss areas. record {
-          cells = map shown_cell core.cells;
+        λ ss areas. record (sight_of core) {
           slots = ss;
-          pages =
-              core.pages;
           areas = areas;
           ram = v.ram_after_build area (lines_in text) core.ram;
           installs = core.installs + 1;
@@ -550,16 +528,8 @@ module _ (v : Versions) (raised : Raised) (law : RaisesInTheOpen v raised) (befo
   does_set : (reg value : ℕ) → Done (SetReg reg value) (set_register core reg value)
   unfolding sight_of
   does_set reg value =
-      let cells : List Cell → Sight = λ cs. record {
-        cells = cs;
-        slots =
-            map shown_slot core.sessions;
-        pages = core.pages;
-        areas = areas_of core;
-        ram =
-            core.ram;
-        installs = core.installs;
-      } in
+      let cells : List Cell → Sight =
+      λ cs. record (sight_of core) { cells = cs } in
       cond_both (is_cell reg) (success (with_cells core (with_cell core.cells reg value 0)))
       (refusal_of core 7) (λ after. Done (SetReg reg value) after)
       (λ _ _. does_quiet v raised law before ready (SetReg reg value) core _ []

@@ -103,13 +103,7 @@ granted_same told s effect (wish.Do operation) =
     ap (λ o. let a : Answer = (o, Ok (Some operation)) in a) (passed_same s effect effect.writes)
 granted_same told s effect (wish.Ask reg what) =
     ap done_answer (passed_same s effect (write_of_register reg (null_answer told what)))
-granted_same told s effect (wish.Release reg value) = refl
-granted_same told s effect (wish.Receive reg from) = refl
-granted_same told s effect (wish.NullLoad reg address) = refl
-granted_same told s effect (wish.NullStore address value) = refl
-granted_same told s effect (wish.Hand address) = refl
-granted_same told s effect wish.SigRet = refl
-granted_same told s effect wish.Exit = refl
+granted_same told s effect _ = refl
 
 ran_same : (told : Told) (s : Open) (found : Result Effect OwnFault)
     → ran_open told (shown_open s) found ≡ shown_answer (ran_open told s found)

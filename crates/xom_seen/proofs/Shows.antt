@@ -267,14 +267,11 @@ module _ (v : Versions) (raised : Raised) (law : RaisesInTheOpen v raised) (befo
   removed-is core k session within low dead =
       let new = core_with_session (without_guest core k) k session in
       let sight : List Cell → List SlotView → List (Option ℕ) → Sight =
-      λ cs ss areas. record {
+      λ cs ss areas. record (sight_of core) {
         cells = cs;
         slots = ss;
         pages = without_pages core.pages k;
-        areas =
-            areas;
-        ram = core.ram;
-        installs = core.installs;
+        areas = areas;
       } in
       ap (λ cs. sight cs (map shown_slot (slice_set core.sessions k session)) (areas_of new))
       (shown_scrubbed k core.cells)
@@ -441,16 +438,7 @@ module _ (v : Versions) (raised : Raised) (law : RaisesInTheOpen v raised) (befo
     unfolding after_raise after_seal sight_of
     sealed-sight live low =
         let sight : List (Option ℕ) → List ℕ → Sight =
-        λ areas ram. record {
-          cells = map shown_cell core.cells;
-          slots =
-              map shown_slot core.sessions;
-          pages = core.pages;
-          areas = areas;
-          ram = ram;
-          installs =
-              core.installs;
-        } in
+        λ areas ram. record (sight_of core) { areas = areas; ram = ram } in
         let frame = frame_of core.pages k (page_of line) in
         ap (λ areas. sight areas after.ram) (raising-areas core k line)
         ∙ ap (λ ram. sight (areas_of core) (with_sealed ram frame line sealed))
@@ -779,14 +767,11 @@ module _ (v : Versions) (raised : Raised) (law : RaisesInTheOpen v raised) (befo
     stepped-is =
         let new = core_after_step core slot place session step in
         let sight : List Cell → List SlotView → List (Option ℕ) → Sight =
-        λ cs ss areas. record {
+        λ cs ss areas. record (sight_of core) {
           cells = cs;
           slots = ss;
-          pages = core.pages;
           areas = areas;
-          ram =
-              given_out core.ram step.released;
-          installs = core.installs;
+          ram = given_out core.ram step.released;
         } in
         let cells = with_release (cells_named_for_slot slot (map shown_cell core.cells) (names_of step.writes))
         step.released in
